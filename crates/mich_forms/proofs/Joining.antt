@@ -31,7 +31,7 @@ zero_ended bytes len end =
 -- a list put behind another at the front of an array that is 0 from there on
 pub put_behind : (room : ℕ) (first second : List ℕ) → length first + length second ≤ room
     → put_mid (length first) (length second) (first ++ replicate (room - length first) 0) second
-        ≡ (first ++ second) ++ replicate (room - (length first + length second)) 0
+    ≡ (first ++ second) ++ replicate (room - (length first + length second)) 0
 put_behind room first second fits =
     let n : ℕ = length first in
     let m : ℕ = length second in
@@ -44,14 +44,16 @@ put_behind room first second fits =
 
 -- a list and zeros after it
 pub padded_is : (room : ℕ) (bytes : List ℕ) (len : ℕ) → length bytes ≡ len → len ≤ room → IsPadded room (bytes ++ replicate (room - len) 0) len
-padded_is room bytes len at fits =
-    (fits,
-    omega (arith, length-append bytes (replicate (room - len) 0), length-replicate {A = ℕ} (room - len) 0),
-    drop_at bytes (replicate (room - len) 0) len at)
+padded_is room bytes len at fits = (
+  fits,
+  omega (arith, length-append bytes (replicate (room - len) 0), length-replicate {A = ℕ} (room - len) 0),
+  drop_at bytes (replicate (room - len) 0) len at,
+)
 
 -- an address taken apart
 pub split_address : (bytes place written p w : List ℕ) → place ≡ take 22 bytes → written ≡ drop 22 bytes
     → IsPlace place → IsWrittenEntrypoint written → p ≡ place → w ≡ written → IsAddress bytes × (p ++ w ≡ bytes)
-split_address bytes place written p w front back is_place is_written same_place same_written =
-    ((rw (← front) is_place, rw (← back) is_written),
-    rw (same_place, same_written, front, back) (take-append-drop 22 bytes))
+split_address bytes place written p w front back is_place is_written same_place same_written = (
+  (rw (← front) is_place, rw (← back) is_written),
+  rw (same_place, same_written, front, back) (take-append-drop 22 bytes),
+)

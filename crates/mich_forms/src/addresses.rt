@@ -1,8 +1,9 @@
 // Addresses: a place and an entrypoint.
 ghost use Rattle.std.specs.Prelude.{◌≡◌, option_map};
-ghost use Rattle.std.specs.Option.{SomeIff};
-ghost use Rattle.rules_forms.specs.Spelling.{IsAddress, IsWrittenEntrypoint, written_entrypoint};
-ghost use Rattle.mich_forms.specs.Spelled.{address_bytes};
+ghost use Rattle.std.specs.Option.{IfSome, SomeIff};
+ghost use Rattle.rules_forms.specs.Spelling.{IsAddress, IsEntrypoint, IsPlace, IsWrittenEntrypoint, entrypoint_of, place_of, written_entrypoint};
+ghost use Rattle.mich_forms.specs.Spelled.{address_bytes, place_bytes};
+ghost use Rattle.mich_forms.specs.declared.addresses.Address.{Address};
 
 use crate::entrypoints::Entrypoint;
 use crate::places::Place;
@@ -17,7 +18,8 @@ pub struct Address {
 
 // The entrypoint that an address names by these bytes after its place.
 fn named_entrypoint(written: &[u8]) -> Option<Entrypoint>
-    ensures { SomeIff (option_map written_entrypoint result) (IsWrittenEntrypoint written.now) written.now }
+    ensures written { SomeIff (option_map written_entrypoint result) (IsWrittenEntrypoint written.now) written.now }
+    ensures name { IfSome result (λ e. IsEntrypoint e) }
 {
     if written.is_empty() {
         return Some(Entrypoint::default_entrypoint());
@@ -29,15 +31,27 @@ fn named_entrypoint(written: &[u8]) -> Option<Entrypoint>
     Some(entrypoint)
 }
 
+// The address that the bytes spell.
+fn read_address(bytes: &[u8]) -> Option<Address>
+    ensures spelled { SomeIff (option_map address_bytes result) (IsAddress bytes.now) bytes.now }
+    ensures parts { IfSome result (λ a. IsPlace (place_bytes a.place) × IsEntrypoint a.entrypoint) }
+{
+    let (place, written) = bytes.split_at_checked(22)?;
+    let place = Place::read(place)?;
+    let entrypoint = named_entrypoint(written)?;
+    Some(Address { place, entrypoint })
+}
+
 impl Address {
     /// The address that the bytes spell, None where they spell none (Michelson reference, address).
     pub fn read(bytes: &[u8]) -> Option<Address>
-        ensures { SomeIff (option_map address_bytes result) (IsAddress bytes.now) bytes.now }
+        ensures spelled { SomeIff (option_map address_bytes result) (IsAddress bytes.now) bytes.now }
+        ensures parts { IfSome result (λ a. (place_bytes a.place ≡ place_of bytes.now) × (a.entrypoint ≡ entrypoint_of bytes.now)) }
+        ensures valid { IfSome result (λ a. IsPlace (place_bytes a.place) × IsEntrypoint a.entrypoint) }
+        ensures only { (a : Address) → IsPlace (place_bytes a.place) → IsEntrypoint a.entrypoint
+            → address_bytes a ≡ bytes.now → result ≡ Some a }
     {
-        let (place, written) = bytes.split_at_checked(22)?;
-        let place = Place::read(place)?;
-        let entrypoint = named_entrypoint(written)?;
-        Some(Address { place, entrypoint })
+        read_address(bytes)
     }
 
     /// The spelling, of 22 to 53 bytes: `default` is not written.

@@ -12,6 +12,8 @@ mod padded;
 mod places;
 mod short_bytes;
 mod signatures;
+#[cfg(test)]
+mod tests;
 
 pub use addresses::Address;
 pub use entrypoints::Entrypoint;

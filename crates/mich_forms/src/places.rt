@@ -3,6 +3,7 @@ ghost use Rattle.std.specs.Prelude.{◌≡◌, [], ◌∷◌, ◌++◌, length, 
 ghost use Rattle.std.specs.Option.{SomeIff};
 ghost use Rattle.rules_forms.specs.Spelling.{IsPlace};
 ghost use Rattle.mich_forms.specs.Spelled.{place_bytes};
+ghost use Rattle.mich_forms.specs.declared.places.Place.{Place};
 
 use crate::keys::KeyHash;
 use crate::short_bytes::ShortBytes;
@@ -27,23 +28,31 @@ fn contract_hash(bytes: &[u8]) -> Option<[u8; 20]>
     Some(hash)
 }
 
+// The place that the bytes spell.
+fn read_place(bytes: &[u8]) -> Option<Place>
+    ensures { SomeIff (option_map place_bytes result) (IsPlace bytes.now) bytes.now }
+{
+    let (kind, rest) = bytes.split_first()?;
+    match *kind {
+        0 => {
+            let key_hash = KeyHash::read(rest)?;
+            Some(Place::Implicit(key_hash))
+        }
+        1 => {
+            let hash = contract_hash(rest)?;
+            Some(Place::Contract(hash))
+        }
+        _ => None,
+    }
+}
+
 impl Place {
     /// The place that the bytes spell, None where they spell none (Data encoding, contract id).
     pub fn read(bytes: &[u8]) -> Option<Place>
-        ensures { SomeIff (option_map place_bytes result) (IsPlace bytes.now) bytes.now }
+        ensures spelled { SomeIff (option_map place_bytes result) (IsPlace bytes.now) bytes.now }
+        ensures only { (p : Place) → IsPlace (place_bytes p) → place_bytes p ≡ bytes.now → result ≡ Some p }
     {
-        let (kind, rest) = bytes.split_first()?;
-        match *kind {
-            0 => {
-                let key_hash = KeyHash::read(rest)?;
-                Some(Place::Implicit(key_hash))
-            }
-            1 => {
-                let hash = contract_hash(rest)?;
-                Some(Place::Contract(hash))
-            }
-            _ => None,
-        }
+        read_place(bytes)
     }
 
     /// The spelling, of 22 bytes.
@@ -53,7 +62,10 @@ impl Place {
     {
         match self {
             Place::Implicit(key_hash) => ShortBytes::joined(&[0, key_hash.tag], &key_hash.hash),
-            Place::Contract(hash) => ShortBytes::joined(ShortBytes::joined(&[1], hash).as_slice(), &[0]),
+            Place::Contract(hash) => ShortBytes::joined(
+                ShortBytes::joined(&[1], hash).as_slice(),
+                &[0],
+            ),
         }
     }
 }

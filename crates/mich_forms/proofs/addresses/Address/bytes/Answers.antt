@@ -7,4 +7,4 @@ pub returns-clause-valid : goal.returns-clause-valid
 returns-clause-valid c =
     let is_no_default : c.args.self.now.entrypoint ≢ default_name = search rules in
     rw (c.joined.ensures, c.as_slice.ensures.bytes, c.as_slice-2.ensures.name)
-        (joined_parts c.bytes-place.result c.args.self.now.entrypoint c.bytes-place.ensures.valid (inr (c.as_slice-2.ensures.valid, is_no_default)))
+    (joined_parts c.bytes-place.result c.args.self.now.entrypoint c.bytes-place.ensures.valid (inr (c.as_slice-2.ensures.valid, is_no_default)))

@@ -11,7 +11,7 @@ invariant_of-result c =
     let m : ℕ = length c.args.second.now in
     let width : n + m - n ≡ m = omega arith in
     rw (width, c.copy_from_slice.ensures.after, c.padded-bytes.ensures, put_behind 64 c.args.first.now c.args.second.now c.requires)
-        (padded_is 64 (c.args.first.now ++ c.args.second.now) (n + m) (length-append c.args.first.now c.args.second.now) c.requires)
+    (padded_is 64 (c.args.first.now ++ c.args.second.now) (n + m) (length-append c.args.first.now c.args.second.now) c.requires)
 
 pub returns : goal.returns
 returns c =
@@ -19,4 +19,4 @@ returns c =
     let m : ℕ = length c.args.second.now in
     let width : n + m - n ≡ m = omega arith in
     rw (width, c.copy_from_slice.ensures.after, c.padded-bytes.ensures, put_behind 64 c.args.first.now c.args.second.now c.requires)
-        (take_at (c.args.first.now ++ c.args.second.now) (replicate (64 - (n + m)) 0) (n + m) (length-append c.args.first.now c.args.second.now))
+    (take_at (c.args.first.now ++ c.args.second.now) (replicate (64 - (n + m)) 0) (n + m) (length-append c.args.first.now c.args.second.now))

@@ -1,0 +1,8 @@
+use Rattle.std.proofs.Common.{refl}
+use Rattle.rules_hash.specs.Blake2b.{compress}
+use Rattle.mich_blake.proofs.compression.compress.Goals as goal
+
+pub returns : goal.returns
+unfolding compress
+returns c =
+    rw (c.folded.ensures, c.rounds.ensures, c.start_vector-v.ensures, c.block_words-m.ensures) refl
