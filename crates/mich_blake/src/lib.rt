@@ -2,5 +2,10 @@
 #![tactic(auto)]
 
 mod compression;
+mod digests;
+mod hashers;
+#[cfg(test)]
+mod tests;
 
-
+pub use digests::Digest;
+pub use hashers::{Blake2b, blake_of};

@@ -1,8 +1,7 @@
 -- Lists put together and taken apart.
-use Rattle.std.proofs.Common.{◌≡◌, ◌≤◌, ◌+◌, ◌-◌, ℕ, List, [], ◌∷◌, ◌++◌, length, take, drop, replicate, slice_index, arith, sym, ap, ◌∙◌, refl, inl, inr, length-append, add-zero, drop-cons}
-use Rattle.std.proofs.lemmas.List.{take-append-drop, take-append-le, drop-append-le, drop-drop, length-replicate, drop-replicate, append_assoc, take_all, drop_all, append-nil, take_at, drop_at, length-take-le}
-use Rattle.std.proofs.lemmas.Slice.{take-put_mid, drop-put_mid}
-use Rattle.rules_forms.specs.Spelling.{IsKeyHash, IsPlace, IsWrittenEntrypoint, IsAddress}
+use Rattle.std.proofs.Common.{◌≡◌, ◌≤◌, ◌+◌, ◌-◌, ℕ, List, [], ◌∷◌, ◌++◌, length, take, drop, replicate, slice_index, arith, refl, inl, inr, length-append, drop-cons}
+use Rattle.std.proofs.lemmas.List.{take-append-drop, length-replicate, drop-replicate, append_assoc, drop_all, take_at, drop_at}
+use Rattle.rules_forms.specs.Spelling.{IsPlace, IsWrittenEntrypoint, IsAddress}
 use Rattle.mich_forms.specs.Padded.{IsPadded}
 use borrow.Rule.Slice.PartMut.{put_mid}
 

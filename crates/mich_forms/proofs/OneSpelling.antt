@@ -1,5 +1,5 @@
 -- Each place and each address has one spelling.
-use Rattle.std.proofs.Common.{◌≡◌, ◌≢◌, ℕ, Bool, true, false, Option, None, Some, List, [], ◌∷◌, ◌++◌, length, take, drop, sym, ap, subst, ◌∙◌, ◌≤◌, inl, inr, arith, refl, option_map, if◌then◌else◌}
+use Rattle.std.proofs.Common.{◌≡◌, ◌≢◌, ℕ, Bool, true, false, Option, None, Some, List, [], ◌∷◌, ◌++◌, length, take, sym, ap, subst, ◌∙◌, ◌≤◌, inl, inr, arith, refl, option_map, if◌then◌else◌}
 use Rattle.std.specs.Option.{IfSome, SomeIff}
 use Rattle.std.specs.Bool.{MatchBool}
 use Rattle.std.specs.Cmp.Lexicographic.{told_text}

@@ -95,7 +95,7 @@ compress h block count last = folded h (rounds (start_vector h count last) (bloc
 unfoldable pub hash_after : List ℕ → ℕ → List ℕ → ℕ → List ℕ
 hash_after h start b zero = h
 hash_after h start b (suc n) =
-    compress (hash_after h start b n) (take 128 (drop (n * 128) b)) (start + (n + 1) * 128) false
+    compress (hash_after h start b n) (take 128 (drop (n * 128) b)) (start + suc n * 128) false
 
 -- How many blocks of a message stand before its last one, which is full where the length allows, and
 -- empty only for the empty message (3.3).

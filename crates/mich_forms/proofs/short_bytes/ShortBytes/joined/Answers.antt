@@ -1,8 +1,7 @@
-use Rattle.std.proofs.Common.{◌≡◌, ◌+◌, ◌-◌, ◌++◌, ℕ, List, length, replicate, arith, refl, ap, ◌∙◌, length-append, sym}
+use Rattle.std.proofs.Common.{◌≡◌, ◌+◌, ◌-◌, ◌++◌, ℕ, length, replicate, arith, length-append}
 use Rattle.std.proofs.lemmas.List.{take_at}
 use Rattle.mich_forms.proofs.Joining.{put_behind, padded_is}
 use Rattle.mich_forms.proofs.short_bytes.ShortBytes.joined.Goals as goal
-use borrow.Rule.Slice.PartMut.{put_mid}
 
 -- the array after the write
 pub invariant_of-result : goal.invariant_of-result
