@@ -1,8 +1,74 @@
 // Digests that other programs gave.
-use crate::{Blake2b, blake_of};
+use crate::vectors::DIGESTS;
+use crate::{Blake2b, Digest, blake_of};
+
+// The hexadecimal digit of a number below 16.
+fn hex_digit(n: u8) -> u8 {
+    if n < 10 {
+        b'0' + n
+    } else {
+        b'a' + (n % 16 - 10) % 6
+    }
+}
+
+// Whether a digest is what the text says in hexadecimal.
+fn is_spelled(digest: &Digest, hex: &str) -> bool {
+    let text = hex.as_bytes();
+    let bytes = digest.as_slice();
+    if text.len() % 2 != 0 || text.len() / 2 != bytes.len() {
+        return false;
+    }
+    for (i, byte) in bytes.iter().enumerate() {
+        if text.get(2 * i) != Some(&hex_digit(*byte / 16))
+            || text.get(2 * i + 1) != Some(&hex_digit(*byte % 16))
+        {
+            return false;
+        }
+    }
+    true
+}
+
+// The message of a row in its first `len` bytes.
+fn message(len: usize) -> [u8; 1000] {
+    let mut bytes = [0; 1000];
+    for (i, byte) in bytes.iter_mut().enumerate() {
+        *byte = ((i * 7 + len % 251) % 251) as u8;
+    }
+    bytes
+}
+
+// Whether the digest of a row is right, in one piece and in three.
+fn agrees(len: usize, size: u8, hex: &str) -> bool {
+    if size == 0 || size > 64 || len > 1000 {
+        return false;
+    }
+    let all = message(len);
+    let bytes = &all[..len];
+    let (first, rest) = bytes.split_at(len / 3);
+    let (second, third) = rest.split_at(rest.len() / 2);
+    let mut hasher = Blake2b::new(size);
+    hasher.update(first);
+    hasher.update(second);
+    hasher.update(third);
+    is_spelled(&blake_of(size, bytes), hex) && is_spelled(&hasher.finalize(), hex)
+}
+
+// How many rows are right before the first that is not.
+fn right_rows(rows: &[(usize, u8, &str)]) -> usize {
+    rows.iter()
+        .take_while(|row| agrees(row.0, row.1, row.2))
+        .count()
+}
 
 #[test]
-fn abc(rt: HostRuntime) {
-    let digest = blake_of(64, b"abc");
-    assert_eq!(rt; digest.as_slice().get(..8), Some([0xba, 0x80, 0xa5, 0x3f, 0x98, 0x1c, 0x4d, 0x0d].as_slice()));
+fn digests_of_hashlib(rt: HostRuntime) {
+    assert_eq!(rt; right_rows(&DIGESTS), DIGESTS.len());
+}
+
+#[test]
+fn digest_of_abc(rt: HostRuntime) {
+    let hex =
+        "ba80a53f981c4d0d6a2797b69f12f6e94c212f14685ac4b74b12bb6fdbffa2d17d87c5392aab792dc252d5de4533cc9518d38aa8dbf1925ab92386edd4009923";
+    assert!(rt; is_spelled(&blake_of(64, b"abc"), hex));
+    assert!(rt; !is_spelled(&blake_of(64, b"abd"), hex));
 }
