@@ -78,13 +78,13 @@ abbrev pub start_vector : List ℕ → ℕ → Bool → List ℕ
 start_vector h count last =
     let iv = slice_index initial_vector in
     h ++ iv 0 ∷ iv 1 ∷ iv 2 ∷ iv 3 ∷ bit_xor (iv 4) (count % 2 ^ 64) ∷ bit_xor (iv 5) (count / 2 ^ 64) ∷
-        (if last then bit_not w64 (iv 6) else iv 6) ∷ iv 7 ∷ []
+    (if last then bit_not w64 (iv 6) else iv 6) ∷ iv 7 ∷ []
 
 -- The hash value h with both halves of the vector v (3.2).
 abbrev pub folded : List ℕ → List ℕ → List ℕ
 folded h v =
     map (λ i. bit_xor (bit_xor (slice_index h i) (slice_index v i)) (slice_index v (i + 8)))
-        (0 ∷ 1 ∷ 2 ∷ 3 ∷ 4 ∷ 5 ∷ 6 ∷ 7 ∷ [])
+    (0 ∷ 1 ∷ 2 ∷ 3 ∷ 4 ∷ 5 ∷ 6 ∷ 7 ∷ [])
 
 -- F, the compression function: the hash value h after a block, where `count` bytes end with it (3.2).
 unfoldable pub compress : List ℕ → List ℕ → ℕ → Bool → List ℕ

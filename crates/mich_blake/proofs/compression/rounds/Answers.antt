@@ -1,4 +1,3 @@
-use Rattle.std.proofs.Common.{refl}
 use Rattle.mich_blake.proofs.RoundSteps.{next_round, no_round}
 use Rattle.mich_blake.proofs.compression.rounds.Goals as goal
 
