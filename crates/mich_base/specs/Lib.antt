@@ -1,0 +1,3 @@
+pub mod Counted
+pub mod View
+pub mod formers

@@ -1,0 +1,2 @@
+pub mod Prims
+pub mod Tree
