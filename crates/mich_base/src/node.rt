@@ -1,6 +1,7 @@
 // Nodes.
 ghost use Rattle.std.specs.Prelude.{◌≡◌, ℕ, ◌+◌, ◌-◌, ◌<◌, ◌≤◌, ◌^◌, IfOk, nat_le, length, slice_get, option_map};
-ghost use Rattle.rules_base.specs.Tree.{depth, depths, size, sizes, room_left, preorder, preorders, look};
+ghost use Rattle.rules_base.specs.Tree.{depth, depths, size, sizes, preorder, preorders};
+ghost use Rattle.mich_base.specs.Walk.{room_left, look};
 ghost use Rattle.mich_base.specs.View.{tree, trees, seen};
 
 use crate::memory::Memory;
@@ -85,7 +86,7 @@ fn room_after_all(nodes: &Nodes, room: u32) -> Option<u32>
 }
 
 // A node that was looked for, or how many places are still to go.
-pub enum Found<'a> {
+enum Found<'a> {
     Here(&'a Node),
     Past(u32),
 }
@@ -162,7 +163,7 @@ fn copy_nodes(alloc: Global, nodes: &Nodes) -> Result<Nodes, Memory>
     Ok(copies)
 }
 
-fn copy_texts(alloc: Global, texts: &Texts) -> Result<Texts, Memory>
+pub fn copy_texts(alloc: Global, texts: &Texts) -> Result<Texts, Memory>
     ensures { IfOk result (λ ts. ts ≡ texts.now) }
 {
     let mut copies = Rows::new(alloc);
