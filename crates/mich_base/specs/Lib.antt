@@ -1,3 +1,4 @@
+pub mod ByLength
 pub mod Counted
 pub mod View
 pub mod Walk

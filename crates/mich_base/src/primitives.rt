@@ -1,8 +1,7 @@
 // The primitives by name and by code.
-ghost use Rattle.std.specs.Prelude.{◌≡◌, ◌<◌, length, map, option_map, slice_get, IfSome};
-ghost use Rattle.std.specs.List.{position};
-ghost use Rattle.std.specs.Str.{bytes_eq};
+ghost use Rattle.std.specs.Prelude.{◌≡◌, map, option_map, slice_get};
 ghost use Rattle.rules_base.specs.Primitives.{name_of_code, code_of_name, primitive_of_code, primitive_of_name, code_of_primitive};
+ghost use Rattle.mich_base.specs.ByLength.{is_name_of, code_among, codes_by_length, code_by_length};
 
 use crate::text::Text;
 use rules_base::Primitive;
@@ -329,7 +328,48 @@ static PRIMITIVES: [Primitive; 157] = [
     Primitive::OpNat,
 ];
 
+// At each length the codes of the names that have it.
+static CODES_BY_LENGTH: [&[u8]; 31] = [
+    &[],
+    &[],
+    &[37, 40, 42, 44, 50, 55, 65, 100],
+    &[4, 17, 18, 20, 22, 23, 31, 33, 41, 48, 53, 54, 56, 57, 58, 59, 60, 61, 63, 64, 75, 81, 91, 92, 96, 98, 102, 112, 113, 156],
+    &[2, 5, 6, 7, 9, 10, 11, 12, 27, 32, 34, 38, 51, 52, 62, 66, 67, 69, 70, 73, 76, 79, 82, 87, 89, 95, 101, 108, 126, 144, 145, 151],
+    &[3, 8, 68, 86, 105, 106, 111, 115, 118, 120, 121, 141, 155],
+    &[13, 15, 16, 19, 26, 49, 71, 72, 80, 88, 94, 99, 104, 122, 125, 135, 154],
+    &[1, 14, 21, 25, 45, 46, 47, 84, 97, 110],
+    &[39, 43, 85, 90, 93, 116, 117, 146],
+    &[0, 35, 36, 83, 103, 107, 109, 142, 147],
+    &[143, 152, 153],
+    &[137],
+    &[78, 119, 123, 128, 129, 130, 138, 139],
+    &[114, 127, 131],
+    &[28, 74, 140, 149],
+    &[24, 29, 77],
+    &[30],
+    &[136],
+    &[124],
+    &[133, 150],
+    &[148],
+    &[134],
+    &[],
+    &[],
+    &[],
+    &[],
+    &[],
+    &[],
+    &[],
+    &[],
+    &[132],
+];
+
 fn text_at<'a>(table: &[&'a str], index: usize) -> Option<&'a str>
+    ensures { option_map (λ s. s.now) result ≡ slice_get (map (λ s. s.now) table.now) index }
+{
+    table.get(index).copied()
+}
+
+fn codes_at<'a>(table: &[&'a [u8]], index: usize) -> Option<&'a [u8]>
     ensures { option_map (λ s. s.now) result ≡ slice_get (map (λ s. s.now) table.now) index }
 {
     table.get(index).copied()
@@ -341,20 +381,37 @@ fn primitive_at(table: &[Primitive], index: usize) -> Option<Primitive>
     table.get(index).copied()
 }
 
-// The first place of a text in a table.
-fn first_place(table: &[&str], text: &[u8]) -> Option<usize>
-    ensures value { result ≡ position (λ known. bytes_eq text.now known.now) table.now }
-    ensures within { IfSome result (λ i. i < length table.now) }
+fn is_name_of(name: &Text, code: u8) -> bool
+    ensures { result ≡ is_name_of name.now code }
 {
-    table.iter().position(|known| text == known.as_bytes())
+    match prim_name(code) {
+        Some(known) => name.as_slice() == known.as_bytes(),
+        None => false,
+    }
 }
 
-// The same, where clauses see the table as texts.
-fn place_of(table: &[&str], text: &Text) -> Option<usize>
-    ensures value { result ≡ position (bytes_eq text.now) (map (λ s. s.now) table.now) }
-    ensures within { IfSome result (λ i. i < length table.now) }
+// The code of a name among these codes.
+fn code_among(codes: &[u8], name: &Text) -> Option<u8>
+    ensures { result ≡ code_among name.now codes.now }
 {
-    first_place(table, text.as_slice())
+    codes.iter().copied().find(|code| is_name_of(name, *code))
+}
+
+// The codes whose names have this length.
+fn codes_of_length(length: usize) -> Option<&'static [u8]>
+    ensures { option_map (λ s. s.now) result ≡ slice_get codes_by_length length }
+{
+    codes_at(&CODES_BY_LENGTH, length)
+}
+
+#[tactic(auto, unfolding(crate::specs::ByLength::code_by_length))]
+fn code_by_length(name: &Text) -> Option<u8>
+    ensures { result ≡ code_by_length name.now }
+{
+    match codes_of_length(name.len()) {
+        Some(codes) => code_among(codes, name),
+        None => None,
+    }
 }
 
 /// The name of the primitive with this code, in the encoding of Micheline (Octez "data encoding").
@@ -367,13 +424,11 @@ pub fn prim_name(code: u8) -> Option<&'static str>
 
 /// The code of the primitive with this name, in the encoding of Micheline (Octez "data encoding").
 /// None where the name is no primitive's.
+#[tactic(auto, using(crate::proofs::ByLengthLaws::found_by_length))]
 pub fn prim_code(name: &Text) -> Option<u8>
     ensures { result ≡ code_of_name name.now }
 {
-    match place_of(&NAMES, name) {
-        Some(place) => Some(place as u8),
-        None => None,
-    }
+    code_by_length(name)
 }
 
 /// The primitive with this code. None where the code is no primitive's.
