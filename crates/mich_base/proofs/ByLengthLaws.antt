@@ -1,6 +1,6 @@
 -- A name is found among those of its length exactly where it is found among all.
-use Rattle.std.proofs.Common.{◌≡◌, ℕ, zero, suc, ◌+◌, ◌<◌, ◌≤◌, List, [], ◌∷◌, Option, Some, None, Bool, true, false, cond, ◌&&◌, not, length, slice_get, refl, sym, ap, ◌∙◌, arith, nat_lt, nat_eq, subst}
-use Rattle.std.specs.List.{find, position, position_or_len}
+use Rattle.std.proofs.Common.{◌≡◌, ℕ, zero, suc, ◌+◌, ◌<◌, List, [], ◌∷◌, Option, Some, None, Bool, true, false, cond, ◌&&◌, not, length, slice_get, refl, ap, ◌∙◌, arith, nat_lt, nat_eq, subst}
+use Rattle.std.specs.List.{find, position_or_len}
 use Rattle.std.specs.Option.{option_and_then}
 use Rattle.std.specs.Str.{bytes_eq}
 use Rattle.std.proofs.lemmas.Bool.{eqb-true}
@@ -55,7 +55,7 @@ walk : (name : List ℕ) (i : ℕ) (ns : List (List ℕ)) → each_found i ns �
 walk name i [] t h = absurd (omega arith)
 walk name i (n ∷ ns) t h =
     walk_by name i n (position_or_len (bytes_eq name) ns) (bytes_eq name n) refl (is_at_is i (code_by_length n) (and_first _ _ t))
-        (λ no. walk name (i + 1) ns (and_second (is_at i (code_by_length n)) _ t) (shorter (bytes_eq name n) (position_or_len (bytes_eq name) ns) (length ns) no h))
+    (λ no. walk name (i + 1) ns (and_second (is_at i (code_by_length n)) _ t) (shorter (bytes_eq name n) (position_or_len (bytes_eq name) ns) (length ns) no h))
   where
     shorter : (b : Bool) (m k : ℕ) → b ≡ false → cond (not b) (1 + m) 0 < suc k → m < k
     shorter true m k e h = absurd cc
