@@ -34,6 +34,7 @@ pub fn mutez_sub(a: u64, b: u64) -> Option<u64>
 /// An amount of mutez taken `n` times.
 ///
 /// `MutezOverflow` exactly where it is over 2^63 - 1. Michelson reference: MUL.
+#[tactic(auto, using(crate::proofs::Checked::over_mutez))]
 pub fn mutez_mul(a: u64, n: i128) -> Result<u64, NumFault>
     requires amount { a < 2 ^ 63 }
     requires times { pos 0 ≤ℤ n }

@@ -1,13 +1,19 @@
 // Arithmetic on ints.
 ghost use Rattle.std.specs.Prelude.{◌≡◌, ◌↔◌, pos, ◌+ℤ◌, ◌-ℤ◌, ◌*ℤ◌, neg_ℤ, ◌≤ℤ◌, unsigned_abs, IfOk, IfSome};
 ghost use Rattle.rules_numbers.specs.Limits.{int_or_limit};
-ghost use Rattle.rules_numbers.specs.Integers.{IsDivision, division, shifted_left, shifted_right};
+ghost use Rattle.rules_numbers.specs.Integers.{IsOnlyDivision, division, shifted_left, shifted_right};
 ghost use Rattle.mich_num.specs.View.{limited};
 
 use crate::fault::NumFault;
 
+/// The least int.
+const LEAST: i128 = i128::MIN;
+
 /// The most places that a shift can have.
 const MOST_PLACES: i128 = 256;
+
+/// The places by which every int but 0 is shifted out of the range.
+const ALL_PLACES: i128 = 127;
 
 /// The exact sum.
 ///
@@ -52,6 +58,7 @@ pub fn neg(a: i128) -> Result<i128, NumFault>
 /// The absolute value.
 ///
 /// `IntegerLimit` exactly where it is over 2^127 - 1. Michelson reference: ABS.
+#[tactic(auto, using(crate::proofs::Checked::abs_checked))]
 pub fn abs(a: i128) -> Result<i128, NumFault>
     ensures exact { limited result ≡ int_or_limit (pos (unsigned_abs a)) }
 {
@@ -64,12 +71,12 @@ pub fn abs(a: i128) -> Result<i128, NumFault>
 /// -1 alone. Michelson reference: EDIV.
 pub fn ediv(a: i128, b: i128) -> Result<Option<(i128, i128)>, NumFault>
     ensures exact { limited result ≡ division a b }
-    ensures divides { IfOk result (λ parts. IfSome parts (λ p. IsDivision a b p.0 p.1)) }
+    ensures divides { IfOk result (λ parts. IfSome parts (λ p. IsOnlyDivision a b p.0 p.1)) }
 {
     if b == 0 {
         return Ok(None);
     }
-    if a == i128::MIN && b == -1 {
+    if a == LEAST && b == -1 {
         return Err(NumFault::IntegerLimit);
     }
     Ok(Some((a.div_euclid(b), a.rem_euclid(b))))
@@ -90,7 +97,7 @@ pub fn shl(a: i128, b: i128) -> Result<i128, NumFault>
     if a == 0 {
         return Ok(0);
     }
-    if b >= 127 {
+    if b >= ALL_PLACES {
         return Err(NumFault::IntegerLimit);
     }
     mul(a, 1 << b)
@@ -107,7 +114,7 @@ pub fn shr(a: i128, b: i128) -> Result<i128, NumFault>
     if b > MOST_PLACES {
         return Err(NumFault::ShiftLimit);
     }
-    if b >= 127 {
+    if b >= ALL_PLACES {
         return Ok(0);
     }
     Ok(a >> b)
