@@ -33,9 +33,9 @@ not_zero (negsuc n) h = omega arith
 tests_not_zero : (n : ℕ) → 0 < n → (n == 0) ≡ false
 tests_not_zero n h = grind (arith, nat_tests)
 
-pub whole_division : (a b q r : ℤ) → (cast_unsigned w128 b ≡ 0 → ⊥) → FitsSigned w128 q → FitsSigned w128 r → q ≡ int_div_euclid a b → r ≡ int_rem_euclid a b → Ok (Some (q, r)) ≡ division a b
+whole : (a b q r : ℤ) → (cast_unsigned w128 b ≡ 0 → ⊥) → FitsSigned w128 q → FitsSigned w128 r → q ≡ int_div_euclid a b → r ≡ int_rem_euclid a b → Ok (Some (q, r)) ≡ division a b
 unfolding division
-whole_division a b q r h fits_q fits_r is_q is_r =
+whole a b q r h fits_q fits_r is_q is_r =
     rw (← is_q, ← is_r, tests_not_zero (unsigned_abs b) (not_zero b h), int_fits q fits_q, int_fits r fits_r) refl
 
 times_negative : (k b : ℕ) → neg_ℤ (pos k) *ℤ negsuc b ≡ pos (k * suc b)
@@ -70,7 +70,25 @@ unique a (negsuc b) q (pos r) p (pos s) d e =
 unique a b q (negsuc r) p s d e = absurd d.not_negative.le
 unique a b q (pos r) p (negsuc s) d e = absurd e.not_negative.le
 
-pub only_division : (a b q r : ℤ) → (cast_unsigned w128 b ≡ 0 → ⊥) → q ≡ int_div_euclid a b → r ≡ int_rem_euclid a b → IsOnlyDivision a b q r
-only_division a b q r h is_q is_r =
+only : (a b q r : ℤ) → (cast_unsigned w128 b ≡ 0 → ⊥) → q ≡ int_div_euclid a b → r ≡ int_rem_euclid a b → IsOnlyDivision a b q r
+only a b q r h is_q is_r =
     let one : IsDivision a b q r = rw (is_q, is_r) (is_division a b (not_zero b h)) in
     record { is_one = one; no_other = λ p s other. unique a b q r p s one other }
+
+-- the int of an int's word is that int
+abbrev word : ℤ → ℤ
+word z = cast_signed w128 (cast_unsigned w128 z)
+
+quotient_of_words : (a b q : ℤ) → FitsSigned w128 a → FitsSigned w128 b → q ≡ int_div_euclid (word a) (word b) → q ≡ int_div_euclid a b
+quotient_of_words a b q fits_a fits_b e = e ∙ ap (λ x. int_div_euclid x (word b)) (to_z-of_z w128 a fits_a) ∙ ap (int_div_euclid a) (to_z-of_z w128 b fits_b)
+
+remainder_of_words : (a b r : ℤ) → FitsSigned w128 a → FitsSigned w128 b → r ≡ int_rem_euclid (word a) (word b) → r ≡ int_rem_euclid a b
+remainder_of_words a b r fits_a fits_b e = e ∙ ap (λ x. int_rem_euclid x (word b)) (to_z-of_z w128 a fits_a) ∙ ap (int_rem_euclid a) (to_z-of_z w128 b fits_b)
+
+pub whole_division : (a b q r : ℤ) → FitsSigned w128 a → FitsSigned w128 b → FitsSigned w128 q → FitsSigned w128 r → (cast_unsigned w128 b ≡ 0 → ⊥) → q ≡ int_div_euclid (word a) (word b) → r ≡ int_rem_euclid (word a) (word b) → Ok (Some (word q, word r)) ≡ division a b
+whole_division a b q r fits_a fits_b fits_q fits_r h is_q is_r =
+    ap (λ x. Ok (Some (x, word r))) (to_z-of_z w128 q fits_q) ∙ ap (λ x. Ok (Some (q, x))) (to_z-of_z w128 r fits_r) ∙ whole a b q r h fits_q fits_r (quotient_of_words a b q fits_a fits_b is_q) (remainder_of_words a b r fits_a fits_b is_r)
+
+pub only_division : (a b q r : ℤ) → FitsSigned w128 a → FitsSigned w128 b → FitsSigned w128 q → FitsSigned w128 r → (cast_unsigned w128 b ≡ 0 → ⊥) → q ≡ int_div_euclid (word a) (word b) → r ≡ int_rem_euclid (word a) (word b) → IsOnlyDivision a b (word q) (word r)
+only_division a b q r fits_a fits_b fits_q fits_r h is_q is_r =
+    only a b (word q) (word r) h (to_z-of_z w128 q fits_q ∙ quotient_of_words a b q fits_a fits_b is_q) (to_z-of_z w128 r fits_r ∙ remainder_of_words a b r fits_a fits_b is_r)
