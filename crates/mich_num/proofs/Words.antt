@@ -36,14 +36,19 @@ bit_by_bit f op by_bits within a b fits_a fits_b i =
   where
     word : ℕ
     word = op (cast_unsigned w128 a) (cast_unsigned w128 b)
+
     word_within : word < 2 ^ 128
     word_within = within (cast_unsigned w128 a) (cast_unsigned w128 b) (word_fits a fits_a) (word_fits b fits_b)
+
     c : ℤ
     c = cast_signed w128 word
+
     fits_c : FitsSigned w128 c
     fits_c = sfits_to_z {w = w128} {n = word} (Fits-bits {w = w128} {n = word} 128 tt word_within)
+
     above : (k : ℕ) → 128 ≤ k → 127 ≤ k
     above k h = omega arith
+
     below : (k : ℕ) → k < 128 → bit c k ≡ f (bit a k) (bit b k)
     below k h = bit_of_word c k fits_c h ∙ ap (λ x. bit_at x k) (of_z-to_z w128 word word_within) ∙ by_bits (cast_unsigned w128 a) (cast_unsigned w128 b) k ∙ sym (ap (λ x. f x (bit b k)) (bit_of_word a k fits_a h) ∙ ap (λ x. f (bit_at (cast_unsigned w128 a) k) x) (bit_of_word b k fits_b h))
 

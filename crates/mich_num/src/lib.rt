@@ -11,3 +11,5 @@ pub use bits::{and, not, or, xor};
 pub use fault::NumFault;
 pub use integers::{abs, add, ediv, mul, neg, shl, shr, sub};
 
+#[cfg(test)]
+mod tests;

@@ -4,14 +4,18 @@ use Rattle.std.specs.Prelude.{Result, Ok, Err, Option, Some, None}
 use Rattle.std.specs.Int.{int_div_euclid, int_rem_euclid}
 use Rattle.rules_numbers.specs.Limits.{Limit, integer_limit, shift_limit, is_int, int_or_limit}
 
--- a is q times b and r more, where the remainder r is from 0 to |b| - 1: at most one pair (q, r) is so
--- (Michelson reference, EDIV)
+-- a is q times b and r more, where the remainder r is from 0 to |b| - 1 (Michelson reference, EDIV)
 pub record IsDivision (a b q r : ℤ) : Type 0 where
   pub whole : a ≡ q *ℤ b +ℤ r
   pub not_negative : pos 0 ≤ℤ r
   pub small : r <ℤ pos (unsigned_abs b)
 
--- the quotient and the remainder: none by 0, else the pair of `IsDivision`, where both are ints
+-- q and r are the one quotient and the one remainder
+pub record IsOnlyDivision (a b q r : ℤ) : Type 0 where
+  pub is_one : IsDivision a b q r
+  pub no_other : (p s : ℤ) → IsDivision a b p s → (p ≡ q) × (s ≡ r)
+
+-- none by 0, else the pair of `IsOnlyDivision`, where both parts are ints
 -- (Michelson reference, EDIV)
 unfoldable pub division : ℤ → ℤ → Result (Option (ℤ × ℤ)) Limit
 division a b =
