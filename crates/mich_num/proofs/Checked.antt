@@ -1,6 +1,6 @@
 -- Checked operations on `i128`.
-use Rattle.std.proofs.Common.{◌≡◌, ℕ, ◌^◌, ◌-◌, ◌≤◌, ◌<◌, ◌&&◌, Option, Some, None, Ok, Err, true, false, Bool, refl, arith, ◌⊎◌, sym, ap, ◌∙◌, zero, suc}
-use Rattle.std.specs.Prelude.{ℤ, pos, negsuc, neg_ℤ, int_le, FitsSigned, SomeIff, unsigned_abs, nat_le}
+use Rattle.std.proofs.Common.{◌≡◌, ℕ, ◌^◌, ◌-◌, ◌<◌, Option, Some, None, Err, true, false, arith, zero, suc}
+use Rattle.std.specs.Prelude.{ℤ, pos, negsuc, neg_ℤ, FitsSigned, SomeIff, unsigned_abs, nat_le}
 use Rattle.std.specs.Option.{ok_or}
 use Rattle.std.specs.Int.{w128}
 use Rattle.std.proofs.lemmas.Bool.Decides.{nat_tests}

@@ -1,12 +1,12 @@
 -- Shifts of ints that are not negative.
-use Rattle.std.proofs.Common.{◌≡◌, ℕ, zero, suc, ◌^◌, ◌-◌, ◌+◌, ◌*◌, ◌/◌, ◌%◌, ◌≤◌, ◌<◌, refl, arith, sym, ap, ◌∙◌, subst, true, false}
-use Rattle.std.specs.Prelude.{ℤ, pos, negsuc, ◌*ℤ◌, ◌≤ℤ◌, int_lt, int_le, nat_lt, nat_le, FitsSigned, Result, Ok, Err, unsigned_abs, ◌&&◌}
-use Rattle.std.specs.Int.{w128, cast_signed, cast_unsigned, int_div_euclid, int_shr}
+use Rattle.std.proofs.Common.{◌≡◌, ℕ, ◌^◌, ◌*◌, ◌/◌, ◌%◌, ◌≤◌, ◌<◌, refl, arith, sym, ap, ◌∙◌, true, false}
+use Rattle.std.specs.Prelude.{ℤ, pos, negsuc, ◌*ℤ◌, ◌≤ℤ◌, int_lt, int_le, nat_le, FitsSigned, Ok, Err}
+use Rattle.std.specs.Int.{w128, cast_signed, cast_unsigned, int_shr}
 use Rattle.std.proofs.lemmas.Int.{to_z-of_z, to_z_pos}
 use Rattle.std.proofs.lemmas.Bool.Decides.{nat_tests}
 use Rattle.std.proofs.Math.Nat.{zero-mul, le-mul_of_pos_right, pow-le-pow_right, div-eq_of_lt, div-le_self}
 use Rattle.std.proofs.lemmas.Nat.{pow_below, one_shl}
-use Rattle.rules_numbers.specs.Limits.{Limit, integer_limit, shift_limit, is_int, int_or_limit}
+use Rattle.rules_numbers.specs.Limits.{integer_limit, shift_limit, is_int, int_or_limit}
 use Rattle.rules_numbers.specs.Integers.{is_shift, shifted_left, shifted_right}
 
 -- the int of an int's word is that int

@@ -1,5 +1,5 @@
 -- The bits of an int are those of its 128-bit word, and those behind are its sign.
-use Rattle.std.proofs.Common.{◌≡◌, ℕ, ◌^◌, ◌-◌, ◌+◌, ◌≤◌, ◌<◌, refl, arith, sym, ap, ◌∙◌, subst, inl, inr, suc, lit<}
+use Rattle.std.proofs.Common.{◌≡◌, ℕ, ◌^◌, ◌-◌, ◌≤◌, ◌<◌, refl, arith, sym, ap, ◌∙◌, inl, inr, suc, lit<}
 use Rattle.std.specs.Prelude.{ℤ, pos, negsuc, FitsSigned, bit_and, bit_or, bit_xor}
 use Rattle.std.specs.Int.{w128, bit_at, cast_signed, cast_unsigned}
 use Rattle.std.proofs.lemmas.Bool.{cases_lt}

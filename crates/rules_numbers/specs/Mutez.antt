@@ -1,5 +1,5 @@
 -- Arithmetic on amounts of mutez.
-use Rattle.std.specs.Prelude.{ℕ, ◌+◌, ◌-◌, ◌*◌, nat_le, if◌then◌else◌, ℤ, unsigned_abs}
+use Rattle.std.specs.Prelude.{ℕ, ◌+◌, ◌-◌, ◌*◌, nat_le, if◌then◌else◌}
 use Rattle.std.specs.Prelude.{Result, Option, Some, None}
 use Rattle.rules_numbers.specs.Limits.{Limit, mutez_or_limit}
 

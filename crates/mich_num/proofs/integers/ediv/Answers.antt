@@ -1,6 +1,4 @@
 use Rattle.std.proofs.Common.{rules}
-use Rattle.std.specs.Prelude.{FitsSigned}
-use Rattle.std.specs.Int.{w128}
 use Rattle.mich_num.proofs.Divisions.{by_zero, past_limit, whole_division, only_division}
 use Rattle.mich_num.proofs.integers.ediv.Goals as goal
 
