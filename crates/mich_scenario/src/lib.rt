@@ -10,3 +10,6 @@ mod statements;
 pub use laws::statements_are_those_of_the_grammar;
 pub use statement::{Call, Statement};
 pub use statements::read_plain;
+
+#[cfg(test)]
+mod tests;
