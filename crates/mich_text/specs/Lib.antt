@@ -1,0 +1,7 @@
+pub mod Gives
+pub mod Machine
+pub mod Units
+pub mod Views
+pub mod Nodes
+pub mod Results
+pub mod Canonical
