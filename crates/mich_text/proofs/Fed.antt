@@ -5,7 +5,8 @@ use Rattle.rules_base.specs.Tree.{Tree}
 use Rattle.rules_text.specs.Token.{Token}
 use Rattle.mich_text.specs.Machine.{Stack, finish, has_statement, ended_tree, step}
 use Rattle.rules_text.specs.Lexical.{is_white, opens, closes, after_gap, after_slash, after_line, after_block, token_at}
-use Rattle.rules_text.specs.Text.{Leads, IsNode}
+use Rattle.rules_text.specs.Text.{Leads}
+use Rattle.mich_text.specs.Plain.{IsNode}
 use Rattle.rules_text.specs.Fault.{depth_limit}
 use Rattle.mich_text.proofs.Places.{token_shorter}
 use Rattle.mich_text.proofs.Reading.{At}

@@ -5,7 +5,7 @@ use Rattle.rules_text.specs.Token.{Token}
 use Rattle.rules_text.specs.Syntax.{Element, element_tokens, alone, application}
 use Rattle.mich_text.specs.Machine.{Stack, Refusal, unexpected, too_deep, finish, is_root, has_statement, ended_tree, ready_for, refused, step, run, start}
 use Rattle.rules_text.specs.Lexical.{after_gap, token_at, first_shape}
-use Rattle.rules_text.specs.Text.{IsFault, IsNode, IsEnd}
+use Rattle.mich_text.specs.Plain.{IsFault, IsNode, IsEnd}
 use Rattle.mich_base.specs.View.{tree}
 use Rattle.mich_text.specs.Results.{kind_of, Refuses, at_first_byte, no_place, later, IsStep, IsRead, IsWithinText}
 use Rattle.rules_text.specs.Fault.{Flaw}

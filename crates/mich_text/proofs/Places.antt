@@ -14,7 +14,7 @@ use Rattle.rules_text.specs.declared.TextKind.{TextKind}
 use Rattle.rules_text.specs.declared.TextKind.TheVariants.{BadString, BadBytes, BadNumber, TooLong}
 use Rattle.rules_text.specs.Fault.{Flaw}
 use Rattle.rules_text.specs.Fault.{name_limit, string_limit}
-use Rattle.rules_text.specs.Text.{rank}
+use Rattle.mich_text.specs.Plain.{rank}
 use Rattle.rules_text.specs.Lexical.{flaw, is_word, is_noted, begins_word, after_gap, after_slash, after_line, after_block, is_white, opens, closes, name_at, annotation_at, Spelt, spelt, spelt_escape, with_byte, with_escape, escaped, string_at, ◌>>=◌, bytes_at, paired, number_at, after_minus, is_minus, signed, made, digits_at, begins_bytes, shape_at, shape_of, first_shape, token_at}
 
 -- ---- white space and comments

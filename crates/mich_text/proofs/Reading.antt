@@ -6,7 +6,8 @@ use Rattle.rules_text.specs.Token.{Token, token_shape}
 use Rattle.rules_text.specs.Syntax.{IsFront, IsFrontWithin, IsWhole, IsStatement, unended, nothing, element_tokens}
 use Rattle.mich_text.specs.Machine.{Stack, Refusal, unexpected, too_deep, finish, is_root, has_statement, ended_tree, ready_for, refused, step, put, run, start}
 use Rattle.rules_text.specs.Lexical.{after_gap, token_at, first_shape, shape_of}
-use Rattle.rules_text.specs.Text.{Leads, IsFlawed, IsInComment, IsOpen, IsUnexpected, IsTooDeep, Holds, flawed, in_comment, is_open, unexpected as is_unexpected, too_deep as is_too_deep, rank, EndsAt, Stands, IsFirst, IsFault, IsNode, IsEnd}
+use Rattle.rules_text.specs.Text.{Leads, IsInComment, IsOpen, IsUnexpected, IsTooDeep, EndsAt, Stands}
+use Rattle.mich_text.specs.Plain.{IsFlawed, Holds, flawed, in_comment, is_open, unexpected as is_unexpected, too_deep as is_too_deep, rank, IsFirst, IsFault, IsNode, IsEnd}
 use Rattle.rules_text.specs.declared.Shape.{Shape}
 use Rattle.rules_text.specs.declared.Shape.TheVariants.{Digits, Quoted, Word, Note, OpenBrace, CloseBrace, OpenParen, CloseParen, Semicolon}
 use Rattle.rules_text.specs.Fault.{Flaw}

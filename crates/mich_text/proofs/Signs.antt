@@ -6,7 +6,7 @@ use Rattle.rules_text.specs.Token.{Token}
 use Rattle.rules_text.specs.Syntax.{Node, number, bytes, string, parens, braces, braces_to, Items, no_items, with_annotation, with_name, with_node, Element, alone, application, Separated, nothing, followed, node_tokens, item_tokens, element_tokens, separated_tokens, element_depth, element_tree}
 use Rattle.mich_text.specs.Machine.{finish, has_statement, ended_tree}
 use Rattle.rules_text.specs.Lexical.{after_gap}
-use Rattle.rules_text.specs.Text.{IsNode}
+use Rattle.mich_text.specs.Plain.{IsNode}
 use Rattle.rules_text.specs.Printed.{printed}
 use Rattle.mich_text.specs.Canonical.{element_of}
 use Rattle.rules_text.specs.Fault.{depth_limit}

@@ -6,7 +6,8 @@ use Rattle.rules_text.specs.Token.{Token}
 use Rattle.rules_text.specs.Syntax.{Element, element_tokens, element_tree, element_depth, IsStatement, IsWhole, ended, nothing}
 use Rattle.mich_text.specs.Machine.{Stack, Refusal, finish, ended_tree, run, start}
 use Rattle.rules_text.specs.Lexical.{after_gap, token_at, first_shape}
-use Rattle.rules_text.specs.Text.{Leads, IsFlawed, IsInComment, IsOpen, Holds, flawed, in_comment, is_open, unexpected, too_deep, rank, EndsAt, Stands, IsFault, IsNode, IsEnd}
+use Rattle.rules_text.specs.Text.{Leads, IsInComment, IsOpen, EndsAt, Stands}
+use Rattle.mich_text.specs.Plain.{IsFlawed, Holds, flawed, in_comment, is_open, unexpected, too_deep, rank, IsFault, IsNode, IsEnd}
 use Rattle.rules_text.specs.Fault.{Flaw}
 use Rattle.rules_text.specs.declared.TextKind.{TextKind}
 use Rattle.rules_text.specs.declared.TextKind.TheVariants.{Unclosed, Unexpected, TooDeep}

@@ -1,5 +1,6 @@
 pub mod Gives
 pub mod Machine
+pub mod Plain
 pub mod Units
 pub mod Views
 pub mod Nodes

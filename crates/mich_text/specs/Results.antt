@@ -3,7 +3,7 @@ use Rattle.std.specs.Prelude.{◌≡◌, ℕ, ◌+◌, ◌≤◌, List, length, 
 use Rattle.rules_text.specs.Token.{Token}
 use Rattle.mich_text.specs.Machine.{Stack, Refusal, unexpected, too_deep, finish, has_statement, ready_for, refused, put, step}
 use Rattle.rules_text.specs.Lexical.{token_at, first_shape}
-use Rattle.rules_text.specs.Text.{IsFault, IsNode, IsEnd}
+use Rattle.mich_text.specs.Plain.{IsFault, IsNode, IsEnd}
 use Rattle.mich_base.specs.View.{tree}
 use Rattle.mich_text.specs.Gives.{flaw_view}
 use Rattle.rules_text.specs.declared.Shape.{Shape}

@@ -2,7 +2,8 @@
 ghost use Rattle.std.specs.Prelude.{◌≡◌, ◌+◌, ◌<◌, ◌≤◌, ◌↔◌, option_map, length, IsTrue, OnOk, Ok, None};
 ghost use Rattle.std.specs.Prelude.{ℕ, List};
 ghost use Rattle.rules_base.specs.Tree.{Tree};
-ghost use Rattle.rules_text.specs.Text.{IsFault, IsNode, Stands};
+ghost use Rattle.rules_text.specs.Text.{Stands};
+ghost use Rattle.mich_text.specs.Plain.{IsFault, IsNode};
 ghost use Rattle.rules_text.specs.declared.TextKind.{TextKind};
 ghost use Rattle.rules_text.specs.Token.{token_shape, semicolon};
 ghost use Rattle.mich_text.specs.Machine.{ready_for};

@@ -1,14 +1,14 @@
 -- What a text is, from the beginning of a statement on. Places are told by how many bytes are left there.
-use Rattle.std.specs.Prelude.{◌≡◌, ℕ, ◌+◌, ◌≤◌, ◌<◌, ◌⊎◌, List, [], ◌∷◌, ◌++◌, length, Option, Some, None, Result, Ok, Err}
+-- `before` is the number of bytes of the file that stand before the text. (Octez "Micheline"; the limits are this host's.)
+use Rattle.std.specs.Prelude.{◌≡◌, ℕ, ◌+◌, ◌-◌, ◌≤◌, ◌<◌, ◌⊎◌, List, [], ◌∷◌, ◌++◌, length, take, Option, Some, None, Result, Ok, Err}
 use Rattle.rules_base.specs.Tree.{Tree}
+use Rattle.rules_text.specs.Fault.{Flaw, depth_limit, statement_limit, file_limit}
 use Rattle.rules_text.specs.Token.{Token, token_shape}
-use Rattle.rules_text.specs.Syntax.{IsFront, IsFrontWithin, IsWhole, IsStatement}
+use Rattle.rules_text.specs.Syntax.{Element, element_tokens, IsFront, IsFrontWithin, IsWhole, IsStatement}
 use Rattle.rules_text.specs.Lexical.{after_gap, token_at, first_shape}
 use Rattle.rules_text.specs.declared.Shape.{Shape}
-use Rattle.rules_text.specs.Fault.{Flaw}
 use Rattle.rules_text.specs.declared.TextKind.{TextKind}
-use Rattle.rules_text.specs.declared.TextKind.TheVariants.{BadChar, BadString, BadBytes, BadNumber, Unclosed, Unexpected, TooDeep, TooLong}
-use Rattle.rules_text.specs.Fault.{depth_limit}
+use Rattle.rules_text.specs.declared.TextKind.TheVariants.{Unclosed, Unexpected, TooDeep, TooLong}
 
 -- The text is these tokens, with white space and comments round them, and then the rest, which is empty or begins with
 -- a further token; or None, where the input ends in a block comment.
@@ -16,15 +16,48 @@ abbrev pub Leads : List ℕ → List Token → Option (List ℕ) → Type 0
 Leads text [] rest = after_gap text ≡ rest
 Leads text (t ∷ ts) rest = (here : List ℕ) × (behind : List ℕ) × (after_gap text ≡ Some here) × (token_at here ≡ Ok (t, behind)) × Leads behind ts rest
 
+-- ---- limits
+
+-- The byte past the limit of the statement that begins here: it is counted from its first byte.
+pub record IsStatementLimit (text : List ℕ) (left : ℕ) : Type 0 where
+  pub first : List ℕ
+  pub begins : after_gap text ≡ Some first
+  pub left_is : left + statement_limit ≡ length first
+  pub some : 0 < left
+
+-- the byte past the limit of the file
+pub record IsFileLimit (before : ℕ) (text : List ℕ) (left : ℕ) : Type 0 where
+  pub left_is : file_limit + left ≡ before + length text
+  pub some : 0 < left
+  pub here : left ≤ length text
+
+abbrev pub IsLimit : ℕ → List ℕ → ℕ → Type 0
+IsLimit before text left = IsStatementLimit text left ⊎ IsFileLimit before text left
+
+-- The statement goes on past its limit: it has no `;`, or one that lies behind this byte.
+pub record IsLongStatement (text : List ℕ) (left : ℕ) : Type 0 where
+  pub limit : IsStatementLimit text left
+  pub goes_on : (e : Element) (rest behind : List ℕ) → Leads text (element_tokens e) (Some rest) → token_at rest ≡ Ok (Token.semicolon, behind) → length rest < left
+
+-- these bytes show the token's flaw, so many bytes from its first one, whatever follows them
+abbrev pub Shows : List ℕ → TextKind → ℕ → Type 0
+Shows front kind offset = (more : List ℕ) → token_at (front ++ more) ≡ Err (record { kind = kind; left = length front + length more - offset })
+
 -- ---- the conditions of the faults
 
--- a byte begins no token, or a token is wrong in itself
-pub record IsFlawed (text : List ℕ) (kind : TextKind) (left : ℕ) : Type 0 where
-  pub before : List Token
+-- the statement or the file is longer than it may be
+abbrev pub IsPastLimit : ℕ → List ℕ → TextKind → ℕ → Type 0
+IsPastLimit before text kind left = (kind ≡ TooLong) × (IsLongStatement text left ⊎ IsFileLimit before text left)
+
+-- A byte begins no token, or a token is wrong in itself. Where a byte past a limit lies at the token's first byte or behind
+-- it, this counts only if the bytes up to that one show it.
+pub record IsFlawed (before : ℕ) (text : List ℕ) (kind : TextKind) (left : ℕ) : Type 0 where
+  pub tokens : List Token
   pub here : List ℕ
-  pub leads : Leads text before (Some here)
+  pub leads : Leads text tokens (Some here)
   pub some : 0 < length here
   pub wrong : token_at here ≡ Err (record { kind = kind; left = left })
+  pub shown : (limit : ℕ) → IsLimit before text limit → limit ≤ length here → Shows (take (length here - limit + 1) here) kind (length here - left)
 
 -- the input ends in a block comment
 pub record IsInComment (text : List ℕ) (kind : TextKind) (left : ℕ) : Type 0 where
@@ -68,23 +101,22 @@ pub record IsTooDeep (text : List ℕ) (kind : TextKind) (left : ℕ) : Type 0 w
   pub left_is : left ≡ length here
 
 -- the condition of a kind of fault holds at a place
-pub data Holds (text : List ℕ) (kind : TextKind) (left : ℕ) : Type 0 where
-  flawed : IsFlawed text kind left → Holds text kind left
-  in_comment : IsInComment text kind left → Holds text kind left
-  is_open : IsOpen text kind left → Holds text kind left
-  unexpected : IsUnexpected text kind left → Holds text kind left
-  too_deep : IsTooDeep text kind left → Holds text kind left
+pub data Holds (before : ℕ) (text : List ℕ) (kind : TextKind) (left : ℕ) : Type 0 where
+  past_limit : IsPastLimit before text kind left → Holds before text kind left
+  flawed : IsFlawed before text kind left → Holds before text kind left
+  in_comment : IsInComment text kind left → Holds before text kind left
+  is_open : IsOpen text kind left → Holds before text kind left
+  unexpected : IsUnexpected text kind left → Holds before text kind left
+  too_deep : IsTooDeep text kind left → Holds before text kind left
 
--- at one place a token's own fault comes before Unexpected, and that before TooDeep
-abbrev pub rank : TextKind → ℕ
-rank BadChar = 0
-rank BadString = 0
-rank BadBytes = 0
-rank BadNumber = 0
-rank Unclosed = 0
-rank TooLong = 0
-rank Unexpected = 1
-rank TooDeep = 2
+-- At one place a statement or file that is too long comes first, then a token's own fault, Unexpected, TooDeep.
+abbrev pub rank : {before : ℕ} {text : List ℕ} {kind : TextKind} {left : ℕ} → Holds before text kind left → ℕ
+rank (past_limit h) = 0
+rank (flawed h) = 1
+rank (in_comment h) = 1
+rank (is_open h) = 1
+rank (unexpected h) = 2
+rank (too_deep h) = 3
 
 -- ---- the statement
 
@@ -106,21 +138,18 @@ pub record Stands (text : List ℕ) (tree : Tree) (start end : ℕ) : Type 0 whe
 
 -- ---- what the text is
 
--- no condition holds before this one
-abbrev pub IsFirst : List ℕ → TextKind → ℕ → Type 0
-IsFirst text kind left = (k : TextKind) (other : ℕ) → Holds text k other → (other < left) ⊎ ((other ≡ left) × (rank kind ≤ rank k))
-
-pub record IsFault (text : List ℕ) (kind : TextKind) (left : ℕ) : Type 0 where
-  pub holds : Holds text kind left
-  pub first : IsFirst text kind left
-  -- and no statement ends before it
+-- a condition holds here, no condition comes before it, and no statement ends before it
+pub record IsFault (before : ℕ) (text : List ℕ) (kind : TextKind) (left : ℕ) : Type 0 where
+  pub holds : Holds before text kind left
+  pub first : (k : TextKind) (other : ℕ) (h : Holds before text k other) → (other < left) ⊎ ((other ≡ left) × (rank holds ≤ rank h))
   pub within : (tree : Tree) (start end : ℕ) → Stands text tree start end → end < left
 
-pub record IsNode (text : List ℕ) (tree : Tree) (start end : ℕ) : Type 0 where
+-- a statement stands there, and no condition holds at a place before its end
+pub record IsNode (before : ℕ) (text : List ℕ) (tree : Tree) (start end : ℕ) : Type 0 where
   pub stands : Stands text tree start end
-  -- no condition holds at a place before its end
-  pub clean : (k : TextKind) (left : ℕ) → Holds text k left → left ≤ end
+  pub clean : (k : TextKind) (left : ℕ) → Holds before text k left → left ≤ end
 
--- only white space and comments follow
-abbrev pub IsEnd : List ℕ → Type 0
-IsEnd text = after_gap text ≡ Some []
+-- only white space and comments follow, and no condition holds
+pub record IsEnd (before : ℕ) (text : List ℕ) : Type 0 where
+  pub gap : after_gap text ≡ Some []
+  pub clean : (k : TextKind) (left : ℕ) → Holds before text k left → ⊥

@@ -6,7 +6,7 @@ use Rattle.rules_text.specs.Token.{Token}
 use Rattle.mich_text.specs.Machine.{Stack}
 use Rattle.mich_base.specs.View.{tree}
 use Rattle.mich_text.specs.Nodes.{stack_view}
-use Rattle.rules_text.specs.Text.{IsFault}
+use Rattle.mich_text.specs.Plain.{IsFault}
 use Rattle.mich_text.specs.Results.{IsStep, IsRead}
 use Rattle.mich_text.proofs.Reading.{At}
 use Rattle.mich_text.proofs.Verdict.{comment_first}
