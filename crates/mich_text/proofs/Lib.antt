@@ -17,3 +17,5 @@ pub mod Canon
 pub mod Again
 pub mod Signs
 pub mod Unique
+pub mod Cut
+pub mod Shown

@@ -19,7 +19,7 @@ use Rattle.rules_text.specs.Lexical.{flaw, is_word, is_noted, begins_word, after
 
 -- ---- white space and comments
 
-abbrev IsWithin : ℕ → Option (List ℕ) → Type 0
+abbrev pub IsWithin : ℕ → Option (List ℕ) → Type 0
 IsWithin n None = Unit {0}
 IsWithin n (Some rest) = length rest ≤ n
 
@@ -28,7 +28,7 @@ either_within true n x y p q = p
 either_within false n x y p q = q
 
 mutual
-  gap_within : (n : ℕ) (text : List ℕ) → length text ≤ n → IsWithin n (after_gap text)
+  pub gap_within : (n : ℕ) (text : List ℕ) → length text ≤ n → IsWithin n (after_gap text)
   gap_within n [] h = h
   gap_within n (c ∷ rest) h =
       either_within (is_white c) n _ _ (gap_within n rest (omega arith))
@@ -39,11 +39,11 @@ mutual
   slash_within n [] h = h
   slash_within n (c ∷ rest) h = either_within (eqb c 42) n _ _ (block_within n 1 rest (omega arith)) h
 
-  line_within : (n : ℕ) (rest : List ℕ) → length rest ≤ n → IsWithin n (after_line rest)
+  pub line_within : (n : ℕ) (rest : List ℕ) → length rest ≤ n → IsWithin n (after_line rest)
   line_within n [] h = h
   line_within n (c ∷ rest) h = either_within (eqb c 10) n _ _ (gap_within n rest (omega arith)) (line_within n rest (omega arith))
 
-  block_within : (n levels : ℕ) (rest : List ℕ) → length rest ≤ n → IsWithin n (after_block levels rest)
+  pub block_within : (n levels : ℕ) (rest : List ℕ) → length rest ≤ n → IsWithin n (after_block levels rest)
   block_within n levels [] h = tt
   block_within n levels (c ∷ []) h = tt
   block_within n levels (c ∷ d ∷ rest) h =
@@ -84,7 +84,7 @@ annotation_ahead c rest =
     let n = prefix_len is_noted rest in
     either_ahead (ltb name_limit n) (suc (length rest)) _ _ (λ _. (omega arith, refl)) (λ _. omega (arith, length-drop (n + 1) (c ∷ rest)))
 
-abbrev EndsWithin : ℕ → Result (List ℕ) Flaw → Type 0
+abbrev pub EndsWithin : ℕ → Result (List ℕ) Flaw → Type 0
 EndsWithin n (Ok rest) = length rest ≤ n
 EndsWithin n (Err f) = (f.left ≤ n) × (rank f.kind ≡ 0)
 
@@ -97,7 +97,7 @@ escape_within None n s here p h = (h, refl)
 escape_within (Some c) n s here p h = p
 
 mutual
-  spelt_within : (n : ℕ) (text : List ℕ) → length text ≤ n → EndsWithin n (spelt text).end
+  pub spelt_within : (n : ℕ) (text : List ℕ) → length text ≤ n → EndsWithin n (spelt text).end
   spelt_within n [] h = (omega arith, refl)
   spelt_within n (c ∷ rest) h =
       spelt_either (eqb c 34) n _ _ (omega arith)
@@ -145,7 +145,7 @@ number_ahead text =
     (λ _. let positive : n ≡ 0 → ⊥ = eqb-false n 0 (or_false (eqb n 0) (begins_word (drop n digits)) e) in
     omega (arith, length-drop n digits, minus_le text, prefix_len-le-length is_ascii_digit digits)))
 
-digits_ahead : (text : List ℕ) → IsAhead (length text) (digits_at text)
+pub digits_ahead : (text : List ℕ) → IsAhead (length text) (digits_at text)
 digits_ahead [] = made_ahead number 0 (number_at []) (number_ahead [])
 digits_ahead (c ∷ []) = made_ahead number 1 (number_at (c ∷ [])) (number_ahead (c ∷ []))
 digits_ahead (c ∷ d ∷ rest) = either_ahead (begins_bytes (c ∷ d ∷ rest)) (suc (suc (length rest))) _ _ (λ _. made_ahead bytes _ (bytes_at (c ∷ d ∷ rest)) (bytes_ahead c d rest)) (λ _. made_ahead number _ (number_at (c ∷ d ∷ rest)) (number_ahead (c ∷ d ∷ rest)))

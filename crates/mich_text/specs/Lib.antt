@@ -1,6 +1,7 @@
 pub mod Gives
 pub mod Machine
 pub mod Plain
+pub mod Shown
 pub mod Units
 pub mod Views
 pub mod Nodes
