@@ -1,0 +1,221 @@
+-- What is printed is read again, token by token.
+use Rattle.std.specs.Prelude.{◌==◌}
+use Rattle.std.proofs.Common.{◌≡◌, ℕ, zero, suc, ◌+◌, ◌-◌, ◌*◌, ◌/◌, ◌%◌, ◌^◌, ◌≤◌, ◌<◌, Bool, true, false, cond, not, ◌||◌, ◌&&◌, eqb, ltb, leb, List, [], ◌∷◌, ◌++◌, length, take, drop, map, Option, Some, None, ℤ, pos, Result, Ok, Err, refl, sym, ap, subst, ◌∙◌, append_assoc, arith}
+use Rattle.std.proofs.lemmas.Bool.{le-ltb, eqb-true, ltb-true, ne_eqb}
+use Rattle.std.proofs.lemmas.Bool.Decides.{nat_tests}
+use Rattle.std.proofs.lemmas.List.{take_at, drop_at, length-append}
+use Rattle.std.specs.List.{prefix_len, AllByRecursion}
+use Rattle.std.specs.Char.{is_ascii_hexdigit, is_ascii_digit, digit_value}
+use Rattle.std.specs.Str.Parse.{AllDigits, digits_value}
+use Rattle.rules_text.specs.Token.{Token}
+use Rattle.rules_text.specs.declared.Shape.TheVariants.{Digits, Quoted, Word, Note}
+use Rattle.rules_text.specs.Fault.{Flaw}
+use Rattle.rules_text.specs.declared.TextKind.TheVariants.{BadNumber}
+use Rattle.rules_text.specs.Fault.{name_limit, string_limit}
+use Rattle.rules_text.specs.Lexical.{flaw, signed, is_white, is_word, is_noted, begins_word, after_gap, name_at, annotation_at, Spelt, spelt, spelt_escape, with_byte, escaped, string_at, ◌>>=◌, bytes_at, number_at, begins_bytes, paired, nibble, made, shape_of, shape_at, first_shape, token_at}
+use Rattle.rules_text.specs.Printed.{spelling, string_text, hex_digit, hex_pair, bytes_text}
+use Rattle.rules_text.specs.Text.{Leads}
+
+-- what may follow a printed token: nothing, a space or a closing parenthesis
+abbrev pub IsApart : List ℕ → Type 0
+IsApart [] = Unit {0}
+IsApart (c ∷ rest) = (c == 32 || c == 41) ≡ true
+
+abbrev pub IsAll : (ℕ → Bool) → List ℕ → Type 0
+IsAll p [] = Unit {0}
+IsAll p (c ∷ cs) = (p c ≡ true) × IsAll p cs
+
+-- a run of bytes that pass ends where it is printed
+run_ends : (p : ℕ → Bool) (text rest : List ℕ) → IsAll p text → ((c : ℕ) → (c == 32 || c == 41) ≡ true → p c ≡ false) → IsApart rest → prefix_len p (text ++ rest) ≡ length text
+run_ends p [] [] h f a = refl
+run_ends p [] (c ∷ rest) h f a = rw (f c a) refl
+run_ends p (c ∷ text) rest h f a = rw h.0 (omega (arith, run_ends p text rest h.1 f a))
+
+word_apart : (c : ℕ) → (c == 32 || c == 41) ≡ true → is_word c ≡ false
+word_apart c h = grind (arith, nat_tests, h)
+
+noted_apart : (c : ℕ) → (c == 32 || c == 41) ≡ true → is_noted c ≡ false
+noted_apart c h = grind (arith, nat_tests, h)
+
+hex_apart : (c : ℕ) → (c == 32 || c == 41) ≡ true → is_ascii_hexdigit c ≡ false
+hex_apart c h = grind (arith, nat_tests, h)
+
+no_word : (rest : List ℕ) → IsApart rest → begins_word rest ≡ false
+no_word [] a = refl
+no_word (c ∷ rest) a = word_apart c a
+
+-- ---- names and annotations
+
+pub record IsName (n : List ℕ) : Type 0 where
+  pub first : first_shape n ≡ Some Word
+  pub all : IsAll is_word n
+  pub short : length n ≤ name_limit
+
+name_again : (n rest : List ℕ) → IsName n → IsApart rest → name_at (n ++ rest) ≡ Ok (n, rest)
+unfolding name_at
+name_again n rest p a =
+    let run : prefix_len is_word (n ++ rest) ≡ length n = run_ends is_word n rest p.all word_apart a in
+    let short : ltb name_limit (length n) ≡ false = le-ltb _ _ p.short in
+    rw (run, short, take_at n rest (length n) refl, drop_at n rest (length n) refl) refl
+
+pub name_token : (n rest : List ℕ) → IsName n → IsApart rest → token_at (n ++ rest) ≡ Ok (Token.name n, rest)
+unfolding token_at
+name_token [] rest p a = absurd (cc p.first)
+name_token (c ∷ n) rest p a = ap (λ o. shape_at o (c ∷ (n ++ rest))) p.first ∙ ap (made Token.name) (name_again (c ∷ n) rest p a)
+
+-- ---- strings
+
+printable : (c : ℕ) → ((leb 32 c && leb c 126) || (c == 10 || (c == 9 || (c == 8 || c == 13)))) ≡ true → (c == 10) ≡ false → (c == 9) ≡ false → (c == 8) ≡ false → (c == 13) ≡ false → (leb 32 c && leb c 126) ≡ true
+printable c h e1 e2 e3 e4 = by (leb 32 c && leb c 126) (c == 10) (c == 9) (c == 8) (c == 13) h e1 e2 e3 e4 where
+  by : (b d e f g : Bool) → (b || (d || (e || (f || g)))) ≡ true → d ≡ false → e ≡ false → f ≡ false → g ≡ false → b ≡ true
+  by true d e f g h p q r s = refl
+  by false true e f g h p q r s = absurd cc
+  by false false true f g h p q r s = absurd cc
+  by false false false true g h p q r s = absurd cc
+  by false false false false true h p q r s = absurd cc
+  by false false false false false h p q r s = absurd cc
+
+-- the bytes that a string may spell
+abbrev pub is_spelt : ℕ → Bool
+is_spelt c = (leb 32 c && leb c 126) || (c == 10 || (c == 9 || (c == 8 || c == 13)))
+
+spelling_again : (c : ℕ) (rest : List ℕ) → is_spelt c ≡ true → spelt (spelling c ++ rest) ≡ with_byte c (spelt rest)
+spelling_again c rest h = by (c == 10) (c == 92) (c == 34) (c == 9) (c == 8) (c == 13) refl refl refl refl refl refl where
+  by : (b1 b2 b3 b4 b5 b6 : Bool) → (c == 10) ≡ b1 → (c == 92) ≡ b2 → (c == 34) ≡ b3 → (c == 9) ≡ b4 → (c == 8) ≡ b5 → (c == 13) ≡ b6
+      → spelt (cond b1 (92 ∷ 110 ∷ []) (cond b2 (92 ∷ 92 ∷ []) (cond b3 (92 ∷ 34 ∷ []) (cond b4 (92 ∷ 116 ∷ []) (cond b5 (92 ∷ 98 ∷ []) (cond b6 (92 ∷ 114 ∷ []) (c ∷ [])))))) ++ rest) ≡ with_byte c (spelt rest)
+  by true b2 b3 b4 b5 b6 e1 e2 e3 e4 e5 e6 = ap (λ x. with_byte x (spelt rest)) (sym (eqb-true c 10 e1))
+  by false true b3 b4 b5 b6 e1 e2 e3 e4 e5 e6 = ap (λ x. with_byte x (spelt rest)) (sym (eqb-true c 92 e2))
+  by false false true b4 b5 b6 e1 e2 e3 e4 e5 e6 = ap (λ x. with_byte x (spelt rest)) (sym (eqb-true c 34 e3))
+  by false false false true b5 b6 e1 e2 e3 e4 e5 e6 = ap (λ x. with_byte x (spelt rest)) (sym (eqb-true c 9 e4))
+  by false false false false true b6 e1 e2 e3 e4 e5 e6 = ap (λ x. with_byte x (spelt rest)) (sym (eqb-true c 8 e5))
+  by false false false false false true e1 e2 e3 e4 e5 e6 = ap (λ x. with_byte x (spelt rest)) (sym (eqb-true c 13 e6))
+  by false false false false false false e1 e2 e3 e4 e5 e6 =
+      let plain : (leb 32 c && leb c 126) ≡ true = printable c h e1 e4 e5 e6 in
+      rw (e3, e2, plain) refl
+
+string_spelt : (s rest : List ℕ) → IsAll is_spelt s → spelt (string_text s ++ rest) ≡ record { text = s; end = Ok rest }
+string_spelt [] rest h = refl
+string_spelt (c ∷ s) rest h = ap spelt (append_assoc (spelling c) (string_text s) rest) ∙ spelling_again c (string_text s ++ rest) h.0 ∙ ap (with_byte c) (string_spelt s rest h.1)
+
+pub string_token : (s rest : List ℕ) → IsAll is_spelt s → length s ≤ string_limit → token_at (34 ∷ (string_text s ++ rest)) ≡ Ok (Token.string s, rest)
+unfolding token_at string_at
+string_token s rest h short =
+    let fits : ltb string_limit (length s) ≡ false = le-ltb _ _ short in
+    rw (string_spelt s rest h, fits) refl
+
+-- ---- bytes
+
+nibble_again : (d : ℕ) → d < 16 → nibble (hex_digit d) ≡ d
+nibble_again d h = grind (arith, nat_tests)
+
+hex_is : (d : ℕ) → d < 16 → is_ascii_hexdigit (hex_digit d) ≡ true
+hex_is d h = grind (arith, nat_tests)
+
+hexes : (b : List ℕ) → IsAll (λ c. ltb c 256) b → IsAll is_ascii_hexdigit (bytes_text b)
+hexes [] h = tt
+hexes (c ∷ b) h =
+    let lt : c < 256 = ltb-true c 256 h.0 in
+    (hex_is (c / 16) (omega (arith, lt)), (hex_is (c % 16) (omega arith), hexes b h.1))
+
+pairs_again : (b : List ℕ) → IsAll (λ c. ltb c 256) b → paired (bytes_text b) ≡ b
+pairs_again [] h = refl
+pairs_again (c ∷ b) h =
+    let lt : c < 256 = ltb-true c 256 h.0 in
+    let high : c / 16 < 16 = omega (arith, lt) in
+    let low : c % 16 < 16 = omega arith in
+    let whole : nibble (hex_digit (c / 16)) * 16 + nibble (hex_digit (c % 16)) ≡ c = omega (arith, nibble_again (c / 16) high, nibble_again (c % 16) low) in
+    rw (whole, pairs_again b h.1) refl
+
+bytes_length : (b : List ℕ) → length (bytes_text b) ≡ 2 * length b
+bytes_length [] = refl
+bytes_length (c ∷ b) = omega (arith, bytes_length b)
+
+pub bytes_again : (b rest : List ℕ) → IsAll (λ c. ltb c 256) b → length b ≤ string_limit → IsApart rest → bytes_at (48 ∷ 120 ∷ (bytes_text b ++ rest)) ≡ Ok (b, rest)
+unfolding bytes_at
+bytes_again b rest h short a =
+    let n = length (bytes_text b) in
+    let run : prefix_len is_ascii_hexdigit (bytes_text b ++ rest) ≡ n = run_ends is_ascii_hexdigit (bytes_text b) rest (hexes b h) hex_apart a in
+    let half : n / 2 ≡ length b = omega (arith, bytes_length b) in
+    let even : n % 2 ≡ 0 = omega (arith, bytes_length b) in
+    let fits : ltb string_limit (length b) ≡ false = le-ltb _ _ short in
+    rw (run, take_at (bytes_text b) rest n refl, drop_at (bytes_text b) rest n refl, half, even, fits, no_word rest a, pairs_again b h) refl
+
+pub bytes_token : (b rest : List ℕ) → IsAll (λ c. ltb c 256) b → length b ≤ string_limit → IsApart rest → token_at (48 ∷ 120 ∷ (bytes_text b ++ rest)) ≡ Ok (Token.bytes b, rest)
+unfolding token_at
+bytes_token b rest h short a = ap (made Token.bytes) (bytes_again b rest h short a)
+
+-- ---- gaps
+
+-- no white space and no comment
+abbrev pub is_solid : ℕ → Bool
+is_solid c = not (is_white c || (c == 35 || c == 47))
+
+solid_by : (b d e : Bool) (x y z w : Option (List ℕ)) → not (b || (d || e)) ≡ true → cond b x (cond d y (cond e z w)) ≡ w
+solid_by true d e x y z w k = absurd cc
+solid_by false true e x y z w k = absurd cc
+solid_by false false true x y z w k = absurd cc
+solid_by false false false x y z w k = refl
+
+pub solid_gap : (c : ℕ) (rest : List ℕ) → is_solid c ≡ true → after_gap (c ∷ rest) ≡ Some (c ∷ rest)
+solid_gap c rest h = solid_by (is_white c) (c == 35) (c == 47) (after_gap rest) _ _ (Some (c ∷ rest)) h
+
+-- a token in front
+pub token_leads : (c : ℕ) (cs rest : List ℕ) (t : Token) (us : List Token) (r : Option (List ℕ)) → is_solid c ≡ true → token_at (c ∷ (cs ++ rest)) ≡ Ok (t, rest) → Leads rest us r → Leads (c ∷ (cs ++ rest)) (t ∷ us) r
+token_leads c cs rest t us r solid read p = (c ∷ (cs ++ rest), rest, solid_gap c (cs ++ rest) solid, read, p)
+
+-- a space in front
+pub space_leads : (text : List ℕ) (ts : List Token) (r : Option (List ℕ)) → Leads text ts r → Leads (32 ∷ text) ts r
+space_leads text [] r p = p
+space_leads text (t ∷ ts) r p = p
+
+-- ---- numbers and annotations
+
+digit_passes : (c : ℕ) → digit_value c < 10 → is_ascii_digit c ≡ true
+digit_passes c h = grind (arith, nat_tests, h)
+
+digits_pass : (ds : List ℕ) → AllDigits 10 ds → IsAll is_ascii_digit ds
+digits_pass [] h = tt
+digits_pass (c ∷ ds) h = (digit_passes c h.0, digits_pass ds h.1)
+
+digit_apart : (c : ℕ) → (c == 32 || c == 41) ≡ true → is_ascii_digit c ≡ false
+digit_apart c h = grind (arith, nat_tests, h)
+
+not_minus : (c : ℕ) → is_ascii_digit c ≡ true → (c == 45) ≡ false
+not_minus c h = grind (arith, nat_tests, h)
+
+not_x : (c : ℕ) → is_ascii_digit c ≡ true → (c == 120) ≡ false
+not_x c h = grind (arith, nat_tests, h)
+
+apart_not_x : (c : ℕ) → (c == 32 || c == 41) ≡ true → (c == 120) ≡ false
+apart_not_x c h = grind (arith, nat_tests, h)
+
+zero_apart : (c : ℕ) → (c == 32 || c == 41) ≡ true → (c == 48) ≡ false
+zero_apart c h = grind (arith, nat_tests, h)
+
+and_false : (b : Bool) → (b && false) ≡ false
+and_false true = refl
+and_false false = refl
+
+-- decimal digits aren't the beginning of bytes
+no_bytes : (ds rest : List ℕ) → IsAll is_ascii_digit ds → IsApart rest → begins_bytes (ds ++ rest) ≡ false
+no_bytes [] [] h a = refl
+no_bytes [] (c ∷ []) h a = refl
+no_bytes [] (c ∷ d ∷ rest) h a = rw (zero_apart c a) refl
+no_bytes (c ∷ []) [] h a = refl
+no_bytes (c ∷ []) (d ∷ rest) h a = rw (apart_not_x d a) (and_false (c == 48))
+no_bytes (c ∷ d ∷ ds) rest h a = rw (not_x d h.1.0) (and_false (c == 48))
+
+pub positive_again : (n : ℕ) (ds rest : List ℕ) → n < 2 ^ 127 → 0 < length ds → AllDigits 10 ds → digits_value 10 ds ≡ n → IsApart rest → number_at (ds ++ rest) ≡ Ok (pos n, rest)
+unfolding number_at
+positive_again n [] rest small some all value a = absurd (omega arith)
+positive_again n (c ∷ ds) rest small some all value a =
+    let pass = digits_pass (c ∷ ds) all in
+    let minus : (c == 45) ≡ false = not_minus c pass.0 in
+    let run : prefix_len is_ascii_digit (c ∷ (ds ++ rest)) ≡ length (c ∷ ds) = run_ends is_ascii_digit (c ∷ ds) rest pass digit_apart a in
+    let fits : ltb (2 ^ 127 - 1) n ≡ false = le-ltb _ _ (omega arith) in
+    let none : eqb (length (c ∷ ds)) 0 ≡ false = ne_eqb (length (c ∷ ds)) 0 (λ e. omega (arith, e)) in
+    by (c == 45) minus none run fits where
+      by : (b : Bool) → b ≡ false → eqb (length (c ∷ ds)) 0 ≡ false → prefix_len is_ascii_digit (c ∷ (ds ++ rest)) ≡ length (c ∷ ds) → ltb (2 ^ 127 - 1) n ≡ false → let digits = cond b (ds ++ rest) (c ∷ (ds ++ rest)) in let m = prefix_len is_ascii_digit digits in
+          cond (eqb m 0 || begins_word (drop m digits)) (flaw {A = ℤ × List ℕ} BadNumber (c ∷ (ds ++ rest))) (cond (ltb (cond b (2 ^ 127) (2 ^ 127 - 1)) (digits_value 10 (take m digits))) (flaw {A = ℤ × List ℕ} BadNumber (c ∷ (ds ++ rest))) (Ok (signed b (digits_value 10 (take m digits)), drop m digits))) ≡ Ok (pos n, rest)
+      by true e none run fits = absurd cc
+      by false e none run fits = rw (run, take_at ds rest (length ds) refl, drop_at ds rest (length ds) refl, none, no_word rest a, value, fits) refl

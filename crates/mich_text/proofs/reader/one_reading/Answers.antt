@@ -1,0 +1,11 @@
+use Rattle.mich_text.proofs.Unique.{one_fault, one_statement, no_fault_at_node}
+use Rattle.mich_text.proofs.reader.one_reading.Goals as goal
+
+pub returns-clause-faults : goal.returns-clause-faults
+returns-clause-faults c = one_fault
+
+pub returns-clause-nodes : goal.returns-clause-nodes
+returns-clause-nodes c = one_statement
+
+pub returns-clause-apart : goal.returns-clause-apart
+returns-clause-apart c = no_fault_at_node

@@ -1,0 +1,9 @@
+pub mod Gives
+pub mod Machine
+pub mod Plain
+pub mod Shown
+pub mod Units
+pub mod Views
+pub mod Nodes
+pub mod Results
+pub mod Canonical

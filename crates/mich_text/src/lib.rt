@@ -1,0 +1,22 @@
+//! Micheline text: one statement of it is read, and a node is printed.
+#![tactic(auto)]
+
+mod fault;
+mod lexical;
+mod node;
+mod parser;
+mod reader;
+mod token;
+
+pub use fault::TextError;
+pub use reader::{Placed, read_statement};
+pub use rules_text::TextKind;
+
+// How many bytes a name may have, and an annotation behind its sign.
+const NAME_LIMIT: usize = 255;
+
+// How many bytes a string may spell, and bytes may be.
+const STRING_LIMIT: usize = 1_048_576;
+
+// How deep a node may lie.
+const DEPTH_LIMIT: usize = 1000;
