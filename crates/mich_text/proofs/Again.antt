@@ -8,7 +8,8 @@ use Rattle.rules_text.specs.Token.{Token}
 use Rattle.rules_text.specs.Syntax.{Node, Items, no_items, with_annotation, with_name, with_node, parens, Element, Separated, nothing, followed, node_tokens, item_tokens, element_tokens, separated_tokens, IsStatement}
 use Rattle.rules_text.specs.Lexical.{is_word, is_noted, after_gap, token_at, shape_of}
 use Rattle.rules_text.specs.Text.{Leads}
-use Rattle.rules_text.specs.Printed.{number_text, string_text, bytes_text, annotations_text, in_parens, is_wrapped, printed, arguments_text, elements_text}
+use Rattle.std.specs.Fmt.{signed_decimal}
+use Rattle.rules_text.specs.Printed.{string_text, bytes_text, annotations_text, in_parens, is_wrapped, printed, arguments_text, elements_text}
 use Rattle.mich_text.specs.Canonical.{with_notes, wrapped, element_of, with_argument, with_arguments, sequence}
 use Rattle.rules_text.specs.Fault.{name_limit, string_limit}
 use Rattle.mich_text.proofs.Printing.{IsApart, IsAll, IsName, name_token, is_spelt, string_token, bytes_token, is_solid, solid_gap, space_leads}
@@ -23,7 +24,7 @@ pub record IsToken (text : List ℕ) (t : Token) : Type 0 where
 
 abbrev mutual
   pub IsPrintable : Tree → Type 0
-  IsPrintable (int n) = IsToken (number_text n) (Token.number n)
+  IsPrintable (int n) = IsToken (signed_decimal n) (Token.number n)
   IsPrintable (str s) = IsAll is_spelt s × (length s ≤ string_limit)
   IsPrintable (Tree.bytes b) = IsAll (λ c. ltb c 256) b × (length b ≤ string_limit)
   IsPrintable (prim n ns xs) = IsToken n (Token.name n) × AllByRecursion (λ a. IsToken a (Token.annotation a)) ns × ArePrintable xs
@@ -143,7 +144,7 @@ follows_one s e x xs p q = record {
 
 mutual
   pub element_writes : (t : Tree) → IsPrintable t → Writes (printed t) (element_tokens (element_of t))
-  element_writes (int n) h = token_writes (number_text n) (Token.number n) h
+  element_writes (int n) h = token_writes (signed_decimal n) (Token.number n) h
   element_writes (str s) h = token_writes (34 ∷ string_text s) (Token.string s) (string_is s h.0 h.1)
   element_writes (Tree.bytes b) h = token_writes (48 ∷ 120 ∷ bytes_text b) (Token.bytes b) (bytes_is b h.0 h.1)
   element_writes (prim n ns xs) h = prim_writes n ns xs h.0 (notes_add no_items ns h.1) (arguments_add (with_notes no_items ns) xs h.2)
@@ -151,7 +152,7 @@ mutual
   element_writes (seq (more x xs)) h = sequence_writes x xs (element_writes x h.0) (elements_follow nothing (element_of x) xs h.1)
 
   argument_adds : (i : Items) (t : Tree) → IsPrintable t → Adds (32 ∷ in_parens (is_wrapped t) (printed t)) i (with_argument i t)
-  argument_adds i (int n) h = node_adds i _ (number_text n) (token_writes (number_text n) (Token.number n) h)
+  argument_adds i (int n) h = node_adds i _ (signed_decimal n) (token_writes (signed_decimal n) (Token.number n) h)
   argument_adds i (str s) h = node_adds i _ (34 ∷ string_text s) (token_writes (34 ∷ string_text s) (Token.string s) (string_is s h.0 h.1))
   argument_adds i (Tree.bytes b) h = node_adds i _ (48 ∷ 120 ∷ bytes_text b) (token_writes (48 ∷ 120 ∷ bytes_text b) (Token.bytes b) (bytes_is b h.0 h.1))
   argument_adds i (prim n ns xs) h = wrapped_adds i n ns xs (with_arguments (with_notes no_items ns) xs) h.0 (prim_writes n ns xs h.0 (notes_add no_items ns h.1) (arguments_add (with_notes no_items ns) xs h.2))

@@ -1,4 +1,5 @@
 pub mod Gives
+pub mod Line
 pub mod Machine
 pub mod Plain
 pub mod Shown

@@ -3,12 +3,14 @@
 
 mod fault;
 mod lexical;
+mod line;
 mod node;
 mod parser;
 mod reader;
 mod token;
 
 pub use fault::TextError;
+pub use line::print;
 pub use reader::{Placed, read_statement};
 pub use rules_text::TextKind;
 

@@ -1,7 +1,6 @@
 -- The one line that stands for a node.
-use Rattle.std.specs.Prelude.{◌≡◌, ℕ, ◌+◌, ◌-◌, ◌*◌, ◌/◌, ◌%◌, ℤ, pos, negsuc, List, [], ◌∷◌, ◌++◌, length, Bool, true, false, nat_le, ◌==◌, Option, Some, None, if◌then◌else◌}
-use Rattle.std.specs.List.{flat_map}
-use Rattle.std.specs.Fmt.{decimal}
+use Rattle.std.specs.Prelude.{◌≡◌, ℕ, ◌+◌, ◌-◌, ◌*◌, ◌/◌, ◌%◌, List, [], ◌∷◌, ◌++◌, length, Bool, true, false, nat_le, ◌==◌, Option, Some, None, if◌then◌else◌}
+use Rattle.std.specs.Fmt.{signed_decimal}
 use Rattle.rules_base.specs.Tree.{Tree, int, str, prim, seq, Trees, none, more}
 
 -- a byte of a string
@@ -15,10 +14,6 @@ hex_digit d = if nat_le d 9 then 48 + d else 87 + d
 -- a byte in lower case
 abbrev pub hex_pair : ℕ → List ℕ
 hex_pair b = hex_digit (b / 16) ∷ hex_digit (b % 16) ∷ []
-
-abbrev pub number_text : ℤ → List ℕ
-number_text (pos n) = decimal n
-number_text (negsuc n) = 45 ∷ decimal (n + 1)
 
 abbrev pub string_text : List ℕ → List ℕ
 string_text [] = 34 ∷ []
@@ -48,7 +43,7 @@ is_wrapped (seq xs) = false
 
 abbrev mutual
   pub printed : Tree → List ℕ
-  printed (int n) = number_text n
+  printed (int n) = signed_decimal n
   printed (str s) = 34 ∷ string_text s
   printed (Tree.bytes b) = 48 ∷ 120 ∷ bytes_text b
   printed (prim n ns xs) = n ++ (annotations_text ns ++ arguments_text xs)

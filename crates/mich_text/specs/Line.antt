@@ -1,0 +1,9 @@
+-- Elements of a sequence, as they are written one after another.
+use Rattle.std.specs.Prelude.{ℕ, List, [], ◌++◌}
+use Rattle.rules_base.specs.Tree.{Trees, none, more}
+use Rattle.rules_text.specs.Printed.{printed, elements_text}
+
+-- the first behind this separator, each other behind a `;`
+abbrev pub joined : List ℕ → Trees → List ℕ
+joined separator none = []
+joined separator (more x xs) = separator ++ (printed x ++ elements_text xs)
