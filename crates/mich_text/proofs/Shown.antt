@@ -89,9 +89,11 @@ stays_unclosed : (more : List ℕ) (again : Spelt) → Stays more (record { text
 stays_unclosed more again = (omega arith, λ f e h. absurd (h (ap (λ (g : Flaw). g.kind) (sym (same_err {A = List ℕ} (record { kind = Unclosed; left = 0 }) f e)))))
 
 stays_bad : (more here there : List ℕ) → length there ≡ length here + length more → Stays more (record { text = []; end = flaw BadString here }) (record { text = []; end = flaw BadString there })
-stays_bad more here there n =
-    (omega arith, λ f e h. let same = same_err {A = List ℕ} (record { kind = BadString; left = length here }) f e in
-    ap (λ (k : ℕ). record { text = []; end = Err (record { kind = BadString; left = k }) }) n ∙ ap (λ (g : Flaw). record { text = []; end = Err (moved (length more) g) }) same)
+stays_bad more here there n = (
+  omega arith,
+  λ f e h. let same = same_err {A = List ℕ} (record { kind = BadString; left = length here }) f e in
+      ap (λ (k : ℕ). record { text = []; end = Err (record { kind = BadString; left = k }) }) n ∙ ap (λ (g : Flaw). record { text = []; end = Err (moved (length more) g) }) same,
+)
 
 stays_escape : (o : Option ℕ) (more here there : List ℕ) (s again : Spelt) → length there ≡ length here + length more → Stays more s again → Stays more (with_escape o s here) (with_escape o again there)
 stays_escape None more here there s again n p = stays_bad more here there n

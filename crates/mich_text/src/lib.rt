@@ -22,3 +22,6 @@ const STRING_LIMIT: usize = 1_048_576;
 
 // How deep a node may lie.
 const DEPTH_LIMIT: usize = 1000;
+
+#[cfg(test)]
+mod tests;

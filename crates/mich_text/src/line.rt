@@ -60,7 +60,11 @@ fn hex_digit(half: u8) -> u8
     requires { half < 16 }
     ensures { result ≡ hex_digit half }
 {
-    if half <= 9 { b'0' + half } else { b'a' - 10 + half }
+    if half <= 9 {
+        b'0' + half
+    } else {
+        b'a' - 10 + half
+    }
 }
 
 fn put_hex_pair(line: &mut Vec<u8>, byte: u8) -> Result<(), Memory>

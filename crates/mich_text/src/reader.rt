@@ -206,11 +206,7 @@ fn with_places(bytes: &[u8], found: Found) -> Placed
 
 /// Reads the statement that begins at a place, or none where only white space and comments follow it. The fault of the
 /// text with its place, or Memory, where no statement is there (Octez "Micheline").
-pub fn read_statement(
-    alloc: Global,
-    bytes: &[u8],
-    place: u64,
-) -> Result<Option<Placed>, TextError>
+pub fn read_statement(alloc: Global, bytes: &[u8], place: u64) -> Result<Option<Placed>, TextError>
     requires { place ≤ length bytes.now }
     ensures { IsText bytes.now place result }
 {
