@@ -1,18 +1,17 @@
 -- What is printed of a node is read as that node.
-use Rattle.std.specs.Prelude.{◌==◌}
-use Rattle.std.proofs.Common.{◌≡◌, ℕ, ℤ, suc, ◌+◌, ◌≤◌, ◌<◌, Bool, true, false, ◌||◌, ltb, List, [], ◌∷◌, ◌++◌, length, Option, Some, None, Result, Ok, refl, sym, ap, subst, ◌∙◌, append_assoc, arith}
+use Rattle.std.proofs.Common.{◌≡◌, ℕ, ◌≤◌, true, ltb, List, [], ◌∷◌, ◌++◌, length, Option, Some, Ok, refl, sym, ap, subst, ◌∙◌, append_assoc}
 use Rattle.std.proofs.lemmas.List.{append-nil}
 use Rattle.std.specs.List.{AllByRecursion}
 use Rattle.rules_base.specs.Tree.{Tree, int, str, prim, seq, Trees, none, more}
 use Rattle.rules_text.specs.Token.{Token}
-use Rattle.rules_text.specs.Syntax.{Node, Items, no_items, with_annotation, with_name, with_node, parens, Element, Separated, nothing, followed, node_tokens, item_tokens, element_tokens, separated_tokens, IsStatement}
-use Rattle.rules_text.specs.Lexical.{is_word, is_noted, after_gap, token_at, shape_of}
+use Rattle.rules_text.specs.Syntax.{Node, Items, no_items, with_annotation, with_node, parens, Element, Separated, nothing, followed, node_tokens, item_tokens, element_tokens, separated_tokens, IsStatement}
+use Rattle.rules_text.specs.Lexical.{after_gap, token_at}
 use Rattle.rules_text.specs.Text.{Leads}
 use Rattle.std.specs.Fmt.{signed_decimal}
 use Rattle.rules_text.specs.Printed.{string_text, bytes_text, annotations_text, in_parens, is_wrapped, printed, arguments_text, elements_text}
 use Rattle.mich_text.specs.Canonical.{with_notes, wrapped, element_of, with_argument, with_arguments, sequence}
-use Rattle.rules_text.specs.Fault.{name_limit, string_limit}
-use Rattle.mich_text.proofs.Printing.{IsApart, IsAll, IsName, name_token, is_spelt, string_token, bytes_token, is_solid, solid_gap, space_leads}
+use Rattle.rules_text.specs.Fault.{string_limit}
+use Rattle.mich_text.proofs.Printing.{IsApart, IsAll, is_spelt, string_token, bytes_token, is_solid, solid_gap, space_leads}
 use Rattle.mich_text.proofs.Canon.{element_is}
 
 -- ---- which nodes are printed

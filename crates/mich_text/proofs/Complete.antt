@@ -1,11 +1,10 @@
 -- The parser takes the tokens of every list of statements that is no deeper than its limit, and so each front of them.
-use Rattle.std.proofs.Common.{◌≡◌, ℕ, suc, ◌+◌, ◌≤◌, max, Bool, true, false, cond, ltb, List, [], ◌∷◌, ◌++◌, length, Result, Ok, Err, refl, sym, ap, ◌∙◌, append_assoc, arith}
+use Rattle.std.proofs.Common.{◌≡◌, ℕ, ◌+◌, ◌≤◌, Bool, true, false, List, [], ◌∷◌, ◌++◌, length, Result, Ok, Err, refl, ap, ◌∙◌, arith}
 use Rattle.std.proofs.lemmas.Bool.{le-ltb}
-use Rattle.std.proofs.lemmas.List.{append-nil}
-use Rattle.rules_base.specs.Tree.{Tree, int, str, prim, seq, none, trees_of}
+use Rattle.rules_base.specs.Tree.{Tree}
 use Rattle.rules_text.specs.Token.{Token}
 use Rattle.rules_text.specs.Syntax.{Node, number, bytes, string, parens, braces, braces_to, Items, no_items, with_annotation, with_name, with_node, Element, alone, application, Separated, nothing, followed, Statements, ended, unended, node_tokens, item_tokens, element_tokens, separated_tokens, statements_tokens, annotations, node_tree, arguments, element_tree, separated_trees, node_depth, items_depth, element_depth, separated_depth, statements_depth}
-use Rattle.mich_text.specs.Machine.{Frame, elements, named, paren, Refusal, unexpected, too_deep, Stack, is_open, add, begins, finish, at_semicolon, at_close_brace, is_root, step, then_run, run, start}
+use Rattle.mich_text.specs.Machine.{elements, named, paren, Refusal, Stack, is_open, add, begins, finish, at_semicolon, at_close_brace, is_root, step, then_run, run, start}
 
 after : (r : Result Stack Refusal) (f g : Stack → Result Stack Refusal) (h : Stack → Result Stack Refusal) → ((n : Stack) → f n ≡ then_run (g n) h) → then_run r f ≡ then_run (then_run r g) h
 after (Ok n) f g h e = e n

@@ -1,16 +1,14 @@
 -- The parser takes a token exactly where the tokens begin some list of statements.
-use Rattle.std.proofs.Common.{◌≡◌, ℕ, suc, ◌+◌, ◌≤◌, ◌<◌, max, Bool, true, false, cond, ltb, List, [], ◌∷◌, ◌++◌, length, Option, Some, None, Result, Ok, Err, refl, sym, ap, subst, ◌∙◌, append_assoc, arith}
-use Rattle.std.proofs.lemmas.Bool.{ltb-false, ltb-true, le-ltb}
+use Rattle.std.proofs.Common.{◌≡◌, ℕ, ◌≤◌, max, Bool, true, false, cond, ltb, List, [], ◌∷◌, ◌++◌, length, Option, Some, None, Result, Ok, Err, refl, sym, ap, subst, ◌∙◌, append_assoc, arith}
+use Rattle.std.proofs.lemmas.Bool.{ltb-false, le-ltb}
 use Rattle.std.proofs.lemmas.List.{append-nil}
-use Rattle.rules_base.specs.Tree.{Tree}
 use Rattle.rules_text.specs.Token.{Token, token_shape}
 use Rattle.rules_text.specs.declared.Shape.{Shape}
 use Rattle.rules_text.specs.declared.Shape.TheVariants.{Digits, Quoted, Word, Note, OpenBrace, CloseBrace, OpenParen, CloseParen, Semicolon}
-use Rattle.rules_text.specs.Syntax.{Element, element_tokens, element_tree, element_depth, Separated, nothing, followed, separated_tokens, separated_trees, Statements, ended, unended, statements_tokens, statements_depth, IsFront, IsFrontWithin, IsWhole, IsStatement}
-use Rattle.mich_text.specs.Machine.{Frame, elements, named, paren, Refusal, unexpected, too_deep, Stack, is_open, add, begins, finish, step, on, put, no_begin, no_word, no_note, no_close_paren, no_close_brace, no_semicolon, refused, ready_for, is_root, has_statement, then_run, run, start}
-use Rattle.std.proofs.lemmas.List.{same_from_push, length-append}
-use Rattle.mich_text.proofs.Complete.{run-append, run_then, run_one, run_none, statements_run, element_runs}
-use Rattle.mich_text.proofs.Sound.{Spelt, start_spelt, step_spelt, finish_spelt, completes}
+use Rattle.rules_text.specs.Syntax.{statements_depth, IsFront, IsFrontWithin}
+use Rattle.mich_text.specs.Machine.{elements, named, paren, Refusal, unexpected, too_deep, Stack, is_open, begins, step, on, put, no_begin, no_word, no_note, no_close_paren, no_close_brace, no_semicolon, refused, ready_for, then_run, run, start}
+use Rattle.mich_text.proofs.Complete.{run-append, run_then, run_one, run_none, statements_run}
+use Rattle.mich_text.proofs.Sound.{Spelt, start_spelt, step_spelt, completes}
 
 -- ---- a step is a test and then a change
 

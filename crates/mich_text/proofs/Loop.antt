@@ -1,27 +1,26 @@
 -- The reader's loop.
-use Rattle.std.proofs.Common.{◌≡◌, ℕ, ◌<◌, ◌≤◌, Bool, true, false, List, [], ◌∷◌, ◌++◌, length, Option, Some, None, Result, Ok, Err, refl, sym, ap, subst, ◌∙◌, arith}
+use Rattle.std.proofs.Common.{◌≡◌, ℕ, ◌<◌, true, false, List, [], ◌∷◌, ◌++◌, length, Option, Some, None, Result, Ok, Err, sym, ap, subst, ◌∙◌, arith}
 use Rattle.rules_base.specs.Tree.{Tree}
 use Rattle.rules_text.specs.Token.{Token}
-use Rattle.rules_text.specs.Syntax.{Element, element_tokens, alone, application}
-use Rattle.mich_text.specs.Machine.{Stack, Refusal, unexpected, too_deep, finish, is_root, has_statement, ended_tree, ready_for, refused, step, run, start}
-use Rattle.rules_text.specs.Lexical.{after_gap, token_at, first_shape}
+use Rattle.rules_text.specs.Syntax.{element_tokens}
+use Rattle.mich_text.specs.Machine.{Stack, unexpected, too_deep, finish, is_root, has_statement, ended_tree, start}
+use Rattle.rules_text.specs.Lexical.{after_gap}
 use Rattle.mich_text.specs.Plain.{IsFault, IsNode, IsEnd}
 use Rattle.mich_base.specs.View.{tree}
-use Rattle.mich_text.specs.Results.{kind_of, Refuses, at_first_byte, no_place, later, IsStep, IsRead, IsWithinText}
+use Rattle.mich_text.specs.Results.{Refuses, at_first_byte, no_place, later, IsStep, IsRead, IsWithinText}
 use Rattle.rules_text.specs.Fault.{Flaw}
 use Rattle.mich_text.specs.Gives.{flaw_view}
 use Rattle.mich_text.specs.declared.fault.LexError.{LexError}
 use Rattle.mich_text.specs.declared.fault.LexError.TheVariants as errors
-use Rattle.rules_text.specs.declared.TextKind.TheVariants.{Unclosed, Unexpected, TooDeep}
+use Rattle.rules_text.specs.declared.TextKind.TheVariants.{Unclosed}
 use Rattle.mich_text.specs.declared.reader.Found.{Found}
-use Rattle.mich_text.specs.declared.reader.Step.{Step as CodeStep}
 use Rattle.mich_text.specs.declared.reader.Step.TheVariants.{Taken, Statement}
 use Rattle.rules_text.specs.Fault.{depth_limit}
 use Rattle.mich_text.proofs.Complete.{run_none}
 use Rattle.mich_text.proofs.Places.{gap_le, token_shorter}
 use Rattle.mich_text.proofs.Whole.{NoStatement, still_none}
 use Rattle.mich_text.proofs.Reading.{At}
-use Rattle.mich_text.proofs.Verdict.{flawed_first, unexpected_here, deep_here, flawed_later, open_at_end, node_at_end, nothing_here, at_next, node_at_sign, comment_first, comment_behind, holds_within, node_within}
+use Rattle.mich_text.proofs.Verdict.{flawed_first, unexpected_here, deep_here, flawed_later, open_at_end, node_at_end, nothing_here, at_next, node_at_sign, comment_behind, holds_within, node_within}
 
 none_yet : NoStatement []
 none_yet e more h = none (element_tokens e) h where

@@ -1,19 +1,18 @@
 -- What is printed is read again, token by token.
 use Rattle.std.specs.Prelude.{◌==◌}
-use Rattle.std.proofs.Common.{◌≡◌, ℕ, zero, suc, ◌+◌, ◌-◌, ◌*◌, ◌/◌, ◌%◌, ◌^◌, ◌≤◌, ◌<◌, Bool, true, false, cond, not, ◌||◌, ◌&&◌, eqb, ltb, leb, List, [], ◌∷◌, ◌++◌, length, take, drop, map, Option, Some, None, ℤ, pos, Result, Ok, Err, refl, sym, ap, subst, ◌∙◌, append_assoc, arith}
+use Rattle.std.proofs.Common.{◌≡◌, ℕ, ◌+◌, ◌-◌, ◌*◌, ◌/◌, ◌%◌, ◌^◌, ◌≤◌, ◌<◌, Bool, true, false, cond, not, ◌||◌, ◌&&◌, eqb, ltb, leb, List, [], ◌∷◌, ◌++◌, length, take, drop, Option, Some, ℤ, pos, Ok, refl, sym, ap, ◌∙◌, append_assoc, arith}
 use Rattle.std.proofs.lemmas.Bool.{le-ltb, eqb-true, ltb-true, ne_eqb}
 use Rattle.std.proofs.lemmas.Bool.Decides.{nat_tests}
-use Rattle.std.proofs.lemmas.List.{take_at, drop_at, length-append}
-use Rattle.std.specs.List.{prefix_len, AllByRecursion}
+use Rattle.std.proofs.lemmas.List.{take_at, drop_at}
+use Rattle.std.specs.List.{prefix_len}
 use Rattle.std.specs.Char.{is_ascii_hexdigit, is_ascii_digit, digit_value}
 use Rattle.std.specs.Str.Parse.{AllDigits, digits_value}
 use Rattle.rules_text.specs.Token.{Token}
-use Rattle.rules_text.specs.declared.Shape.TheVariants.{Digits, Quoted, Word, Note}
-use Rattle.rules_text.specs.Fault.{Flaw}
+use Rattle.rules_text.specs.declared.Shape.TheVariants.{Word}
 use Rattle.rules_text.specs.declared.TextKind.TheVariants.{BadNumber}
 use Rattle.rules_text.specs.Fault.{name_limit, string_limit}
-use Rattle.rules_text.specs.Lexical.{flaw, signed, is_white, is_word, is_noted, begins_word, after_gap, name_at, annotation_at, Spelt, spelt, spelt_escape, with_byte, escaped, string_at, ◌>>=◌, bytes_at, number_at, begins_bytes, paired, nibble, made, shape_of, shape_at, first_shape, token_at}
-use Rattle.rules_text.specs.Printed.{spelling, string_text, hex_digit, hex_pair, bytes_text}
+use Rattle.rules_text.specs.Lexical.{flaw, signed, is_white, is_word, is_noted, begins_word, after_gap, name_at, spelt, with_byte, string_at, bytes_at, number_at, begins_bytes, paired, nibble, made, shape_at, first_shape, token_at}
+use Rattle.rules_text.specs.Printed.{spelling, string_text, hex_digit, bytes_text}
 use Rattle.rules_text.specs.Text.{Leads}
 
 -- what may follow a printed token: nothing, a space or a closing parenthesis

@@ -1,22 +1,19 @@
 -- What the text is, from what the parser has read of it.
-use Rattle.std.proofs.Common.{◌≡◌, ℕ, suc, ◌+◌, ◌≤◌, ◌<◌, ◌⊎◌, Bool, true, false, List, [], ◌∷◌, ◌++◌, length, Option, Some, None, Result, Ok, Err, refl, sym, ap, subst, ◌∙◌, append_assoc, arith, inl, inr}
-use Rattle.std.proofs.lemmas.List.{append-nil}
-use Rattle.rules_base.specs.Tree.{Tree}
+use Rattle.std.proofs.Common.{◌≡◌, ℕ, ◌≤◌, ◌<◌, ◌⊎◌, List, [], ◌∷◌, ◌++◌, length, Option, Some, None, Ok, Err, refl, sym, ap, subst, ◌∙◌, append_assoc, arith, inl, inr}
 use Rattle.rules_text.specs.Token.{Token, token_shape}
-use Rattle.rules_text.specs.Syntax.{IsFront, IsFrontWithin, IsWhole, IsStatement, unended, nothing, element_tokens}
-use Rattle.mich_text.specs.Machine.{Stack, Refusal, unexpected, too_deep, finish, is_root, has_statement, ended_tree, ready_for, refused, step, put, run, start}
-use Rattle.rules_text.specs.Lexical.{after_gap, token_at, first_shape, shape_of}
-use Rattle.rules_text.specs.Text.{Leads, IsInComment, IsOpen, IsUnexpected, IsTooDeep, EndsAt, Stands}
-use Rattle.mich_text.specs.Plain.{IsFlawed, Holds, flawed, in_comment, is_open, unexpected as is_unexpected, too_deep as is_too_deep, rank, IsFirst, IsFault, IsNode, IsEnd}
+use Rattle.rules_text.specs.Syntax.{IsFront, IsFrontWithin}
+use Rattle.mich_text.specs.Machine.{Stack, run, start}
+use Rattle.rules_text.specs.Lexical.{after_gap, token_at, first_shape}
+use Rattle.rules_text.specs.Text.{Leads}
+use Rattle.mich_text.specs.Plain.{Holds, flawed, in_comment, is_open, unexpected as is_unexpected, too_deep as is_too_deep}
 use Rattle.rules_text.specs.declared.Shape.{Shape}
-use Rattle.rules_text.specs.declared.Shape.TheVariants.{Digits, Quoted, Word, Note, OpenBrace, CloseBrace, OpenParen, CloseParen, Semicolon}
 use Rattle.rules_text.specs.Fault.{Flaw}
 use Rattle.rules_text.specs.declared.TextKind.{TextKind}
 use Rattle.rules_text.specs.declared.TextKind.TheVariants.{Unclosed, Unexpected, TooDeep}
 use Rattle.rules_text.specs.Fault.{depth_limit}
-use Rattle.mich_text.proofs.Places.{gap_le, token_shorter, flaw_le, token_shape_is, okay_is}
-use Rattle.mich_text.proofs.Fronts.{step_ok, run_more, run_split, is_front_within, is_front, no_front, no_front_within, deeper_front}
-use Rattle.mich_text.proofs.Whole.{NoStatement, is_statement, whole_is_root, is_nothing}
+use Rattle.mich_text.proofs.Places.{gap_le, token_shorter, token_shape_is, okay_is}
+use Rattle.mich_text.proofs.Fronts.{run_split, is_front_within, is_front}
+use Rattle.mich_text.proofs.Whole.{NoStatement}
 
 -- ---- one text has one sequence of tokens
 

@@ -4,7 +4,6 @@ use Rattle.std.proofs.lemmas.Bool.{le-ltb, lt-ltb}
 use Rattle.std.proofs.lemmas.List.{append-nil, length-append, take_all, length-drop}
 use Rattle.std.proofs.lemmas.List.Sums.{prefix_len-le-length}
 use Rattle.rules_text.specs.declared.TextKind.TheVariants.{TooLong}
-use Rattle.rules_text.specs.Fault.{Flaw}
 use Rattle.rules_text.specs.Fault.{string_limit}
 use Rattle.rules_text.specs.Lexical.{Spelt, spelt, with_byte, flaw, string_at, ◌>>=◌, opens, closes, after_gap, after_block}
 

@@ -1,20 +1,19 @@
 -- A text is one thing only.
-use Rattle.std.proofs.Common.{◌≡◌, ℕ, suc, ◌+◌, ◌≤◌, ◌<◌, ◌⊎◌, max, Bool, true, false, List, [], ◌∷◌, ◌++◌, length, Option, Some, None, Result, Ok, Err, refl, sym, ap, subst, ◌∙◌, arith, inl, inr}
+use Rattle.std.proofs.Common.{◌≡◌, ℕ, ◌≤◌, ◌<◌, ◌⊎◌, max, false, List, [], ◌∷◌, ◌++◌, length, Some, None, Result, Ok, Err, sym, ap, subst, ◌∙◌, arith, inl, inr}
 use Rattle.std.proofs.lemmas.List.{append-nil}
 use Rattle.rules_base.specs.Tree.{Tree}
 use Rattle.rules_text.specs.Token.{Token}
-use Rattle.rules_text.specs.Syntax.{Element, element_tokens, element_tree, element_depth, IsStatement, IsWhole, ended, nothing}
+use Rattle.rules_text.specs.Syntax.{Element, element_tokens, element_tree, element_depth}
 use Rattle.mich_text.specs.Machine.{Stack, Refusal, finish, ended_tree, run, start}
-use Rattle.rules_text.specs.Lexical.{after_gap, token_at, first_shape}
-use Rattle.rules_text.specs.Text.{Leads, IsInComment, IsOpen, EndsAt, Stands}
-use Rattle.mich_text.specs.Plain.{IsFlawed, Holds, flawed, in_comment, is_open, unexpected, too_deep, rank, IsFault, IsNode, IsEnd}
+use Rattle.rules_text.specs.Lexical.{token_at}
+use Rattle.rules_text.specs.Text.{IsInComment, IsOpen, EndsAt, Stands}
+use Rattle.mich_text.specs.Plain.{IsFlawed, Holds, flawed, in_comment, is_open, unexpected, too_deep, rank, IsFault, IsNode}
 use Rattle.rules_text.specs.Fault.{Flaw}
 use Rattle.rules_text.specs.declared.TextKind.{TextKind}
 use Rattle.rules_text.specs.declared.TextKind.TheVariants.{Unclosed, Unexpected, TooDeep}
 use Rattle.mich_text.proofs.Complete.{element_runs}
-use Rattle.mich_text.proofs.Fronts.{run_higher}
 use Rattle.mich_text.proofs.Places.{flaw_le, token_shorter, okay_is}
-use Rattle.mich_text.proofs.Reading.{From, IsFurther, IsPassed, compare}
+use Rattle.mich_text.proofs.Reading.{From, compare}
 use Rattle.mich_text.proofs.Signs.{no_inner}
 
 pub no_fault_at_node : (text : List ℕ) (k : TextKind) (left : ℕ) (tree : Tree) (from end : ℕ) → IsFault text k left → IsNode text tree from end → ⊥

@@ -1,13 +1,13 @@
 -- Each way in which the reader ends, and what the text then is.
-use Rattle.std.proofs.Common.{◌≡◌, ℕ, zero, suc, ◌+◌, ◌≤◌, ◌<◌, ◌⊎◌, Bool, true, false, List, [], ◌∷◌, ◌++◌, length, Option, Some, None, Result, Ok, Err, pos, refl, sym, ap, subst, ◌∙◌, append_assoc, arith, inl, inr}
+use Rattle.std.proofs.Common.{◌≡◌, ℕ, ◌≤◌, ◌<◌, ◌⊎◌, true, false, List, [], ◌∷◌, ◌++◌, length, Option, Some, None, Result, Ok, Err, pos, refl, sym, ap, subst, ◌∙◌, arith, inl, inr}
 use Rattle.std.proofs.lemmas.List.{append-nil}
 use Rattle.rules_base.specs.Tree.{Tree}
 use Rattle.rules_text.specs.Token.{Token, token_shape}
-use Rattle.rules_text.specs.Syntax.{IsFront, IsFrontWithin, IsWhole, IsStatement, Statements, unended, nothing, element_tokens}
-use Rattle.mich_text.specs.Machine.{Stack, Refusal, unexpected, too_deep, finish, is_root, has_statement, ended_tree, ready_for, refused, step, put, run, start}
-use Rattle.rules_text.specs.Lexical.{after_gap, token_at, first_shape, shape_of}
+use Rattle.rules_text.specs.Syntax.{IsFront, IsFrontWithin, IsWhole, unended, nothing, element_tokens}
+use Rattle.mich_text.specs.Machine.{Stack, unexpected, too_deep, finish, is_root, has_statement, ended_tree, ready_for, refused, step, put, start}
+use Rattle.rules_text.specs.Lexical.{after_gap, token_at, first_shape}
 use Rattle.rules_text.specs.Text.{Leads, EndsAt, Stands}
-use Rattle.mich_text.specs.Plain.{Holds, flawed, in_comment, is_open, unexpected as is_unexpected, too_deep as is_too_deep, rank, IsFirst, IsFault, IsNode, IsEnd}
+use Rattle.mich_text.specs.Plain.{Holds, flawed, in_comment, is_open, unexpected as is_unexpected, too_deep as is_too_deep, rank, IsFault, IsNode, IsEnd}
 use Rattle.rules_text.specs.declared.Shape.{Shape}
 use Rattle.rules_text.specs.declared.Shape.TheVariants.{Digits, Quoted, Word, Note, OpenBrace, CloseBrace, OpenParen, CloseParen, Semicolon}
 use Rattle.rules_text.specs.Fault.{Flaw}
@@ -17,7 +17,7 @@ use Rattle.rules_text.specs.Fault.{depth_limit}
 use Rattle.mich_text.proofs.Places.{gap_le, token_shorter, flaw_le, token_shape_is, okay_is}
 use Rattle.mich_text.proofs.Fronts.{step_ok, run_more, is_front_within, is_front, no_front, no_front_within, deeper_front}
 use Rattle.mich_text.proofs.Whole.{NoStatement, is_statement, whole_is_root, is_nothing}
-use Rattle.mich_text.proofs.Reading.{From, IsFurther, IsPassed, compare, leads_more, leads_le, At, Further, flaw_there, comment_there, end_there, unexpected_there, deep_there, further}
+use Rattle.mich_text.proofs.Reading.{From, IsPassed, compare, leads_more, leads_le, At, Further, flaw_there, comment_there, end_there, unexpected_there, deep_there, further}
 
 pub clash : (x : List ℕ) {r : Token × List ℕ} {d : Flaw} → token_at x ≡ Err d → token_at x ≡ Ok r → ⊥
 clash x f g = cc (sym f ∙ g)

@@ -1,9 +1,9 @@
 -- What has been read when a statement may end.
-use Rattle.std.proofs.Common.{◌≡◌, ℕ, suc, ◌+◌, ◌≤◌, ◌<◌, max, Bool, true, false, cond, List, [], ◌∷◌, ◌++◌, length, Option, Some, None, Result, Ok, Err, refl, sym, ap, subst, ◌∙◌, append_assoc, arith, inl, inr, ◌⊎◌}
-use Rattle.std.proofs.lemmas.List.{append-nil, same_from_push, length-append}
+use Rattle.std.proofs.Common.{◌≡◌, ℕ, max, true, false, List, [], ◌∷◌, ◌++◌, length, Result, Ok, refl, sym, ap, ◌∙◌, append_assoc, arith, inl, inr, ◌⊎◌}
+use Rattle.std.proofs.lemmas.List.{same_from_push, length-append}
 use Rattle.rules_base.specs.Tree.{Tree}
 use Rattle.rules_text.specs.Token.{Token}
-use Rattle.rules_text.specs.Syntax.{Element, element_tokens, element_tree, element_depth, Separated, nothing, followed, separated_tokens, separated_trees, Statements, ended, unended, statements_tokens, statements_depth, IsWhole, IsStatement}
+use Rattle.rules_text.specs.Syntax.{Element, element_tokens, element_tree, element_depth, Separated, nothing, followed, separated_tokens, separated_trees, statements_depth, IsWhole, IsStatement}
 use Rattle.mich_text.specs.Machine.{Frame, elements, named, paren, Stack, finish, is_root, has_statement, ended_tree, run, start}
 use Rattle.mich_text.proofs.Complete.{statements_run, element_runs}
 use Rattle.mich_text.proofs.Sound.{Spelt, finish_spelt}

@@ -1,5 +1,5 @@
 -- The parser on tokens: a stack of open nodes, the innermost first, and last the list of statements.
-use Rattle.std.specs.Prelude.{◌≡◌, ℕ, ◌+◌, ◌≤◌, List, [], ◌∷◌, ◌++◌, length, Bool, true, false, nat_lt, Option, Some, None, Result, Ok, Err, if◌then◌else◌}
+use Rattle.std.specs.Prelude.{ℕ, List, [], ◌∷◌, ◌++◌, length, Bool, true, false, nat_lt, Option, Some, None, Result, Ok, Err, if◌then◌else◌}
 use Rattle.rules_base.specs.Tree.{Tree, int, str, prim, seq, none, trees_of}
 use Rattle.rules_text.specs.Token.{Token}
 use Rattle.rules_text.specs.declared.Shape.{Shape}

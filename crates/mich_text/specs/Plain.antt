@@ -1,7 +1,6 @@
 -- What a text is where no limit on its statement and file is looked at. The reader is proved against this first.
 use Rattle.std.specs.Prelude.{◌≡◌, ℕ, ◌≤◌, ◌<◌, ◌⊎◌, List, [], length, Some, Err}
 use Rattle.rules_base.specs.Tree.{Tree}
-use Rattle.rules_text.specs.Fault.{Flaw}
 use Rattle.rules_text.specs.Token.{Token}
 use Rattle.rules_text.specs.Lexical.{after_gap, token_at}
 use Rattle.rules_text.specs.Text.{Leads, IsInComment, IsOpen, IsUnexpected, IsTooDeep, Stands}

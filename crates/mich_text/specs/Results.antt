@@ -1,5 +1,5 @@
 -- What the reader's functions return.
-use Rattle.std.specs.Prelude.{◌≡◌, ℕ, ◌+◌, ◌≤◌, List, length, drop, Bool, true, false, nat_eq, Option, Some, None, Result, Ok, Err, if◌then◌else◌}
+use Rattle.std.specs.Prelude.{◌≡◌, ℕ, ◌+◌, ◌≤◌, List, length, drop, true, false, nat_eq, Option, Some, None, Result, Ok, Err, if◌then◌else◌}
 use Rattle.rules_text.specs.Token.{Token}
 use Rattle.mich_text.specs.Machine.{Stack, Refusal, unexpected, too_deep, finish, has_statement, ready_for, refused, put, step}
 use Rattle.rules_text.specs.Lexical.{token_at, first_shape}

@@ -1,6 +1,5 @@
-use Rattle.std.proofs.Common.{◌≡◌, true, false, refl, sym, ap, ◌∙◌, eqb, cond, arith}
+use Rattle.std.proofs.Common.{◌≡◌, true, false, refl, sym, ◌∙◌, eqb}
 use Rattle.std.proofs.lemmas.Bool.{eq-eqb, ne_eqb}
-use Rattle.rules_text.specs.Lexical.{after_gap, after_block, opens, closes}
 use Rattle.mich_text.proofs.Strings.{block_opens, block_closes, block_passes}
 use Rattle.mich_text.proofs.lexical.block_at.Goals as goal
 

@@ -1,6 +1,6 @@
-use Rattle.std.proofs.Common.{◌≡◌, ◌+◌, ◌<◌, ◌∷◌, ◌++◌, [], length, refl, sym, ap, ◌∙◌, subst, arith}
+use Rattle.std.proofs.Common.{◌+◌, ◌<◌, ◌∷◌, [], length, refl, sym, ap, ◌∙◌, arith}
 use Rattle.std.proofs.lemmas.List.{length-append}
-use Rattle.rules_text.specs.Lexical.{Spelt, spelt, with_byte, string_at}
+use Rattle.rules_text.specs.Lexical.{spelt, with_byte}
 use Rattle.rules_text.specs.Fault.{string_limit}
 use Rattle.mich_text.proofs.Strings.{prepend, prepend_more, string_begins, string_ends, string_long}
 use Rattle.mich_text.proofs.lexical.string_at.Goals as goal

@@ -1,5 +1,5 @@
 use Rattle.std.proofs.Common.{◌≡◌, ◌++◌, ◌∷◌, [], drop}
-use Rattle.mich_base.specs.View.{tree, trees}
+use Rattle.mich_base.specs.View.{trees}
 use Rattle.rules_text.specs.Printed.{arguments_text}
 use Rattle.mich_text.specs.Line.{joined}
 use Rattle.mich_text.proofs.line.+print.Given as goal

@@ -1,4 +1,4 @@
-use Rattle.std.proofs.Common.{◌≡◌, ℕ, ◌<◌, true, false, eqb, List, [], length, Err, Ok, refl, sym, ap, subst, ◌∙◌, arith}
+use Rattle.std.proofs.Common.{◌≡◌, ℕ, ◌<◌, true, false, eqb, List, [], length, sym, subst, arith}
 use Rattle.std.proofs.lemmas.Bool.{eqb-true, eqb-false}
 use Rattle.std.proofs.lemmas.List.{nil_from_length}
 use Rattle.std.proofs.lemmas.Result.{err_from_is_err_and}
@@ -6,8 +6,6 @@ use Rattle.rules_text.specs.Token.{Token}
 use Rattle.mich_text.specs.Machine.{Stack}
 use Rattle.mich_base.specs.View.{tree}
 use Rattle.mich_text.specs.Nodes.{stack_view}
-use Rattle.mich_text.specs.Plain.{IsFault}
-use Rattle.mich_text.specs.Results.{IsStep, IsRead}
 use Rattle.mich_text.proofs.Reading.{At}
 use Rattle.mich_text.proofs.Verdict.{comment_first}
 use Rattle.mich_text.proofs.Loop.{begun, failed, smaller, goes_on, comment, ends, last_node, none_left, open_left}
