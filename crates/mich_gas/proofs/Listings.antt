@@ -1,0 +1,41 @@
+-- Rows and what they list.
+use Rattle.std.proofs.Common.{◌≡◌, ℕ, List, [], ◌∷◌, refl, ap, ◌∙◌, arith, sym, true, false, drop, get_or, ◌<◌, length, add-one, drop-cons, suc}
+use Rattle.std.specs.Prelude.{map, Option, Some, None, ◌+◌, is_some, Result}
+use Rattle.rules_base.specs.Tree.{Tree, Trees, int, str, bytes, prim, seq, none, more, size, sizes}
+use Rattle.rules_gas.specs.Tables.{Listing, listing, listing_of, IsCostRow, AreCostRows, row_over, rows_over}
+use Rattle.rules_gas.specs.Prices.{Listed, with_price}
+use Rattle.mich_base.specs.View.{tree, trees}
+use Rattle.mich_base.specs.declared.node.Node.{Node}
+use Rattle.mich_gas.specs.View.{IsNotThree}
+
+pub no_listing : (word : List ℕ) (annots : List (List ℕ)) (args : List Node) → IsNotThree args → None ≡ listing (prim word annots (trees args))
+no_listing word annots [] h = refl
+no_listing word annots (x ∷ []) h = refl
+no_listing word annots (x ∷ y ∷ []) h = refl
+no_listing word annots (x ∷ y ∷ z ∷ []) h = absurd h
+no_listing word annots (x ∷ y ∷ z ∷ w ∷ ws) h = refl
+
+pub listing_of_three : (word : List ℕ) (annots : List (List ℕ)) (args : List Node) (x y z : Node) → args ≡ x ∷ y ∷ z ∷ [] → listing (prim word annots (trees args)) ≡ listing_of (tree x) (tree y) (tree z)
+listing_of_three word annots args x y z e = ap (λ xs. listing (prim word annots (trees xs))) e
+
+-- a row has four nodes
+pub size_of_row : (row : Tree) → IsCostRow row → size row ≡ 4
+size_of_row (prim word [] (more (prim name [] none) (more (int base) (more (int coefficient) none)))) h = refl
+size_of_row _ h = absurd h
+
+-- a row that lists a new kind, and the rows behind it
+pub row_taken : (before after : Listed) (location nodes : ℕ) (total : Result Listed ℕ) (row : Tree) (rows : Trees) (found : Listing) → rows_over before location (more row rows) ≡ total → AreCostRows (more row rows) → location + sizes (more row rows) ≡ nodes → Some found ≡ listing row → is_some (before found.kind) ≡ false → after ≡ with_price before found.kind found.price → (rows_over after (location + 4) rows ≡ total) × AreCostRows rows × (location + 4 + sizes rows ≡ nodes)
+row_taken before after location nodes total row rows found over are_rows places is_found is_new is_after =
+    (sym taken ∙ over, are_rows.1, omega (arith, size_of_row row are_rows.0))
+  where
+    behind : Listed → Result Listed ℕ
+    behind listed = rows_over listed (location + size row) rows
+    fresh : row_over before location (Some found) behind ≡ behind (with_price before found.kind found.price)
+    fresh = rw is_new refl
+    taken : rows_over before location (more row rows) ≡ rows_over after (location + 4) rows
+    taken = ap (λ o. row_over before location o behind) (sym is_found) ∙ fresh ∙ ap behind (sym is_after) ∙ ap (λ n. rows_over after (location + n) rows) (size_of_row row are_rows.0)
+
+-- the trees of what is left begin with that of the next node
+pub trees_left : (nodes : List Node) (i : ℕ) (node : Node) → i < length nodes → node ≡ get_or nodes i node → trees (drop i nodes) ≡ more (tree node) (trees (drop (i + 1) nodes))
+trees_left nodes i node within is_node =
+    ap trees (drop-cons nodes i node within) ∙ ap (λ n. more (tree n) (trees (drop (suc i) nodes))) (sym is_node) ∙ ap (λ k. more (tree node) (trees (drop k nodes))) (sym (add-one i))
