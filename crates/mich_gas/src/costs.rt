@@ -1,10 +1,10 @@
 // Tables of prices.
-ghost use Rattle.std.specs.Prelude.{◌≡◌, ◌^◌, ◌<◌, pos, ◌≤ℤ◌, option_map, is_some, true, false, MatchOption, ◌∷◌, []};
+ghost use Rattle.std.specs.Prelude.{◌≡◌, ◌^◌, ◌<◌, pos, ◌≤ℤ◌, option_map, is_some, true, false, IsTrue, MatchOption, ◌∷◌, []};
 ghost use Rattle.mich_gas.specs.View.{IsNotThree};
 ghost use Rattle.rules_base.specs.Tree.{size};
 ghost use Rattle.rules_gas.specs.Kinds.{place};
 ghost use Rattle.rules_gas.specs.Prices.{nothing_listed, with_price, price_of, standard_price};
-ghost use Rattle.rules_gas.specs.Tables.{IsCostTable, is_between, price_from, listing, listing_of, table_of};
+ghost use Rattle.rules_gas.specs.Tables.{are_fields, is_row, is_table, is_between, price_from, listing, listing_of, table_of};
 ghost use Rattle.mich_base.specs.View.{tree};
 ghost use Rattle.mich_gas.specs.View.{seen_price, listed, seen_listing, reading};
 
@@ -148,12 +148,55 @@ fn read_row(row: &Node) -> Option<Listing>
     read_fields(name, base, coefficient)
 }
 
+// Whether three nodes are a name, which stands alone, and two numbers.
+fn are_fields(name: &Node, base: &Node, coefficient: &Node) -> bool
+    ensures { result ≡ are_fields (tree name.now) (tree base.now) (tree coefficient.now) }
+{
+    match (name, base, coefficient) {
+        (Node::Prim(name), Node::Int(_), Node::Int(_)) => {
+            name.annots.is_empty() && name.args.is_empty()
+        }
+        _ => false,
+    }
+}
+
+// Whether a node is a row of a table.
+fn is_row(row: &Node) -> bool
+    ensures { result ≡ is_row (tree row.now) }
+{
+    let Node::Prim(app) = row else {
+        return false;
+    };
+    let Some((name, base, coefficient)) = three(app.args.as_slice()) else {
+        return false;
+    };
+    app.name.as_slice() == b"Cost".as_slice()
+        && app.annots.is_empty()
+        && are_fields(name, base, coefficient)
+}
+
+/// Whether a node is a table of prices: a sequence of rows `Cost NAME base coefficient`, where NAME
+/// has neither arguments nor annotations, nor has a row annotations.
+pub fn is_table(node: &Node) -> bool
+    ensures { result ≡ is_table (tree node.now) }
+{
+    let Node::Seq(rows) = node else {
+        return false;
+    };
+    for row in rows.as_slice() {
+        if !is_row(row) {
+            return false;
+        }
+    }
+    true
+}
+
 /// The table that a sequence of rows `Cost NAME base coefficient` spells.
 ///
 /// `BadCosts` exactly at the first row whose name is unknown or was listed before, or whose base is
 /// outside 1 to 1,000,000 or coefficient outside 0 to 1,000,000.
 pub fn read_costs(node: &Node) -> Result<Costs, BadCosts>
-    requires table { IsCostTable (tree node.now) }
+    requires table { IsTrue (is_table (tree node.now)) }
     requires size { size (tree node.now) < 2 ^ 32 }
     ensures { reading result ≡ table_of (tree node.now) }
 {

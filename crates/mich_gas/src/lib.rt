@@ -5,6 +5,6 @@ mod costs;
 mod meter;
 mod names;
 
-pub use costs::{BadCosts, Costs, Price, read_costs};
+pub use costs::{BadCosts, Costs, Price, is_table, read_costs};
 pub use meter::{Meter, OutOfGas};
 pub use rules_gas::Kind;

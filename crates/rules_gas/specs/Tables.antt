@@ -1,23 +1,30 @@
 -- Tables of prices as nodes: `{ Cost NAME base coefficient ; .. }`.
-use Rattle.std.specs.Prelude.{ℕ, ◌+◌, ◌≡◌, List, [], ◌∷◌, codes, ℤ, pos, int_le, unsigned_abs, Bool, ◌&&◌, is_some, if◌then◌else◌, Option, Some, None, option_map, Result, Ok, Err}
+use Rattle.std.specs.Prelude.{ℕ, ◌+◌, ◌≡◌, List, [], ◌∷◌, codes, ℤ, pos, int_le, unsigned_abs, Bool, true, false, ◌&&◌, is_some, if◌then◌else◌, Option, Some, None, option_map, Result, Ok, Err}
+use Rattle.std.specs.Str.{bytes_eq}
 use Rattle.rules_base.specs.Tree.{Tree, Trees, prim, int, seq, none, more, size}
 use Rattle.rules_gas.specs.declared.Kind.{Kind}
 use Rattle.rules_gas.specs.Kinds.{kind_named}
 use Rattle.rules_gas.specs.Prices.{Price, Listed, nothing_listed, with_price}
 
--- a row `Cost NAME base coefficient`, where NAME stands alone and nothing is annotated
-abbrev pub IsCostRow : Tree → Type 0
-IsCostRow (prim word [] (more (prim name [] none) (more (int base) (more (int coefficient) none)))) = word ≡ codes "Cost"
-IsCostRow _ = ⊥
+-- whether three nodes are a name, which stands alone, and two numbers
+abbrev pub are_fields : Tree → Tree → Tree → Bool
+are_fields (prim name [] none) (int base) (int coefficient) = true
+are_fields _ _ _ = false
 
-abbrev pub AreCostRows : Trees → Type 0
-AreCostRows none = Unit {0}
-AreCostRows (more row rows) = IsCostRow row × AreCostRows rows
+-- whether a node is a row `Cost NAME base coefficient`, in which nothing is annotated
+abbrev pub is_row : Tree → Bool
+is_row (prim word [] (more name (more base (more coefficient none)))) =
+    bytes_eq word (codes "Cost") && are_fields name base coefficient
+is_row _ = false
 
--- a table is a sequence of rows
-abbrev pub IsCostTable : Tree → Type 0
-IsCostTable (seq rows) = AreCostRows rows
-IsCostTable _ = ⊥
+abbrev pub are_rows : Trees → Bool
+are_rows none = true
+are_rows (more row rows) = is_row row && are_rows rows
+
+-- whether a node is a table: a sequence of rows
+abbrev pub is_table : Tree → Bool
+is_table (seq rows) = are_rows rows
+is_table _ = false
 
 -- whether a number is from low to high
 abbrev pub is_between : ℤ → ℤ → ℤ → Bool
@@ -45,7 +52,7 @@ abbrev pub listing_of : Tree → Tree → Tree → Option Listing
 listing_of (prim name annots args) (int base) (int coefficient) = listing_from (kind_named name) (price_from base coefficient)
 listing_of _ _ _ = None
 
--- what a row lists; its form is that of `IsCostRow`
+-- what a row lists; its form is that of `is_row`
 abbrev pub listing : Tree → Option Listing
 listing (prim word annots (more name (more base (more coefficient none)))) = listing_of name base coefficient
 listing _ = None
