@@ -40,10 +40,13 @@ row_taken before after location nodes total row rows found over rows_are places 
   where
     both : IsTrue (is_row row) × IsTrue (are_rows rows)
     both = both_true (is_row row) (are_rows rows) rows_are
+
     behind : Listed → Result Listed ℕ
     behind listed = rows_over listed (location + size row) rows
+
     fresh : row_over before location (Some found) behind ≡ behind (with_price before found.kind found.price)
     fresh = rw is_new refl
+
     taken : rows_over before location (more row rows) ≡ rows_over after (location + 4) rows
     taken = ap (λ o. row_over before location o behind) (sym is_found) ∙ fresh ∙ ap behind (sym is_after) ∙ ap (λ n. rows_over after (location + n) rows) (size_of_row row both.0)
 

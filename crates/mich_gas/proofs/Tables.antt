@@ -12,8 +12,10 @@ set_at prices i j price within =
   where
     put : List (Option Price)
     put = set prices i (Some price)
+
     at_place : j ≡ i → option_map seen_price (get_or put j None) ≡ (if j == i then Some (seen_price price) else option_map seen_price (get_or prices j None))
     at_place same = rw (eq-eqb j i same) (ap (λ k. option_map seen_price (get_or put k None)) same ∙ ap (option_map seen_price) (get_or-set_same prices i (Some price) None within))
+
     elsewhere : j ≢ i → option_map seen_price (get_or put j None) ≡ (if j == i then Some (seen_price price) else option_map seen_price (get_or prices j None))
     elsewhere other = rw (false_from_ne_true (j == i) (λ e. other (eqb-true j i e))) (ap (option_map seen_price) (get_or-set_other prices i j (Some price) None other))
 
