@@ -1,9 +1,9 @@
 -- Rows and what they list.
 use Rattle.std.proofs.Common.{◌≡◌, ℕ, List, [], ◌∷◌, refl, ap, ◌∙◌, arith, sym, true, false, drop, get_or, ◌<◌, length, add-one, drop-cons, suc}
-use Rattle.std.specs.Prelude.{map, Option, Some, None, ◌+◌, ◌&&◌, Bool, IsTrue, codes, is_some, Result}
+use Rattle.std.specs.Prelude.{Some, None, ◌+◌, ◌&&◌, Bool, IsTrue, codes, is_some, Result}
 use Rattle.std.proofs.lemmas.Bool.{false≢true}
 use Rattle.std.specs.Str.{bytes_eq}
-use Rattle.rules_base.specs.Tree.{Tree, Trees, int, str, bytes, prim, seq, none, more, size, sizes}
+use Rattle.rules_base.specs.Tree.{Tree, Trees, int, prim, none, more, size, sizes}
 use Rattle.rules_gas.specs.Tables.{Listing, listing, listing_of, are_fields, is_row, are_rows, row_over, rows_over}
 use Rattle.rules_gas.specs.Prices.{Listed, with_price}
 use Rattle.mich_base.specs.View.{tree, trees}

@@ -1,8 +1,7 @@
 -- A table with a price for one more kind.
-use Rattle.std.proofs.Common.{◌≡◌, ℕ, ◌<◌, List, length, set, get_or, refl, ap, ◌∙◌, sym, inl, inr, subst, eq-eqb, get_or-set_same, get_or-set_other}
+use Rattle.std.proofs.Common.{◌≡◌, ℕ, ◌<◌, List, length, set, get_or, ap, ◌∙◌, inl, inr, subst, eq-eqb, get_or-set_same, get_or-set_other}
 use Rattle.std.specs.Prelude.{Option, Some, None, option_map, ◌==◌, if◌then◌else◌, ◌≢◌}
 use Rattle.std.proofs.lemmas.Bool.{cases_eq, eqb-true, false_from_ne_true}
-use Rattle.rules_gas.specs.Prices as rules
 use Rattle.mich_gas.specs.declared.costs.Price.{Price}
 use Rattle.mich_gas.specs.View.{seen_price}
 

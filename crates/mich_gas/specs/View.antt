@@ -1,5 +1,5 @@
 -- What the types of this crate stand for.
-use Rattle.std.specs.Prelude.{ℕ, List, [], ◌∷◌, Option, Some, None, option_map, slice_index_or, Result, Ok, Err}
+use Rattle.std.specs.Prelude.{ℕ, List, [], ◌∷◌, None, option_map, slice_index_or, Result, Ok, Err}
 use Rattle.std.specs.Borrow.{Bor}
 use Rattle.rules_gas.specs.declared.Kind.{Kind}
 use Rattle.rules_gas.specs.Kinds.{place}

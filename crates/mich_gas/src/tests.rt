@@ -71,20 +71,18 @@ fn listed_prices(rt: HostRuntime) -> Result<(), Fail> {
 
 #[test]
 fn bad_rows(rt: HostRuntime) -> Result<(), Fail> {
-    for (second, third, location) in [
-        (("ADD", 0, 0), ("SUB", 1, 1), 5),
-        (("ADD", 1_000_001, 0), ("SUB", 0, 1), 5),
-        (("ADD", 1, -1), ("SUB", 1, 1), 5),
-        (("ADD", 1, 1), ("SUB", 1, 1_000_001), 9),
-        (("ADD", 1, 1), ("ADD", 2, 2), 9),
-        (("CAR", 1, 1), ("SUB", 1, 1), 5),
-        (("ADD", 1, 1), ("SET_DELEGATE", 1, 1), 9),
-        (("nat", 1, 1), ("SUB", 1, 1), 5),
-        (("add", 1, 1), ("SUB", 1, 1), 5),
+    for (name, base, coefficient) in [
+        ("ADD", 0, 0),
+        ("ADD", 1_000_001, 0),
+        ("ADD", 1, -1),
+        ("ADD", 1, 1_000_001),
+        ("CAR", 1, 1),
+        ("SET_DELEGATE", 1, 1),
+        ("nat", 1, 1),
     ] {
-        let rows = [("CAR", 1, 1), second, third];
+        let rows = [("CAR", 1, 1), ("SUB", 1, 1), (name, base, coefficient)];
         let result = read(&rt, &table(rt.alloc(), rows.as_slice())?);
-        assert_eq!(rt; result.err(), Some(BadCosts { location }));
+        assert_eq!(rt; result.err(), Some(BadCosts { location: 9 }), "{name}");
     }
     Ok(())
 }

@@ -1,5 +1,5 @@
 -- Tables of prices as nodes: `{ Cost NAME base coefficient ; .. }`.
-use Rattle.std.specs.Prelude.{ℕ, ◌+◌, ◌≡◌, List, [], ◌∷◌, codes, ℤ, pos, int_le, unsigned_abs, Bool, true, false, ◌&&◌, is_some, if◌then◌else◌, Option, Some, None, option_map, Result, Ok, Err}
+use Rattle.std.specs.Prelude.{ℕ, ◌+◌, [], codes, ℤ, pos, int_le, unsigned_abs, Bool, true, false, ◌&&◌, is_some, if◌then◌else◌, Option, Some, None, Result, Ok, Err}
 use Rattle.std.specs.Str.{bytes_eq}
 use Rattle.rules_base.specs.Tree.{Tree, Trees, prim, int, seq, none, more, size}
 use Rattle.rules_gas.specs.declared.Kind.{Kind}

@@ -1,6 +1,6 @@
 use Rattle.std.proofs.Common.{◌∙◌, sym, ap, subst, drop, ◌≡◌, ◌+◌}
 use Rattle.std.specs.Prelude.{IsTrue}
-use Rattle.rules_base.specs.Tree.{Trees, size, sizes}
+use Rattle.rules_base.specs.Tree.{size, sizes}
 use Rattle.rules_gas.specs.Tables.{are_rows, rows_over, table_of}
 use Rattle.mich_base.specs.View.{tree, trees}
 use Rattle.mich_gas.specs.View.{listed, seen_listing}

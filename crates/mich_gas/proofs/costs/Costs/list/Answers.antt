@@ -1,4 +1,4 @@
-use Rattle.std.proofs.Common.{◌≡◌, ◌<◌, length, rules, arith}
+use Rattle.std.proofs.Common.{◌<◌, length, rules}
 use Rattle.std.proofs.Math.Path.{fun_ext}
 use Rattle.rules_gas.specs.Kinds.{place}
 use Rattle.mich_gas.proofs.Tables.{set_listed}
