@@ -1,6 +1,7 @@
 -- Looking for a place in a list, part by part.
 use Rattle.std.proofs.Common.{◌≡◌, ℕ, zero, suc, List, [], ◌∷◌, ◌++◌, Option, Some, None, slice_get, ◌⊎◌, inl, inr, refl}
-use Rattle.rules_base.specs.Tree.{Tree, look}
+use Rattle.rules_base.specs.Tree.{Tree}
+use Rattle.mich_base.specs.Walk.{look}
 
 abbrev pub onward : List Tree → Tree ⊎ ℕ → Tree ⊎ ℕ
 onward ys (inl t) = inl t

@@ -1,3 +1,5 @@
+pub mod ByLength
 pub mod Counted
 pub mod View
+pub mod Walk
 pub mod formers

@@ -1,16 +1,12 @@
 -- The tree that a `Node` stands for.
-use Rattle.std.specs.Prelude.{List, [], ◌∷◌, map, ℕ, ◌⊎◌}
+use Rattle.std.specs.Prelude.{List, map, ℕ, ◌⊎◌}
 use Rattle.std.proofs.Common.{inl, inr}
-use Rattle.rules_base.specs.Tree.{Tree, int, str, bytes, prim, seq, Trees, none, more}
+use Rattle.rules_base.specs.Tree.{Tree, int, str, bytes, prim, seq, Trees, trees_of}
 use Rattle.mich_base.specs.declared.node.Node.{Node, fold-Node}
 use Rattle.mich_base.specs.declared.node.App.{App, fold-App}
 use Rattle.mich_base.specs.declared.node.Found.{Found}
 use Rattle.mich_base.specs.declared.node.Found.TheVariants.{Here, Past}
 use Rattle.mich_base.specs.declared.node.Node.TheOpen.{Node-F, App-F}
-
-abbrev pub trees_of : List Tree → Trees
-trees_of [] = none
-trees_of (t ∷ ts) = more t (trees_of ts)
 
 -- one level, with each node inside already seen as its tree
 abbrev pub app_step : App-F Tree Tree → Tree

@@ -1,6 +1,7 @@
-// Nodes.
+// Nodes, and walks over them.
 ghost use Rattle.std.specs.Prelude.{◌≡◌, ℕ, ◌+◌, ◌-◌, ◌<◌, ◌≤◌, ◌^◌, IfOk, nat_le, length, slice_get, option_map};
-ghost use Rattle.rules_base.specs.Tree.{depth, depths, size, sizes, room_left, preorder, preorders, look};
+ghost use Rattle.rules_base.specs.Tree.{depth, depths, size, sizes, preorder, preorders};
+ghost use Rattle.mich_base.specs.Walk.{room_left, look};
 ghost use Rattle.mich_base.specs.View.{tree, trees, seen};
 
 use crate::memory::Memory;
@@ -8,6 +9,7 @@ use crate::rows::Rows;
 use crate::text::{Bytes, Text, Texts};
 use std::alloc::Global;
 
+/// A node of Micheline: an integer, a string, bytes, an application of a primitive, or a sequence (Octez "Micheline").
 #[derive(Debug, Drop, PartialEq, Eq)]
 #[cycle(node)]
 pub enum Node {
@@ -18,6 +20,7 @@ pub enum Node {
     Seq(Nodes),
 }
 
+/// An application of a name, which may be no primitive's, to arguments, with its annotations, each with its sign (Octez "Micheline").
 #[derive(Debug, Drop, PartialEq, Eq)]
 #[cycle(node)]
 pub struct App {
@@ -26,8 +29,10 @@ pub struct App {
     pub args: Nodes,
 }
 
+/// A list of nodes.
 pub type Nodes = Rows<Node>;
 
+/// Whether the depth of a node is at most this, where a root alone has depth 1.
 #[cycle(depth)]
 pub fn depth_within(node: &Node, limit: u32) -> bool
     ensures { result ≡ nat_le (depth (tree node.now)) limit }
@@ -54,6 +59,7 @@ fn depths_within(nodes: &Nodes, limit: u32) -> bool
     true
 }
 
+/// Whether a node has at most so many nodes, with itself.
 pub fn size_within(node: &Node, limit: u32) -> bool
     ensures { result ≡ nat_le (size (tree node.now)) limit }
 {
@@ -85,11 +91,12 @@ fn room_after_all(nodes: &Nodes, room: u32) -> Option<u32>
 }
 
 // A node that was looked for, or how many places are still to go.
-pub enum Found<'a> {
+enum Found<'a> {
     Here(&'a Node),
     Past(u32),
 }
 
+/// The node at a location, counted in pre-order from 0 at this node (Octez "Micheline"). None where there is no such location.
 #[tactic(auto, using(crate::proofs::Look::get_look))]
 pub fn at(node: &Node, location: u32) -> Option<&Node>
     ensures { option_map (λ n. tree n.now) result ≡ slice_get (preorder (tree node.now)) location }
@@ -128,6 +135,7 @@ fn find_in(nodes: &Nodes, place: u32) -> Found<'_>
     Found::Past(left)
 }
 
+/// An equal node. Memory where there is no room for it.
 #[cycle(copy)]
 pub fn copy_node(alloc: Global, node: &Node) -> Result<Node, Memory>
     ensures { IfOk result (λ n. n ≡ node.now) }
@@ -162,7 +170,8 @@ fn copy_nodes(alloc: Global, nodes: &Nodes) -> Result<Nodes, Memory>
     Ok(copies)
 }
 
-fn copy_texts(alloc: Global, texts: &Texts) -> Result<Texts, Memory>
+/// Equal texts. Memory where there is no room for them.
+pub fn copy_texts(alloc: Global, texts: &Texts) -> Result<Texts, Memory>
     ensures { IfOk result (λ ts. ts ≡ texts.now) }
 {
     let mut copies = Rows::new(alloc);

@@ -1,2 +1,2 @@
-pub mod Prims
+pub mod Primitives
 pub mod Tree

@@ -2,6 +2,7 @@
 use Rattle.std.specs.Prelude.{◌≡◌, ◌⊎◌, ◌≤◌, ◌<◌, ℕ, ◌^◌, ℤ, pos, negsuc, neg_ℤ, Bool, true, false, List, [], ◌∷◌, ◌++◌, length, slice_index, codes, Ok}
 use Rattle.std.specs.List.{AllByRecursion}
 use Rattle.hex.specs.Hex.{decode_sized}
+use Rattle.rules_forms.specs.Spelling.{IsKeyHash}
 use Rattle.rules_replay.specs.Reading.{is_space, is_digit, is_word, value_of}
 use Rattle.rules_replay.specs.Statements.{Statement, Chain, Account, Group, Call, most_mutez, most_gas, most_level}
 
@@ -54,10 +55,6 @@ TokensAt [] bs rest = bs ≡ rest
 TokensAt (t ∷ ts) bs rest = (mid : List ℕ) × TokenAt t bs mid × TokensAt ts mid rest
 
 -- ---- statements
-
--- the tag of a curve, of 0 to 3, comes first
-abbrev pub IsKeyHash : List ℕ → Type 0
-IsKeyHash who = slice_index who 0 ≤ 3
 
 -- seconds, from -2^63 to 2^63 - 1; `negsuc n` is -1 - n
 abbrev pub IsMoment : ℤ → Type 0

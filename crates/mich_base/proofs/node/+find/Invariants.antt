@@ -1,5 +1,6 @@
 use Rattle.std.proofs.Common.{◌≡◌, drop}
-use Rattle.rules_base.specs.Tree.{preorders, look}
+use Rattle.rules_base.specs.Tree.{preorders}
+use Rattle.mich_base.specs.Walk.{look}
 use Rattle.mich_base.specs.View.{trees}
 use Rattle.mich_base.proofs.node.+find.Given as goal
 

@@ -1,0 +1,6 @@
+use Rattle.rules_base.specs.Primitives.{name_of_code, primitive_names}
+use Rattle.mich_base.proofs.primitives.prim_name.Goals as goal
+
+pub returns : goal.returns
+unfolding name_of_code primitive_names
+returns c = c.text_at.ensures

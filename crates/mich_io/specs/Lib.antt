@@ -1,0 +1,2 @@
+pub use Rattle.rules_io.specs.Causes
+pub use Rattle.rules_io.specs.Known
