@@ -8,7 +8,7 @@ use Rattle.rules_gas.specs.Tables.{Listing, listing, listing_of, are_fields, is_
 use Rattle.rules_gas.specs.Prices.{Listed, with_price}
 use Rattle.mich_base.specs.View.{tree, trees}
 use Rattle.mich_base.specs.declared.node.Node.{Node}
-use Rattle.mich_gas.specs.View.{IsNotThree}
+use Rattle.mich_base.specs.Counted.{IsNotThree}
 
 pub no_listing : (word : List ℕ) (annots : List (List ℕ)) (args : List Node) → IsNotThree args → None ≡ listing (prim word annots (trees args))
 no_listing word annots [] h = refl

@@ -1,5 +1,5 @@
 -- What the types of this crate stand for.
-use Rattle.std.specs.Prelude.{ℕ, List, [], ◌∷◌, None, option_map, slice_index_or, Result, Ok, Err}
+use Rattle.std.specs.Prelude.{ℕ, List, None, option_map, slice_index_or, Result, Ok, Err}
 use Rattle.std.specs.Borrow.{Bor}
 use Rattle.rules_gas.specs.declared.Kind.{Kind}
 use Rattle.rules_gas.specs.Kinds.{place}
@@ -31,11 +31,3 @@ seen_listing l = record { kind = l.kind; price = seen_price l.price }
 -- a row of the table of names, with its name as bytes
 abbrev pub seen_row : Bor (List ℕ) × Kind → List ℕ × Kind
 seen_row row = (row.0.now, row.1)
-
--- a list of another length than three
-abbrev pub IsNotThree : {X : Type 0} → List X → Type 0
-IsNotThree [] = Unit {0}
-IsNotThree (x ∷ []) = Unit {0}
-IsNotThree (x ∷ y ∷ []) = Unit {0}
-IsNotThree (x ∷ y ∷ z ∷ []) = ⊥
-IsNotThree (x ∷ y ∷ z ∷ w ∷ ws) = Unit {0}

@@ -1,6 +1,5 @@
 // Tables of prices.
-ghost use Rattle.std.specs.Prelude.{◌≡◌, ◌^◌, ◌<◌, pos, ◌≤ℤ◌, option_map, is_some, true, false, IsTrue, MatchOption, ◌∷◌, []};
-ghost use Rattle.mich_gas.specs.View.{IsNotThree};
+ghost use Rattle.std.specs.Prelude.{◌≡◌, ◌^◌, ◌<◌, pos, ◌≤ℤ◌, option_map, is_some, true, false, IsTrue, MatchOption};
 ghost use Rattle.rules_base.specs.Tree.{size};
 ghost use Rattle.rules_gas.specs.Kinds.{place};
 ghost use Rattle.rules_gas.specs.Prices.{nothing_listed, with_price, price_of, standard_price};
@@ -112,16 +111,6 @@ fn price_of_numbers(base: i128, coefficient: i128) -> Option<Price>
     Some(Price { base, coefficient })
 }
 
-// The three nodes, where there are just three.
-fn three(nodes: &[Node]) -> Option<(&Node, &Node, &Node)>
-    ensures { MatchOption result (IsNotThree nodes.now) (λ t. nodes.now ≡ t.0.now ∷ t.1.now ∷ t.2.now ∷ []) }
-{
-    match nodes {
-        [first, second, third] => Some((first, second, third)),
-        _ => None,
-    }
-}
-
 // A name and two numbers as a kind and its price.
 fn read_fields(name: &Node, base: &Node, coefficient: &Node) -> Option<Listing>
     ensures { option_map seen_listing result ≡ listing_of (tree name.now) (tree base.now) (tree coefficient.now) }
@@ -144,7 +133,7 @@ fn read_row(row: &Node) -> Option<Listing>
     let Node::Prim(app) = row else {
         return None;
     };
-    let (name, base, coefficient) = three(app.args.as_slice())?;
+    let (name, base, coefficient) = app.args.three()?;
     read_fields(name, base, coefficient)
 }
 
@@ -167,7 +156,7 @@ fn is_row(row: &Node) -> bool
     let Node::Prim(app) = row else {
         return false;
     };
-    let Some((name, base, coefficient)) = three(app.args.as_slice()) else {
+    let Some((name, base, coefficient)) = app.args.three() else {
         return false;
     };
     app.name.as_slice() == b"Cost".as_slice()
