@@ -3,9 +3,9 @@ use Rattle.std.proofs.Common.{◌≡◌, ℕ, ◌^◌, ◌-◌, ◌≤◌, ◌<�
 use Rattle.std.specs.Prelude.{ℤ, pos, negsuc, FitsSigned, bit_and, bit_or, bit_xor}
 use Rattle.std.specs.Int.{w128, bit_at, cast_signed, cast_unsigned}
 use Rattle.std.proofs.lemmas.Bool.{cases_lt}
-use Rattle.std.proofs.lemmas.Int.{of_z-to_z, to_z-of_z}
+use Rattle.std.proofs.lemmas.Int.{of_z-to_z}
 use Rattle.std.proofs.Math.Facts.{sfits_to_z, Fits-bits}
-use Rattle.std.proofs.lemmas.Nat.Bits.{bit_at_not, bit_at_above, bit_at_and, bit_at_or, bit_at_xor, same_from_bits_below}
+use Rattle.std.proofs.lemmas.Nat.Bits.{bit_at_not, bit_at_above, bit_at_and, bit_at_or, bit_at_xor}
 use Rattle.std.specs.Int.Bits.{and_lt}
 use Rattle.std.proofs.lemmas.Nat.{or_lt, xor_lt}
 use Rattle.rules_numbers.specs.Bits.{bit, IsBitByBit, both, either, one_of, bitwise_and, bitwise_or, bitwise_xor}
@@ -60,11 +60,3 @@ or_bits = bit_by_bit either bit_or bit_at_or (λ x y. or_lt 128 x y)
 
 pub xor_bits : (a b : ℤ) → FitsSigned w128 a → FitsSigned w128 b → IsBitByBit one_of a b (bitwise_xor a b)
 xor_bits = bit_by_bit one_of bit_xor bit_at_xor (λ x y. xor_lt 128 x y)
-
--- ints with the same bits are equal
-pub same_bits : (a b : ℤ) → FitsSigned w128 a → FitsSigned w128 b → ((i : ℕ) → bit a i ≡ bit b i) → a ≡ b
-same_bits a b fits_a fits_b same =
-    sym (to_z-of_z w128 a fits_a) ∙ ap (cast_signed w128) words ∙ to_z-of_z w128 b fits_b
-  where
-    words : cast_unsigned w128 a ≡ cast_unsigned w128 b
-    words = same_from_bits_below 128 (cast_unsigned w128 a) (cast_unsigned w128 b) (word_fits a fits_a) (word_fits b fits_b) (λ i h. sym (bit_of_word a i fits_a h) ∙ same i ∙ bit_of_word b i fits_b h)

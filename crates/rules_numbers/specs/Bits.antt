@@ -2,8 +2,7 @@
 use Rattle.std.specs.Prelude.{◌≡◌, ℕ, ◌+◌, ◌%◌, ◌^◌, min, max, ℤ, pos, neg_ℤ, ◌-ℤ◌, unsigned_abs}
 use Rattle.std.specs.Int.{w128, int_div_euclid, int_rem_euclid, int_bit_and, int_bit_or, int_bit_xor}
 
--- bit i of a: what a / 2^i, rounded down, leaves modulo 2
--- Bit i of a negative number is 1 for each great i, so a number is known by its bits.
+-- bit i of a: what a / 2^i, rounded down, leaves modulo 2; of a negative number all bits from some place on are 1
 abbrev pub bit : ℤ → ℕ → ℕ
 bit a i = unsigned_abs (int_rem_euclid (int_div_euclid a (pos (2 ^ i))) (pos 2))
 
@@ -23,7 +22,7 @@ either x y = max x y
 abbrev pub one_of : ℕ → ℕ → ℕ
 one_of x y = (x + y) % 2
 
--- the three operations on the 128 bits of two ints
+-- the three operations on the 128 bits of two ints (Michelson reference, AND, OR and XOR)
 abbrev pub bitwise_and : ℤ → ℤ → ℤ
 bitwise_and a b = int_bit_and w128 a b
 

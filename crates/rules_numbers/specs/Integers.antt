@@ -15,8 +15,7 @@ pub record IsOnlyDivision (a b q r : ℤ) : Type 0 where
   pub is_one : IsDivision a b q r
   pub no_other : (p s : ℤ) → IsDivision a b p s → (p ≡ q) × (s ≡ r)
 
--- none by 0, else the pair of `IsOnlyDivision`, where both parts are ints
--- (Michelson reference, EDIV)
+-- none by 0, else the pair of `IsOnlyDivision`, where both parts are ints (Michelson reference, EDIV)
 unfoldable pub division : ℤ → ℤ → Result (Option (ℤ × ℤ)) Limit
 division a b =
     if unsigned_abs b == 0
@@ -25,7 +24,7 @@ division a b =
     then Ok (Some (int_div_euclid a b, int_rem_euclid a b))
     else Err integer_limit)
 
--- the greatest number of places that a shift can have (Michelson reference, LSL and LSR)
+-- whether a shift is by at most 256 places (Michelson reference, LSL and LSR)
 abbrev pub is_shift : ℤ → Bool
 is_shift places = int_le places (pos 256)
 
