@@ -2,7 +2,7 @@
 use Rattle.std.specs.Prelude.{◌≡◌, ◌⊎◌, ℕ, ◌==◌, ◌&&◌, not, Bool, if◌then◌else◌, List, [], ◌∷◌, slice_index, codes, None, Some}
 use Rattle.std.specs.declared.option.Option.{Option}
 use Rattle.std.specs.Option.{option_map}
-use Rattle.std.specs.Str.{bytes_eq}
+use Rattle.std.specs.Str.{bytes_eq, is_utf8}
 use Rattle.rules_replay.specs.Replay.{Replay, Ending, State, RefusedAt, replay}
 use Rattle.rules_replay.specs.Lines.{lines_of, usage_line}
 
@@ -11,9 +11,9 @@ pub data Command : Type 0 where
   ReplayFile : (path : List ℕ) → Command
   NoCommand : Command
 
--- a word that doesn't begin with `-`
+-- a word that is UTF-8 text and doesn't begin with `-`
 abbrev pub is_path : List ℕ → Bool
-is_path word = not (slice_index word 0 == 45)
+is_path word = is_utf8 word && not (slice_index word 0 == 45)
 
 abbrev pub command_of : List (List ℕ) → Command
 command_of (verb ∷ path ∷ []) = if bytes_eq verb (codes "replay") && is_path path then ReplayFile path else NoCommand

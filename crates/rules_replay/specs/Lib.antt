@@ -6,3 +6,4 @@ pub mod World
 pub mod Replay
 pub mod Lines
 pub mod Commands
+pub mod Promise

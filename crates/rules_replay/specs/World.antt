@@ -1,12 +1,11 @@
 -- A world of implicit accounts, and what statements make of it (Octez: operations, accounts).
-use Rattle.std.specs.Prelude.{ℕ, ◌+◌, ◌-◌, ◌^◌, ◌==◌, ◌||◌, nat_lt, nat_le, ℤ, Bool, true, false, if◌then◌else◌, List, [], ◌∷◌, length, take, drop, sum, None, Some, is_some, unwrap_or}
+use Rattle.std.specs.Prelude.{ℕ, ◌+◌, ◌-◌, ◌==◌, ◌||◌, nat_lt, nat_le, ℤ, if◌then◌else◌, List, [], ◌∷◌, sum, None, Some, is_some, unwrap_or}
 use Rattle.std.specs.declared.option.Option.{Option}
 use Rattle.std.specs.Ordering.{nat_cmp}
 use Rattle.std.specs.Cmp.Lexicographic.{slice_cmp}
 use Rattle.std.specs.BTreeMap.{is_at, insert_entry}
 use Rattle.std.specs.Map.{lookup, values_of}
-use Rattle.rules_replay.specs.Reading.{◌>>=◌}
-use Rattle.rules_replay.specs.Statements.{Statement, Chain, Account, Group, Call, most_mutez}
+use Rattle.rules_replay.specs.Statements.{Call, most_mutez}
 use Rattle.rules_replay.specs.Receipts.{Receipt, Refused, Done, FeeTooHigh, EmptyTransaction, BalanceTooLow, Transfer, Applied, Failed}
 
 -- where and when the groups run; the accounts in the order of the bytes of their key hashes, with their balances;

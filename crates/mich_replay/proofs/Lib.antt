@@ -1,0 +1,10 @@
+pub mod Conserved
+pub mod Entries
+pub mod Failures
+pub mod Grants
+pub mod Listed
+pub mod Promise
+pub mod Sums
+pub mod Written
+pub mod Texts
+pub mod Truth

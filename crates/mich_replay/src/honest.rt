@@ -1,0 +1,34 @@
+// The replay of a file and a sink that never fail.
+ghost use Rattle.std.specs.Prelude.{◌≡◌, ◌⊎◌, ◌≤◌, ◌<◌, ℕ, List, [], ◌∷◌, IfOk, Some, codes};
+ghost use Rattle.rules_replay.specs.Lines.{text_of};
+ghost use Rattle.rules_replay.specs.Replay.{replay};
+ghost use Rattle.rules_replay.specs.Commands.{replay_answer};
+
+use crate::mich;
+use mich_base::{Bytes, Memory, Text, Texts};
+use mich_io::{HonestFiles, HonestSink};
+use std::alloc::Global;
+
+// The words `replay file`.
+fn words(alloc: Global) -> Result<Texts, Memory>
+    ensures { IfOk result (λ words. words ≡ codes "replay" ∷ codes "file" ∷ []) }
+{
+    let mut words = Texts::new(alloc);
+    words.push(Text::from_slice(alloc, b"replay")?)?;
+    words.push(Text::from_slice(alloc, b"file")?)?;
+    Ok(words)
+}
+
+/// The status for a file of these bytes, and what is written. The status is 0 or 2 as the file's rules give it, and the
+/// whole text is written, or it is 5, where memory ran out.
+#[tactic(auto, using(crate::proofs::Truth::file_is_text))]
+pub fn replay_bytes(alloc: Global, content: Bytes) -> Result<(u8, HonestSink), Memory>
+    ensures { IfOk result (λ done. (done.0 ≡ 5) ⊎ ((done.0 ≡ (replay_answer (replay content)).status)
+        × (done.1 ≡ text_of (replay_answer (replay content)).lines))) }
+{
+    let words = words(alloc)?;
+    let mut files = HonestFiles::new(Text::from_slice(alloc, b"file")?, content);
+    let mut out = HonestSink::new(alloc);
+    let status = mich(alloc, &words, &mut files, &mut out);
+    Ok((status, out))
+}
