@@ -19,3 +19,7 @@ pub mod Signs
 pub mod Unique
 pub mod Cut
 pub mod Shown
+pub mod Good
+pub mod Depths
+pub mod Printable
+pub mod Runs

@@ -68,7 +68,7 @@ made_ahead : {A : Type 0} (f : A → Token) (n : ℕ) (r : Result (A × List ℕ
 made_ahead f n (Ok r) p = p
 made_ahead f n (Err d) p = p
 
-prefix_some : (p : ℕ → Bool) (c : ℕ) (rest : List ℕ) → p c ≡ true → 0 < prefix_len p (c ∷ rest)
+pub prefix_some : (p : ℕ → Bool) (c : ℕ) (rest : List ℕ) → p c ≡ true → 0 < prefix_len p (c ∷ rest)
 prefix_some p c rest e = rw e (omega arith)
 
 name_ahead : (c : ℕ) (rest : List ℕ) → is_word c ≡ true → IsAhead (suc (length rest)) (name_at (c ∷ rest))
@@ -150,7 +150,7 @@ digits_ahead (c ∷ []) = made_ahead number 1 (number_at (c ∷ [])) (number_ahe
 digits_ahead (c ∷ d ∷ rest) = either_ahead (begins_bytes (c ∷ d ∷ rest)) (suc (suc (length rest))) _ _ (λ _. made_ahead bytes _ (bytes_at (c ∷ d ∷ rest)) (bytes_ahead c d rest)) (λ _. made_ahead number _ (number_at (c ∷ d ∷ rest)) (number_ahead (c ∷ d ∷ rest)))
 
 -- a byte of this shape is a letter or `_`
-word_is : (c : ℕ) → shape_of c ≡ Some Word → is_word c ≡ true
+pub word_is : (c : ℕ) → shape_of c ≡ Some Word → is_word c ≡ true
 word_is c e = letter (by _ _ _ _ _ _ _ _ _ e) where
   by : (a b d f g h i j k : Bool) → cond a (Some Digits) (cond b (Some Quoted) (cond d (Some Word) (cond f (Some Note) (cond g (Some OpenBrace) (cond h (Some CloseBrace) (cond i (Some OpenParen) (cond j (Some CloseParen) (cond k (Some Semicolon) None)))))))) ≡ Some Word → d ≡ true
   by a b true f g h i j k e = refl

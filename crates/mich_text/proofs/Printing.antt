@@ -1,6 +1,6 @@
 -- What is printed is read again, token by token.
-use Rattle.std.specs.Prelude.{◌==◌}
-use Rattle.std.proofs.Common.{◌≡◌, ℕ, ◌+◌, ◌-◌, ◌*◌, ◌/◌, ◌%◌, ◌^◌, ◌≤◌, ◌<◌, Bool, true, false, cond, not, ◌||◌, ◌&&◌, eqb, ltb, leb, List, [], ◌∷◌, ◌++◌, length, take, drop, Option, Some, ℤ, pos, Ok, refl, sym, ap, ◌∙◌, append_assoc, arith}
+use Rattle.std.specs.Prelude.{◌==◌, pos, neg_ℤ}
+use Rattle.std.proofs.Common.{◌≡◌, ℕ, ◌+◌, ◌-◌, ◌*◌, ◌/◌, ◌%◌, ◌^◌, ◌≤◌, ◌<◌, Bool, true, false, cond, not, ◌||◌, ◌&&◌, eqb, ltb, leb, List, [], ◌∷◌, ◌++◌, length, take, drop, Option, Some, ℤ, Result, Ok, refl, sym, ap, ◌∙◌, append_assoc, add-one, arith}
 use Rattle.std.proofs.lemmas.Bool.{le-ltb, eqb-true, ltb-true, ne_eqb}
 use Rattle.std.proofs.lemmas.Bool.Decides.{nat_tests}
 use Rattle.std.proofs.lemmas.List.{take_at, drop_at}
@@ -8,10 +8,10 @@ use Rattle.std.specs.List.{prefix_len}
 use Rattle.std.specs.Char.{is_ascii_hexdigit, is_ascii_digit, digit_value}
 use Rattle.std.specs.Str.Parse.{AllDigits, digits_value}
 use Rattle.rules_text.specs.Token.{Token}
-use Rattle.rules_text.specs.declared.Shape.TheVariants.{Word}
+use Rattle.rules_text.specs.declared.Shape.TheVariants.{Digits, Word, Note}
 use Rattle.rules_text.specs.declared.TextKind.TheVariants.{BadNumber}
 use Rattle.rules_text.specs.Fault.{name_limit, string_limit}
-use Rattle.rules_text.specs.Lexical.{flaw, signed, is_white, is_word, is_noted, begins_word, after_gap, name_at, spelt, with_byte, string_at, bytes_at, number_at, begins_bytes, paired, nibble, made, shape_at, first_shape, token_at}
+use Rattle.rules_text.specs.Lexical.{flaw, signed, after_minus, digits_at, annotation_at, shape_of, is_white, is_word, is_noted, begins_word, after_gap, name_at, spelt, with_byte, string_at, bytes_at, number_at, begins_bytes, paired, nibble, made, shape_at, first_shape, token_at}
 use Rattle.rules_text.specs.Printed.{spelling, string_text, hex_digit, bytes_text}
 use Rattle.rules_text.specs.Text.{Leads}
 
@@ -172,7 +172,7 @@ space_leads text (t ∷ ts) r p = p
 digit_passes : (c : ℕ) → digit_value c < 10 → is_ascii_digit c ≡ true
 digit_passes c h = grind (arith, nat_tests, h)
 
-digits_pass : (ds : List ℕ) → AllDigits 10 ds → IsAll is_ascii_digit ds
+pub digits_pass : (ds : List ℕ) → AllDigits 10 ds → IsAll is_ascii_digit ds
 digits_pass [] h = tt
 digits_pass (c ∷ ds) h = (digit_passes c h.0, digits_pass ds h.1)
 
@@ -218,3 +218,52 @@ positive_again n (c ∷ ds) rest small some all value a =
           cond (eqb m 0 || begins_word (drop m digits)) (flaw {A = ℤ × List ℕ} BadNumber (c ∷ (ds ++ rest))) (cond (ltb (cond b (2 ^ 127) (2 ^ 127 - 1)) (digits_value 10 (take m digits))) (flaw {A = ℤ × List ℕ} BadNumber (c ∷ (ds ++ rest))) (Ok (signed b (digits_value 10 (take m digits)), drop m digits))) ≡ Ok (pos n, rest)
       by true e none run fits = absurd cc
       by false e none run fits = rw (run, take_at ds rest (length ds) refl, drop_at ds rest (length ds) refl, none, no_word rest a, value, fits) refl
+
+-- a number behind a minus
+pub negative_again : (n : ℕ) (ds rest : List ℕ) → n ≤ 2 ^ 127 → 0 < length ds → AllDigits 10 ds → digits_value 10 ds ≡ n → IsApart rest → number_at (45 ∷ (ds ++ rest)) ≡ Ok (neg_ℤ (pos n), rest)
+unfolding number_at
+negative_again n ds rest small some all value a =
+    let run : prefix_len is_ascii_digit (ds ++ rest) ≡ length ds = run_ends is_ascii_digit ds rest (digits_pass ds all) digit_apart a in
+    let fits : ltb (2 ^ 127) n ≡ false = le-ltb _ _ (omega (arith, small)) in
+    let none : eqb (length ds) 0 ≡ false = ne_eqb (length ds) 0 (λ e. omega (arith, e, some)) in
+    rw (run, take_at ds rest (length ds) refl, drop_at ds rest (length ds) refl, none, no_word rest a, value, fits) refl
+
+digit_shape : (c : ℕ) → is_ascii_digit c ≡ true → shape_of c ≡ Some Digits
+digit_shape c e = rw e refl
+
+-- a number without a minus, as a token
+pub digits_token : (n : ℕ) (ds rest : List ℕ) → n < 2 ^ 127 → 0 < length ds → AllDigits 10 ds → digits_value 10 ds ≡ n → IsApart rest → token_at (ds ++ rest) ≡ Ok (Token.number (pos n), rest)
+unfolding token_at
+digits_token n [] rest small some all value a = absurd (omega (arith, some))
+digits_token n (c ∷ ds) rest small some all value a =
+    let pass = digits_pass (c ∷ ds) all in
+    ap (λ o. shape_at o (c ∷ (ds ++ rest))) (digit_shape c pass.0)
+    ∙ ap (λ (b : Bool). cond {A = Result (Token × List ℕ) Rattle.rules_text.specs.Fault.Flaw} b (made Token.bytes (bytes_at (c ∷ (ds ++ rest)))) (made Token.number (number_at (c ∷ (ds ++ rest))))) (no_bytes (c ∷ ds) rest pass a)
+    ∙ ap (made Token.number) (positive_again n (c ∷ ds) rest small some all value a)
+
+-- and with one
+pub minus_token : (n : ℕ) (ds rest : List ℕ) → n ≤ 2 ^ 127 → 0 < length ds → AllDigits 10 ds → digits_value 10 ds ≡ n → IsApart rest → token_at (45 ∷ (ds ++ rest)) ≡ Ok (Token.number (neg_ℤ (pos n)), rest)
+unfolding token_at
+minus_token n [] rest small some all value a = absurd (omega (arith, some))
+minus_token n (c ∷ ds) rest small some all value a = ap (made Token.number) (negative_again n (c ∷ ds) rest small some all value a)
+
+note_again : (c : ℕ) (cs rest : List ℕ) → IsAll is_noted cs → length cs ≤ name_limit → IsApart rest → annotation_at (c ∷ (cs ++ rest)) ≡ Ok (c ∷ cs, rest)
+unfolding annotation_at
+note_again c cs rest p short a =
+    let run : prefix_len is_noted (cs ++ rest) ≡ length cs = run_ends is_noted cs rest p noted_apart a in
+    let fits : ltb name_limit (length cs) ≡ false = le-ltb _ _ short in
+    rw (run, fits, add-one, take_at cs rest (length cs) refl, drop_at cs rest (length cs) refl) refl
+
+pub note_token : (c : ℕ) (cs rest : List ℕ) → shape_of c ≡ Some Note → IsAll is_noted cs → length cs ≤ name_limit → IsApart rest → token_at (c ∷ (cs ++ rest)) ≡ Ok (Token.annotation (c ∷ cs), rest)
+unfolding token_at
+note_token c cs rest e p short a = ap (λ o. shape_at o (c ∷ (cs ++ rest))) e ∙ ap (made Token.annotation) (note_again c cs rest p short a)
+
+-- a digit and a letter are no white space
+pub digit_solid : (c : ℕ) → is_ascii_digit c ≡ true → is_solid c ≡ true
+digit_solid c h = grind (arith, nat_tests, h)
+
+pub word_solid : (c : ℕ) → is_word c ≡ true → is_solid c ≡ true
+word_solid c h = grind (arith, nat_tests, h)
+
+pub note_solid : (c : ℕ) → (c == 64 || (c == 58 || c == 37)) ≡ true → is_solid c ≡ true
+note_solid c h = grind (arith, nat_tests, h)

@@ -43,7 +43,7 @@ behind_le here more t there p = omega (arith, token_shorter here p.0 t p.1, lead
 abbrev EndsBehind : List ℕ → ℕ → Type 0
 EndsBehind here end = (here ≡ []) ⊎ (end < length here)
 
-ends_le : (rest : List ℕ) (end : ℕ) → EndsAt rest end → end ≤ length rest
+pub ends_le : (rest : List ℕ) (end : ℕ) → EndsAt rest end → end ≤ length rest
 ends_le [] end p = omega arith
 ends_le (c ∷ rest) end p = omega (arith, token_shorter (c ∷ rest) p.0 Token.semicolon p.1)
 

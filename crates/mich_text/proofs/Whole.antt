@@ -1,5 +1,5 @@
 -- What has been read when a statement may end.
-use Rattle.std.proofs.Common.{◌≡◌, ℕ, max, true, false, List, [], ◌∷◌, ◌++◌, length, Result, Ok, refl, sym, ap, ◌∙◌, append_assoc, arith, inl, inr, ◌⊎◌}
+use Rattle.std.proofs.Common.{◌≡◌, ℕ, ◌≤◌, max, true, false, List, [], ◌∷◌, ◌++◌, length, Result, Ok, refl, sym, ap, ◌∙◌, append_assoc, arith, inl, inr, ◌⊎◌}
 use Rattle.std.proofs.lemmas.List.{same_from_push, length-append}
 use Rattle.rules_base.specs.Tree.{Tree}
 use Rattle.rules_text.specs.Token.{Token}
@@ -29,6 +29,24 @@ statement_of limit (elements false (x ∷ []) false ∷ (f ∷ s)) ts d p h = ab
 statement_of limit (elements false (x ∷ y ∷ es) r ∷ s) ts d p h = absurd cc
 statement_of limit (named w n ns xs ∷ s) ts d p h = absurd cc
 statement_of limit (paren ∷ s) ts d p h = absurd cc
+
+-- its element, which is no deeper than the limit
+element_within : (limit : ℕ) (s : Stack) (ts : List Token) → Spelt limit s ts → has_statement s ≡ true → (e : Element) × (ts ≡ element_tokens e) × (element_depth e ≤ limit)
+element_within limit [] ts p h = absurd cc
+element_within limit (elements true es r ∷ s) ts p h = absurd cc
+element_within limit (elements false [] r ∷ s) ts p h = absurd cc
+element_within limit (elements false (x ∷ []) true ∷ s) ts p h = absurd cc
+element_within limit (elements false (x ∷ []) false ∷ []) ts (before, nothing, e, below, tokens, stands, depth, on, high) h =
+    (e, rw (tokens, below) refl, omega (arith, depth))
+element_within limit (elements false (x ∷ []) false ∷ []) ts (before, followed y f, e, below, tokens, stands, depth, on, high) h =
+    absurd (omega (arith, ap length stands, length-append (separated_trees y ++ element_tree f ∷ []) (element_tree e ∷ []), length-append (separated_trees y) (element_tree f ∷ [])))
+element_within limit (elements false (x ∷ []) false ∷ (f ∷ s)) ts p h = absurd cc
+element_within limit (elements false (x ∷ y ∷ es) r ∷ s) ts p h = absurd cc
+element_within limit (named w n ns xs ∷ s) ts p h = absurd cc
+element_within limit (paren ∷ s) ts p h = absurd cc
+
+pub statement_within : (limit : ℕ) (s : Stack) (ts : List Token) → run limit start ts ≡ Ok s → has_statement (finish s) ≡ true → (e : Element) × (ts ≡ element_tokens e) × (element_depth e ≤ limit)
+statement_within limit s ts e h = element_within limit (finish s) ts (finish_spelt limit s ts (is_spelt limit s ts e)) h
 
 pub is_statement : (limit : ℕ) (s : Stack) (ts : List Token) (d : Tree) → run limit start ts ≡ Ok s → has_statement (finish s) ≡ true → IsStatement ts (ended_tree (finish s) d)
 is_statement limit s ts d e h = statement_of limit (finish s) ts d (finish_spelt limit s ts (is_spelt limit s ts e)) h

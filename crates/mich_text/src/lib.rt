@@ -2,6 +2,7 @@
 #![tactic(auto)]
 
 mod fault;
+mod laws;
 mod lexical;
 mod line;
 mod node;
@@ -10,6 +11,7 @@ mod reader;
 mod token;
 
 pub use fault::TextError;
+pub use laws::a_line_is_read_again;
 pub use line::print;
 pub use reader::{Placed, read_statement};
 pub use rules_text::TextKind;

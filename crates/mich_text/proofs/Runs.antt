@@ -1,0 +1,129 @@
+-- A node that a text gives is no deeper than the limit, and its line is read again.
+use Rattle.std.proofs.Common.{◌≡◌, ℕ, ◌+◌, ◌≤◌, ◌<◌, ◌⊎◌, inl, inr, true, List, [], ◌∷◌, ◌++◌, length, Option, Some, None, Result, Ok, Err, refl, sym, ap, subst, ◌∙◌, append_assoc, arith}
+use Rattle.std.specs.List.{AllByRecursion}
+use Rattle.rules_base.specs.Tree.{Tree, depth}
+use Rattle.rules_text.specs.Fault.{depth_limit}
+use Rattle.rules_text.specs.Token.{Token, token_shape}
+use Rattle.rules_text.specs.Syntax.{Element, element_tokens, element_tree, element_depth, Separated, nothing, unended, IsFront}
+use Rattle.rules_text.specs.Lexical.{token_at}
+use Rattle.rules_text.specs.declared.Shape.{Shape}
+use Rattle.rules_text.specs.declared.TextKind.TheVariants.{TooDeep}
+use Rattle.rules_text.specs.Text.{Leads, Stands}
+use Rattle.rules_text.specs.Printed.{printed}
+use Rattle.mich_text.specs.Plain.{IsNode, too_deep}
+use Rattle.mich_text.specs.Machine.{Stack, Refusal, unexpected, ready_for, refused, put, step, run, start}
+use Rattle.mich_text.specs.Canonical.{element_of}
+use Rattle.mich_text.proofs.Complete.{run_none, run_front}
+use Rattle.mich_text.proofs.Fronts.{answer, step_answer, is_front_within, no_front, no_front_within, deeper_front}
+use Rattle.mich_text.proofs.Whole.{statement_is, statement_within}
+use Rattle.mich_text.proofs.Places.{token_shorter, token_shape_is}
+use Rattle.mich_text.proofs.Reading.{leads_le}
+use Rattle.mich_text.proofs.Verdict.{ends_le}
+use Rattle.mich_text.proofs.Unique.{one_tree}
+use Rattle.mich_text.proofs.Again.{IsPrintable}
+use Rattle.mich_text.proofs.Good.{IsGood, leads_good}
+use Rattle.mich_text.proofs.Depths.{element_tree_depth, element_of_depth}
+use Rattle.mich_text.proofs.Printable.{element_printable, line_begins}
+use Rattle.mich_text.proofs.Signs.{printed_again}
+
+-- the parser takes these tokens, or stops at one of them
+record Stops (limit : ℕ) (s : Stack) (ts : List Token) : Type 0 where
+  before : List Token
+  token : Token
+  behind : List Token
+  stack : Stack
+  refusal : Refusal
+  tokens : ts ≡ before ++ token ∷ behind
+  runs : run limit s before ≡ Ok stack
+  refuses : step limit stack token ≡ Err refusal
+
+abbrev Runs : ℕ → Stack → List Token → Type 0
+Runs limit s ts = ((r : Stack) × (run limit s ts ≡ Ok r)) ⊎ Stops limit s ts
+
+one_step : (limit : ℕ) (s : Stack) (t : Token) (ts : List Token) (x : Result Stack Refusal) → step limit s t ≡ x → ((n : Stack) → Runs limit n ts) → Runs limit s (t ∷ ts)
+one_step limit s t ts (Err r) e next = inr (record { before = []; token = t; behind = ts; stack = s; refusal = r; tokens = refl; runs = run_none limit s; refuses = e })
+one_step limit s t ts (Ok n) e next = elim (next n) [
+  | inl p ↦ inl (p.0, run_front limit s n p.0 t ts e p.1)
+  | inr q ↦ inr (record { before = t ∷ q.before; token = q.token; behind = q.behind; stack = q.stack; refusal = q.refusal; tokens = ap (λ (l : List Token). t ∷ l) q.tokens; runs = run_front limit s n q.stack t q.before e q.runs; refuses = q.refuses })
+]
+
+runs : (limit : ℕ) (s : Stack) (ts : List Token) → Runs limit s ts
+runs limit s [] = inl (s, run_none limit s)
+runs limit s (t ∷ ts) = one_step limit s t ts (step limit s t) refl (λ n. runs limit n ts)
+
+-- the place of one of the tokens that lead on
+record Passes (text : List ℕ) (before : List Token) (t : Token) (rest : List ℕ) : Type 0 where
+  here : List ℕ
+  behind : List ℕ
+  leads : Leads text before (Some here)
+  read : token_at here ≡ Ok (t, behind)
+  further : length rest < length here
+
+passes : (text : List ℕ) (before behind : List Token) (t : Token) (rest : List ℕ) → Leads text (before ++ t ∷ behind) (Some rest) → Passes text before t rest
+passes text [] behind t rest p = record { here = p.0; behind = p.1; leads = p.2; read = p.3; further = omega (arith, token_shorter p.0 p.1 t p.3, leads_le p.1 behind rest p.4) }
+passes text (u ∷ before) behind t rest p =
+    let q = passes p.1 before behind t rest p.4 in
+    record { here = q.here; behind = q.behind; leads = (p.0, p.1, p.2, p.3, q.leads); read = q.read; further = q.further }
+
+refusal_is : (o : Option Refusal) (s : Stack) (r : Refusal) → answer o s ≡ Err r → o ≡ Some r
+refusal_is None s r e = absurd cc
+refusal_is (Some q) s r e = ap (λ (x : Refusal). Some x) (same q r e)
+  where
+    same : (q r : Refusal) → ◌≡◌ {A = Result Stack Refusal} (Err q) (Err r) → q ≡ r
+    same q r e = cc
+
+refused_at : (limit : ℕ) (s : Stack) (t : Token) (r : Refusal) → step limit s t ≡ Err r → refused limit (ready_for (token_shape t) s) (token_shape t) ≡ Some r
+refused_at limit s t r e = refusal_is (refused limit (ready_for (token_shape t) s) (token_shape t)) (put t (ready_for (token_shape t) s)) r (sym (step_answer limit s t) ∙ e)
+
+-- the tokens of a statement, up to one of them, are a front
+statement_front : (e : Element) (before behind : List Token) (t : Token) → element_tokens e ≡ before ++ t ∷ behind → IsFront (before ++ t ∷ [])
+statement_front e before behind t f = record { whole = unended nothing e; more = behind; tokens = append_assoc before (t ∷ []) behind ∙ sym f }
+
+stopped : (text : List ℕ) (tree : Tree) (from end : ℕ) → (n : IsNode text tree from end) → (r : Refusal) → (q : Stops depth_limit start (element_tokens n.stands.statement.element)) → q.refusal ≡ r → ⊥
+stopped text tree from end n unexpected q e =
+    no_front depth_limit q.stack q.before q.token q.runs (refused_at depth_limit q.stack q.token unexpected (q.refuses ∙ ap (λ (x : Refusal). Err x) e))
+    (statement_front n.stands.statement.element q.before q.behind q.token q.tokens)
+stopped text tree from end n Rattle.mich_text.specs.Machine.too_deep q e =
+    let p = n.stands in
+    let leads : Leads text (q.before ++ q.token ∷ q.behind) (Some p.rest) = subst (λ (l : List Token). Leads text l (Some p.rest)) (p.statement.tokens ∙ q.tokens) p.leads in
+    let at = passes text q.before q.behind q.token p.rest leads in
+    let refuses = refused_at depth_limit q.stack q.token Rattle.mich_text.specs.Machine.too_deep (q.refuses ∙ ap (λ (x : Refusal). Err x) e) in
+    let same : (t : Token) → token_shape t ≡ token_shape q.token → refused depth_limit (ready_for (token_shape t) q.stack) (token_shape t) ≡ Some Rattle.mich_text.specs.Machine.too_deep
+    = λ t f. subst (λ (s : Shape). refused depth_limit (ready_for s q.stack) s ≡ Some Rattle.mich_text.specs.Machine.too_deep) (sym f) refuses in
+    let deep = n.clean TooDeep (length at.here) (too_deep (record {
+      before = q.before; here = at.here; shape = token_shape q.token; leads = at.leads; begins = token_shape_is at.here q.token at.behind at.read;
+      within = is_front_within depth_limit q.stack q.before q.runs;
+      front = λ t f. deeper_front depth_limit q.stack q.before t q.runs (same t f);
+      deep = λ t f. no_front_within depth_limit q.stack q.before t q.runs (same t f);
+      kind_is = refl; left_is = refl;
+    })) in
+    omega (arith, deep, at.further, ends_le p.rest end p.ends)
+
+-- the parser takes the tokens of a node that a text gives
+node_runs : (text : List ℕ) (tree : Tree) (from end : ℕ) → (n : IsNode text tree from end) → (r : Stack) × (run depth_limit start (element_tokens n.stands.statement.element) ≡ Ok r)
+node_runs text tree from end n = elim (runs depth_limit start (element_tokens n.stands.statement.element)) [
+  | inl p ↦ p
+  | inr q ↦ absurd (stopped text tree from end n q.refusal q refl)
+]
+
+node_depth_within : (text : List ℕ) (tree : Tree) (from end : ℕ) → IsNode text tree from end → element_depth (element_of tree) ≤ depth_limit
+node_depth_within text tree from end n =
+    let s = n.stands.statement in
+    let r = node_runs text tree from end n in
+    let w = statement_within depth_limit r.0 (element_tokens s.element) r.1 (statement_is depth_limit r.0 s.element r.1) in
+    let same : tree ≡ element_tree w.0 = s.stands ∙ one_tree s.element w.0 w.1 in
+    let shallow : depth tree ≤ element_depth w.0 = subst (λ (t : Tree). depth t ≤ element_depth w.0) (sym same) (element_tree_depth w.0) in
+    omega (arith, element_of_depth tree, shallow, w.2)
+
+pub node_printable : (text : List ℕ) (tree : Tree) (from end : ℕ) → IsNode text tree from end → IsPrintable tree
+node_printable text tree from end n =
+    let p = n.stands in
+    let s = p.statement in
+    let good : AllByRecursion IsGood (element_tokens s.element) = subst (AllByRecursion IsGood) s.tokens (leads_good text p.tokens (Some p.rest) p.leads) in
+    subst IsPrintable (sym s.stands) (element_printable s.element good)
+
+-- the line of a node that a text gives is read as that node
+pub line_again : (text : List ℕ) (tree : Tree) (from end : ℕ) → IsNode text tree from end → IsNode (printed tree) tree (length (printed tree)) 0
+line_again text tree from end n =
+    let h = node_printable text tree from end n in
+    printed_again tree (printed tree) h (node_depth_within text tree from end n) (line_begins tree h)
