@@ -23,3 +23,5 @@ pub mod Good
 pub mod Depths
 pub mod Printable
 pub mod Runs
+pub mod Suffix
+pub mod Odd
