@@ -17,11 +17,7 @@ pub mod Canon
 pub mod Again
 pub mod Signs
 pub mod Unique
-pub mod Cut
-pub mod Shown
 pub mod Good
 pub mod Depths
 pub mod Printable
 pub mod Runs
-pub mod Suffix
-pub mod Odd

@@ -1,13 +1,14 @@
 -- A text is one thing only.
-use Rattle.std.proofs.Common.{◌≡◌, ℕ, ◌≤◌, ◌<◌, ◌⊎◌, max, false, List, [], ◌∷◌, ◌++◌, length, Some, None, Result, Ok, Err, sym, ap, subst, ◌∙◌, arith, inl, inr}
+use Rattle.std.proofs.Common.{◌≡◌, ℕ, ◌≤◌, ◌<◌, ◌⊎◌, max, false, List, [], ◌∷◌, ◌++◌, length, Option, Some, None, Result, Ok, Err, refl, sym, ap, subst, ◌∙◌, arith, inl, inr}
 use Rattle.std.proofs.lemmas.List.{append-nil}
 use Rattle.rules_base.specs.Tree.{Tree}
 use Rattle.rules_text.specs.Token.{Token}
-use Rattle.rules_text.specs.Syntax.{Element, element_tokens, element_tree, element_depth}
+use Rattle.rules_text.specs.Syntax.{Element, alone, application, number, bytes, string, parens, braces, braces_to, nothing, ended, element_tokens, element_tree, element_depth}
 use Rattle.mich_text.specs.Machine.{Stack, Refusal, finish, ended_tree, run, start}
-use Rattle.rules_text.specs.Lexical.{token_at}
-use Rattle.rules_text.specs.Text.{IsInComment, IsOpen, EndsAt, Stands}
-use Rattle.mich_text.specs.Plain.{IsFlawed, Holds, flawed, in_comment, is_open, unexpected, too_deep, rank, IsFault, IsNode}
+use Rattle.rules_text.specs.Lexical.{token_at, first_shape}
+use Rattle.rules_text.specs.Text.{Leads, IsInComment, IsOpen, EndsAt, Stands}
+use Rattle.rules_text.specs.declared.Shape.{Shape}
+use Rattle.mich_text.specs.Plain.{IsFlawed, Holds, flawed, in_comment, is_open, unexpected, too_deep, rank, IsFault, IsNode, IsEnd}
 use Rattle.rules_text.specs.Fault.{Flaw}
 use Rattle.rules_text.specs.declared.TextKind.{TextKind}
 use Rattle.rules_text.specs.declared.TextKind.TheVariants.{Unclosed, Unexpected, TooDeep}
@@ -170,3 +171,37 @@ pub one_fault : (text : List ℕ) (k j : TextKind) (left other : ℕ) → IsFaul
 one_fault text k j left other p q =
     let same = one_place text k j left other p q in
     (same.0, by_sorts text k j left other same.1 (sort_of text k left p.holds) (sort_of text j other q.holds))
+
+-- ---- the end is neither
+
+end_leads : (text : List ℕ) (ts : List Token) (o : Option (List ℕ)) → IsEnd text → Leads text ts o → (ts ≡ []) × (o ≡ Some [])
+end_leads text [] o e p = (refl, sym p ∙ e)
+end_leads text (t ∷ ts) o e p = absurd (no_token p.1 t (ap token_at (same_rest [] p.0 (sym e ∙ p.2)) ∙ p.3))
+
+no_tokens : (e : Element) → element_tokens e ≡ [] → ⊥
+no_tokens (alone (number n)) h = omega (arith, ap (λ (l : List Token). length l) h)
+no_tokens (alone (bytes b)) h = omega (arith, ap (λ (l : List Token). length l) h)
+no_tokens (alone (string s)) h = omega (arith, ap (λ (l : List Token). length l) h)
+no_tokens (alone (parens n i)) h = omega (arith, ap (λ (l : List Token). length l) h)
+no_tokens (alone (braces s)) h = omega (arith, ap (λ (l : List Token). length l) h)
+no_tokens (alone (braces_to s e)) h = omega (arith, ap (λ (l : List Token). length l) h)
+no_tokens (application n i) h = omega (arith, ap (λ (l : List Token). length l) h)
+
+pub no_node_at_end : (text : List ℕ) (tree : Tree) (from end : ℕ) → IsEnd text → IsNode text tree from end → ⊥
+no_node_at_end text tree from end e p =
+    let s = p.stands in
+    no_tokens s.statement.element (sym s.statement.tokens ∙ (end_leads text s.tokens (Some s.rest) e s.leads).0)
+
+no_shape : (here : List ℕ) (shape : Shape) → Some here ≡ Some [] → first_shape here ≡ Some shape → ⊥
+no_shape [] shape e h = cc h
+no_shape (c ∷ here) shape e h = omega (arith, ap (λ (l : List ℕ). length l) (same_rest (c ∷ here) [] e))
+
+nothing_holds : (text : List ℕ) (k : TextKind) (left : ℕ) → IsEnd text → Holds text k left → ⊥
+nothing_holds text k left e (flawed p) = omega (arith, p.some, ap (λ (l : List ℕ). length l) (same_rest p.here [] (end_leads text p.before (Some p.here) e p.leads).1))
+nothing_holds text k left e (in_comment p) = cc (end_leads text p.before None e p.leads).1
+nothing_holds text k left e (is_open p) = p.open_still (record { whole = ended nothing; tokens = (end_leads text p.before (Some []) e p.leads).0 })
+nothing_holds text k left e (unexpected p) = no_shape p.here p.shape (end_leads text p.before (Some p.here) e p.leads).1 p.begins
+nothing_holds text k left e (too_deep p) = no_shape p.here p.shape (end_leads text p.before (Some p.here) e p.leads).1 p.begins
+
+pub no_fault_at_end : (text : List ℕ) (k : TextKind) (left : ℕ) → IsEnd text → IsFault text k left → ⊥
+no_fault_at_end text k left e p = nothing_holds text k left e p.holds

@@ -2,7 +2,6 @@ pub mod Gives
 pub mod Line
 pub mod Machine
 pub mod Plain
-pub mod Shown
 pub mod Units
 pub mod Views
 pub mod Nodes

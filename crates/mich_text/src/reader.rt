@@ -3,7 +3,7 @@ ghost use Rattle.std.specs.Prelude.{◌≡◌, ◌+◌, ◌<◌, ◌≤◌, ◌�
 ghost use Rattle.std.specs.Prelude.{ℕ, List};
 ghost use Rattle.rules_base.specs.Tree.{Tree};
 ghost use Rattle.rules_text.specs.Text.{Stands};
-ghost use Rattle.mich_text.specs.Plain.{IsFault, IsNode};
+ghost use Rattle.mich_text.specs.Plain.{IsEnd, IsFault, IsNode};
 ghost use Rattle.rules_text.specs.declared.TextKind.{TextKind};
 ghost use Rattle.rules_text.specs.Token.{token_shape, semicolon};
 ghost use Rattle.mich_text.specs.Machine.{ready_for};
@@ -222,7 +222,7 @@ pub fn read_statement(alloc: Global, bytes: &[u8], place: u64) -> Result<Option<
     }
 }
 
-// A text is one thing only: each law over all texts.
+/// A law, with nothing to run: a text is one thing only, ended, one node at one place, or one fault at one place.
 pub fn one_reading()
     // one fault
     ensures faults { (text : List ℕ) (k j : TextKind) (left other : ℕ) → IsFault text k left → IsFault text j other → (left ≡ other) × (k ≡ j) }
@@ -230,4 +230,7 @@ pub fn one_reading()
     ensures nodes { (text : List ℕ) (x y : Tree) (a b c d : ℕ) → Stands text x a b → Stands text y c d → (x ≡ y) × (a ≡ c) × (b ≡ d) }
     // and not both
     ensures apart { (text : List ℕ) (k : TextKind) (left : ℕ) (tree : Tree) (start end : ℕ) → IsFault text k left → IsNode text tree start end → ⊥ }
+    // nor either of them where the text is ended
+    ensures no_node_at_end { (text : List ℕ) (tree : Tree) (start end : ℕ) → IsEnd text → IsNode text tree start end → ⊥ }
+    ensures no_fault_at_end { (text : List ℕ) (k : TextKind) (left : ℕ) → IsEnd text → IsFault text k left → ⊥ }
 {}

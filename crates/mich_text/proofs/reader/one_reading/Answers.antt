@@ -1,4 +1,4 @@
-use Rattle.mich_text.proofs.Unique.{one_fault, one_statement, no_fault_at_node}
+use Rattle.mich_text.proofs.Unique.{one_fault, one_statement, no_fault_at_node, no_node_at_end, no_fault_at_end}
 use Rattle.mich_text.proofs.reader.one_reading.Goals as goal
 
 pub returns-clause-faults : goal.returns-clause-faults
@@ -9,3 +9,9 @@ returns-clause-nodes c = one_statement
 
 pub returns-clause-apart : goal.returns-clause-apart
 returns-clause-apart c = no_fault_at_node
+
+pub returns-clause-no_node_at_end : goal.returns-clause-no_node_at_end
+returns-clause-no_node_at_end c = no_node_at_end
+
+pub returns-clause-no_fault_at_end : goal.returns-clause-no_fault_at_end
+returns-clause-no_fault_at_end c = no_fault_at_end
