@@ -1,18 +1,17 @@
 -- What a token that was read is like.
 use Rattle.std.specs.Prelude.{◌==◌}
-use Rattle.std.proofs.Common.{◌≡◌, ℕ, zero, suc, ◌+◌, ◌-◌, ◌*◌, ◌/◌, ◌%◌, ◌^◌, ◌≤◌, ◌<◌, min, Bool, true, false, cond, ◌||◌, ◌&&◌, eqb, ltb, leb, List, [], ◌∷◌, ◌++◌, length, take, drop, Option, Some, None, ℤ, Result, Ok, Err, refl, sym, ap, subst, ◌∙◌, add-one, arith}
-use Rattle.std.specs.Prelude.{pos, negsuc, neg_ℤ}
-use Rattle.std.proofs.lemmas.Bool.{ltb-false, lt-ltb, ltb-true}
+use Rattle.std.proofs.Common.{◌≡◌, ℕ, zero, suc, ◌+◌, ◌-◌, ◌*◌, ◌/◌, ◌%◌, ◌^◌, ◌≤◌, ◌<◌, Bool, true, false, cond, ◌||◌, ◌&&◌, eqb, ltb, leb, List, [], ◌∷◌, length, take, drop, Option, Some, None, ℤ, Result, Ok, Err, refl, subst, ◌∙◌, add-one, arith}
+use Rattle.std.specs.Prelude.{pos, negsuc}
+use Rattle.std.proofs.lemmas.Bool.{ltb-false, lt-ltb}
 use Rattle.std.proofs.lemmas.Bool.Decides.{nat_tests}
 use Rattle.std.proofs.lemmas.List.{length-take}
 use Rattle.std.specs.List.{prefix_len, AllByRecursion}
 use Rattle.std.specs.Char.{is_ascii_digit, is_ascii_hexdigit}
 use Rattle.std.specs.Str.Parse.{digits_value}
-use Rattle.std.specs.Int.{is_in_range}
 use Rattle.rules_text.specs.Token.{Token, string, name, annotation, number, bytes}
 use Rattle.rules_text.specs.declared.Shape.{Shape}
 use Rattle.rules_text.specs.declared.Shape.TheVariants.{Digits, Quoted, Word, Note, OpenBrace, CloseBrace, OpenParen, CloseParen, Semicolon}
-use Rattle.rules_text.specs.declared.TextKind.TheVariants.{BadString, BadBytes, BadNumber, Unclosed, TooLong}
+use Rattle.rules_text.specs.declared.TextKind.TheVariants.{BadString, BadBytes, BadNumber, TooLong}
 use Rattle.rules_text.specs.Fault.{Flaw, name_limit, string_limit}
 use Rattle.rules_text.specs.Lexical.{flaw, is_word, is_noted, begins_word, name_at, annotation_at, Spelt, spelt, spelt_escape, with_byte, with_escape, escaped, string_at, ◌>>=◌, bytes_at, paired, nibble, number_at, after_minus, is_minus, signed, made, digits_at, begins_bytes, shape_at, shape_of, first_shape, token_at}
 use Rattle.rules_text.specs.Text.{Leads}

@@ -1,19 +1,18 @@
 -- What a text gives is printed so that it is read again.
 use Rattle.std.specs.Prelude.{◌==◌, pos, negsuc}
-use Rattle.std.proofs.Common.{◌≡◌, ℕ, suc, ◌+◌, ◌^◌, ◌≤◌, ◌<◌, Bool, true, false, cond, ◌||◌, List, [], ◌∷◌, ◌++◌, length, drop, Option, Some, None, ℤ, Ok, refl, sym, ap, subst, ◌∙◌, arith}
+use Rattle.std.proofs.Common.{◌≡◌, ℕ, suc, ◌^◌, ◌≤◌, ◌<◌, Bool, true, false, cond, ◌||◌, List, [], ◌∷◌, ◌++◌, length, Some, None, ℤ, refl, subst, arith}
 use Rattle.std.proofs.lemmas.List.{append-nil}
 use Rattle.std.proofs.lemmas.Fmt.{decimal_is_IsNumeral_wide}
 use Rattle.std.specs.Fmt.{decimal, signed_decimal}
 use Rattle.std.specs.List.{AllByRecursion}
-use Rattle.rules_base.specs.Tree.{Tree, int, str, prim, seq, Trees, none, more, trees_of}
+use Rattle.rules_base.specs.Tree.{Tree, int, str, prim, seq, none, more, trees_of}
 use Rattle.rules_text.specs.Token.{Token}
-use Rattle.rules_text.specs.declared.Shape.{Shape}
 use Rattle.rules_text.specs.declared.Shape.TheVariants.{Digits, Quoted, Word, Note, OpenBrace, CloseBrace, OpenParen, CloseParen, Semicolon}
 use Rattle.rules_text.specs.Syntax.{Node, number, bytes, string, parens, braces, braces_to, Items, no_items, with_annotation, with_name, with_node, Element, alone, application, Separated, nothing, followed, node_tokens, item_tokens, element_tokens, separated_tokens, annotations, node_tree, arguments, element_tree, separated_trees}
-use Rattle.rules_text.specs.Lexical.{after_gap, shape_of, is_noted}
+use Rattle.rules_text.specs.Lexical.{after_gap, shape_of}
 use Rattle.rules_text.specs.Printed.{printed, string_text, bytes_text, annotations_text, arguments_text, elements_text}
 use Rattle.mich_text.proofs.Places.{word_is}
-use Rattle.mich_text.proofs.Printing.{IsApart, IsAll, IsName, name_token, digits_token, minus_token, note_token, digits_pass, digit_solid, word_solid, note_solid, is_solid, solid_gap}
+use Rattle.mich_text.proofs.Printing.{IsAll, IsName, name_token, digits_token, minus_token, note_token, digits_pass, digit_solid, word_solid, note_solid, is_solid, solid_gap}
 use Rattle.mich_text.proofs.Again.{IsToken, IsPrintable, ArePrintable}
 use Rattle.mich_text.proofs.Good.{IsGood, IsInt, IsNote}
 

@@ -11,7 +11,7 @@ use Rattle.rules_text.specs.Token.{Token}
 use Rattle.rules_text.specs.declared.Shape.TheVariants.{Digits, Word, Note}
 use Rattle.rules_text.specs.declared.TextKind.TheVariants.{BadNumber}
 use Rattle.rules_text.specs.Fault.{name_limit, string_limit}
-use Rattle.rules_text.specs.Lexical.{flaw, signed, after_minus, digits_at, annotation_at, shape_of, is_white, is_word, is_noted, begins_word, after_gap, name_at, spelt, with_byte, string_at, bytes_at, number_at, begins_bytes, paired, nibble, made, shape_at, first_shape, token_at}
+use Rattle.rules_text.specs.Lexical.{flaw, signed, annotation_at, shape_of, is_white, is_word, is_noted, begins_word, after_gap, name_at, spelt, with_byte, string_at, bytes_at, number_at, begins_bytes, paired, nibble, made, shape_at, first_shape, token_at}
 use Rattle.rules_text.specs.Printed.{spelling, string_text, hex_digit, bytes_text}
 use Rattle.rules_text.specs.Text.{Leads}
 

@@ -1,14 +1,14 @@
 -- A node that a text gives is no deeper than the limit, and its line is read again.
-use Rattle.std.proofs.Common.{◌≡◌, ℕ, ◌+◌, ◌≤◌, ◌<◌, ◌⊎◌, inl, inr, true, List, [], ◌∷◌, ◌++◌, length, Option, Some, None, Result, Ok, Err, refl, sym, ap, subst, ◌∙◌, append_assoc, arith}
+use Rattle.std.proofs.Common.{◌≡◌, ℕ, ◌≤◌, ◌<◌, ◌⊎◌, inl, inr, List, [], ◌∷◌, ◌++◌, length, Option, Some, None, Result, Ok, Err, refl, sym, ap, subst, ◌∙◌, append_assoc, arith}
 use Rattle.std.specs.List.{AllByRecursion}
 use Rattle.rules_base.specs.Tree.{Tree, depth}
 use Rattle.rules_text.specs.Fault.{depth_limit}
 use Rattle.rules_text.specs.Token.{Token, token_shape}
-use Rattle.rules_text.specs.Syntax.{Element, element_tokens, element_tree, element_depth, Separated, nothing, unended, IsFront}
+use Rattle.rules_text.specs.Syntax.{Element, element_tokens, element_tree, element_depth, nothing, unended, IsFront}
 use Rattle.rules_text.specs.Lexical.{token_at}
 use Rattle.rules_text.specs.declared.Shape.{Shape}
 use Rattle.rules_text.specs.declared.TextKind.TheVariants.{TooDeep}
-use Rattle.rules_text.specs.Text.{Leads, Stands}
+use Rattle.rules_text.specs.Text.{Leads}
 use Rattle.rules_text.specs.Printed.{printed}
 use Rattle.mich_text.specs.Plain.{IsNode, too_deep}
 use Rattle.mich_text.specs.Machine.{Stack, Refusal, unexpected, ready_for, refused, put, step, run, start}
@@ -91,11 +91,16 @@ stopped text tree from end n Rattle.mich_text.specs.Machine.too_deep q e =
     let same : (t : Token) → token_shape t ≡ token_shape q.token → refused depth_limit (ready_for (token_shape t) q.stack) (token_shape t) ≡ Some Rattle.mich_text.specs.Machine.too_deep
     = λ t f. subst (λ (s : Shape). refused depth_limit (ready_for s q.stack) s ≡ Some Rattle.mich_text.specs.Machine.too_deep) (sym f) refuses in
     let deep = n.clean TooDeep (length at.here) (too_deep (record {
-      before = q.before; here = at.here; shape = token_shape q.token; leads = at.leads; begins = token_shape_is at.here q.token at.behind at.read;
+      before = q.before;
+      here = at.here;
+      shape = token_shape q.token;
+      leads = at.leads;
+      begins = token_shape_is at.here q.token at.behind at.read;
       within = is_front_within depth_limit q.stack q.before q.runs;
       front = λ t f. deeper_front depth_limit q.stack q.before t q.runs (same t f);
       deep = λ t f. no_front_within depth_limit q.stack q.before t q.runs (same t f);
-      kind_is = refl; left_is = refl;
+      kind_is = refl;
+      left_is = refl;
     })) in
     omega (arith, deep, at.further, ends_le p.rest end p.ends)
 

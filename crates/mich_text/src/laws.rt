@@ -7,5 +7,4 @@ ghost use Rattle.mich_text.specs.Plain.{IsNode};
 /// The line of a node that a text gives is by itself, from its first byte to its last, a text of that node.
 pub fn a_line_is_read_again()
     ensures { (text : List ℕ) (tree : Tree) (start end : ℕ) → IsNode text tree start end → IsNode (printed tree) tree (length (printed tree)) 0 }
-{
-}
+{}
