@@ -1,0 +1,5 @@
+pub mod Integers
+pub mod Levels
+pub mod Loops
+pub mod PieceLaws
+pub mod Prefixes
