@@ -1,13 +1,15 @@
 // Nodes.
 ghost use Rattle.std.specs.Prelude.{◌≡◌, slice_get, length};
 ghost use Rattle.rules_binary.specs.Reading.{tags_in_order, tag_at, name_at, arguments_at, nodes_within, nodes_at, application_at, many_at, node_by, node_at};
+ghost use Rattle.rules_base.specs.Tree.{prim};
+ghost use Rattle.mich_base.specs.View.{tree, trees};
 ghost use Rattle.mich_binary.specs.Results.{Gives, spot, node_seen, nodes_seen};
 
 use crate::cursor::Cursor;
 use crate::errors::DecodeError;
 use crate::fields::{any_annotations_at, byte_at, bytes_at, field_at, short_annotations_at, string_at};
 use crate::integer::integer_at;
-use mich_base::{App, Node, Nodes, Rows, Text, prim_name};
+use mich_base::{App, Node, Nodes, Rows, Text, Texts, prim_name};
 use rules_binary::{DecodeKind, Tag};
 use std::alloc::Global;
 
@@ -59,6 +61,12 @@ fn name_at(alloc: Global, cursor: Cursor<'_>) -> Result<(Text, Cursor<'_>), Deco
         Some(name) => Ok((Text::from_slice(alloc, name.as_bytes())?, after)),
         None => Err(DecodeError::Fault(DecodeKind::BadPrim, cursor.place)),
     }
+}
+
+fn application(name: Text, annots: Texts, args: Nodes) -> Node
+    ensures { tree result ≡ prim name annots (trees args) }
+{
+    Node::Prim(App { name, annots, args })
 }
 
 // A node with at most so many levels.
@@ -132,7 +140,7 @@ fn application_at(
     let (name, after_name) = name_at(alloc, cursor)?;
     let (args, after_args) = arguments_at(alloc, levels, count, after_name)?;
     let (annots, after) = short_annotations_at(alloc, annotated, after_args)?;
-    Ok((Node::Prim(App { name, annots, args }), after))
+    Ok((application(name, annots, args), after))
 }
 
 // An application of three or more arguments behind its tag, which stood at this place.
@@ -152,7 +160,7 @@ fn many_at(
         return Err(DecodeError::Fault(DecodeKind::BadTag, place));
     }
     let (annots, after) = any_annotations_at(alloc, after_args)?;
-    Ok((Node::Prim(App { name, annots, args }), after))
+    Ok((application(name, annots, args), after))
 }
 
 // So many nodes, one behind the other.
