@@ -3,3 +3,5 @@ pub mod Levels
 pub mod Loops
 pub mod PieceLaws
 pub mod Prefixes
+pub mod Scans
+pub mod Writings

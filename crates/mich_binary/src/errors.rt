@@ -3,6 +3,7 @@ ghost use Rattle.std.specs.Prelude.{◌≡◌};
 
 use mich_base::Memory;
 use rules_binary::DecodeKind;
+use std::alloc::{AllocError, AllocFailed};
 use thiserror::Error;
 
 /// Why a node has no binary form here.
@@ -25,6 +26,28 @@ impl From<Memory> for EncodeError {
     ghost from_gives = { λ _ e. e ≡ EncodeError.Memory };
 
     fn from(error: Memory) -> EncodeError {
+        drop(error);
+        EncodeError::Memory
+    }
+}
+
+impl From<AllocError> for EncodeError {
+    ghost use Rattle.mich_binary.specs.declared.errors.EncodeError.{EncodeError};
+
+    ghost from_gives = { λ _ e. e ≡ EncodeError.Memory };
+
+    fn from(error: AllocError) -> EncodeError {
+        drop(error);
+        EncodeError::Memory
+    }
+}
+
+impl<T: Drop> From<AllocFailed<T>> for EncodeError {
+    ghost use Rattle.mich_binary.specs.declared.errors.EncodeError.{EncodeError};
+
+    ghost from_gives = { λ _ e. e ≡ EncodeError.Memory };
+
+    fn from(error: AllocFailed<T>) -> EncodeError {
         drop(error);
         EncodeError::Memory
     }
