@@ -45,7 +45,7 @@ and_false false b e = refl
 pub refused : (s : Spot) (texts : List (List ℕ)) (p : List ℕ) (more : List (List ℕ)) → texts ++ (p ∷ more) ≡ pieces s.left → is_annotation p ≡ false → annotations_of s ≡ fault BadString s.place
 refused s texts p more e bad =
     let none_of : list_all is_annotation (pieces s.left) ≡ false =
-        ap (list_all is_annotation) (sym e) ∙ list_all-append is_annotation texts (p ∷ more) ∙ and_false (list_all is_annotation texts) _ (ap (λ b. b && list_all is_annotation more) bad) in
+    ap (list_all is_annotation) (sym e) ∙ list_all-append is_annotation texts (p ∷ more) ∙ and_false (list_all is_annotation texts) _ (ap (λ b. b && list_all is_annotation more) bad) in
     rw none_of refl
 
 -- all pieces are annotations

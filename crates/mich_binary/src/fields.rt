@@ -53,8 +53,14 @@ pub fn field_at(cursor: Cursor<'_>) -> Result<(Cursor<'_>, Cursor<'_>), DecodeEr
     let (content, _) = behind.split_at(length);
     let (_, rest) = left.split_at(4 + length);
     let place = cursor.place + 4;
-    let field = Cursor { place, left: content };
-    let after = Cursor { place: cursor.place + (4 + length) as u64, left: rest };
+    let field = Cursor {
+        place,
+        left: content,
+    };
+    let after = Cursor {
+        place: cursor.place + (4 + length) as u64,
+        left: rest,
+    };
     Ok((field, after))
 }
 
@@ -86,10 +92,7 @@ fn text_len(bytes: &[u8]) -> usize
 }
 
 #[tactic(auto, unfolding(rules_binary::specs::Reading::string_at))]
-pub fn string_at(
-    alloc: Global,
-    cursor: Cursor<'_>,
-) -> Result<(Text, Cursor<'_>), DecodeError>
+pub fn string_at(alloc: Global, cursor: Cursor<'_>) -> Result<(Text, Cursor<'_>), DecodeError>
     ensures { Gives (λ x. (x.0, spot x.1)) result (string_at (spot cursor.entry)) }
 {
     let (field, after) = narrow_field_at(cursor)?;
@@ -102,10 +105,7 @@ pub fn string_at(
 }
 
 #[tactic(auto, unfolding(rules_binary::specs::Reading::bytes_at))]
-pub fn bytes_at(
-    alloc: Global,
-    cursor: Cursor<'_>,
-) -> Result<(Bytes, Cursor<'_>), DecodeError>
+pub fn bytes_at(alloc: Global, cursor: Cursor<'_>) -> Result<(Bytes, Cursor<'_>), DecodeError>
     ensures { Gives (λ x. (x.0, spot x.1)) result (bytes_at (spot cursor.entry)) }
 {
     let (field, after) = narrow_field_at(cursor)?;
@@ -175,10 +175,7 @@ fn annotations_of(alloc: Global, field: Cursor<'_>) -> Result<Texts, DecodeError
 }
 
 #[tactic(auto, unfolding(rules_binary::specs::Reading::annotations_at))]
-fn annotations_at(
-    alloc: Global,
-    cursor: Cursor<'_>,
-) -> Result<(Texts, Cursor<'_>), DecodeError>
+fn annotations_at(alloc: Global, cursor: Cursor<'_>) -> Result<(Texts, Cursor<'_>), DecodeError>
     ensures { Gives (λ x. (x.0, spot x.1)) result (annotations_at (spot cursor.entry)) }
 {
     let (field, after) = field_at(cursor)?;

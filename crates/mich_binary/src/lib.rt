@@ -15,3 +15,6 @@ pub use decoding::decode;
 pub use encoding::encode;
 pub use errors::{DecodeError, EncodeError};
 pub use rules_binary::DecodeKind;
+
+#[cfg(test)]
+mod tests;

@@ -7,7 +7,9 @@ ghost use Rattle.mich_binary.specs.Results.{Gives, spot, node_seen, nodes_seen};
 
 use crate::cursor::Cursor;
 use crate::errors::DecodeError;
-use crate::fields::{any_annotations_at, byte_at, bytes_at, field_at, short_annotations_at, string_at};
+use crate::fields::{
+    any_annotations_at, byte_at, bytes_at, field_at, short_annotations_at, string_at,
+};
 use crate::integer::integer_at;
 use mich_base::{App, Node, Nodes, Rows, Text, Texts, prim_name};
 use rules_binary::{DecodeKind, Tag};

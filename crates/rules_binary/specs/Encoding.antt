@@ -1,5 +1,5 @@
 -- What encoding gives for a node: its spelling, or why it is refused.
-use Rattle.std.specs.Prelude.{ℕ, List, [], ◌∷◌, length, Bool, true, false, Option, Some, None, is_none, Result, Ok, Err, nat_lt, if◌then◌else◌}
+use Rattle.std.specs.Prelude.{ℕ, List, length, Bool, false, Option, Some, None, is_none, Result, Ok, Err, nat_lt, if◌then◌else◌}
 use Rattle.std.specs.List.{position}
 use Rattle.rules_base.specs.Tree.{Tree, int, str, bytes, prim, seq, preorder}
 use Rattle.rules_base.specs.Primitives.{code_of_name}

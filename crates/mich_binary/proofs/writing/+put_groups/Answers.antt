@@ -8,4 +8,4 @@ pub returns : goal.returns
 returns t c =
     let n = c.args.n in
     subst (λ (added : List ℕ). IsWritten c.args.out.now.items c.put_groups.new.out.items added c.put_groups.result) (sym (more_groups n (omega arith)))
-        (both c.args.out.now.items c.put-2.new.out.items c.put_groups.new.out.items ((128 + n % 128) ∷ []) (groups (n / 128)) c.put_groups.result c.in_ok-put.ensures.0 c.put_groups.ensures)
+    (both c.args.out.now.items c.put-2.new.out.items c.put_groups.new.out.items ((128 + n % 128) ∷ []) (groups (n / 128)) c.put_groups.result c.in_ok-put.ensures.0 c.put_groups.ensures)
