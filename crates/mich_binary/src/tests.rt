@@ -1,7 +1,7 @@
 // Binary forms worked out by hand from Octez "data encoding", and what is refused at which place.
 use crate::{DecodeError, DecodeKind, EncodeError, decode, encode};
 use DecodeKind::{BadInteger, BadLength, BadPrim, BadString, BadTag, Trailing};
-use mich_base::{App, Bytes, Memory, Node, Rows, Text};
+use mich_base::{App, Bytes, Memory, Node, Rows, Text, size_within};
 use std::alloc::Global;
 use std::process::Abort;
 use std::test::Fail;
@@ -108,9 +108,18 @@ fn nested(alloc: Global, depth: u32) -> Result<Node, Memory> {
     Ok(node)
 }
 
+// The binary form of a node of at most 2,000 nodes.
+fn form_of(alloc: Global, node: &Node) -> Result<Bytes, EncodeError> {
+    if size_within(node, 2_000) {
+        encode(alloc, node)
+    } else {
+        Err(EncodeError::TooLong)
+    }
+}
+
 fn nested_form(alloc: Global, depth: u32) -> Result<Bytes, EncodeError> {
     let node = nested(alloc, depth)?;
-    encode(alloc, &node)
+    form_of(alloc, &node)
 }
 
 #[test]
@@ -147,7 +156,7 @@ static FORMS: [&[u8]; 3] = [
 
 fn form_again(alloc: Global, bytes: &[u8]) -> Option<Bytes> {
     match decode(alloc, bytes) {
-        Ok(node) => encode(alloc, &node).ok(),
+        Ok(node) => form_of(alloc, &node).ok(),
         Err(_) => None,
     }
 }
@@ -181,7 +190,7 @@ fn with_nat(alloc: Global, name: &[u8], annot: &[u8]) -> Result<Node, Memory> {
 }
 
 fn is_spelt(rt: &impl Abort, alloc: Global, node: &Node, bytes: &[u8]) {
-    match encode(alloc, node) {
+    match form_of(alloc, node) {
         Ok(spelt) => assert!(rt; spelt.as_slice() == bytes, "{bytes:?}"),
         Err(_) => panic!(rt; "{bytes:?} is refused"),
     }
@@ -222,7 +231,7 @@ fn integers_are_spelt(rt: HostRuntime) {
 #[test]
 fn a_name_without_a_code_is_refused(rt: HostRuntime) -> Result<(), Fail> {
     let node = with_nat(rt.alloc(), b"Foo", b"%x")?;
-    let refused = encode(rt.alloc(), &node);
+    let refused = form_of(rt.alloc(), &node);
     assert!(rt; matches!(refused, Err(EncodeError::NoCode(0))));
     Ok(())
 }
