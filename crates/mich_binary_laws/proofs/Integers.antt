@@ -40,12 +40,12 @@ unfolding groups
 one_group n h = few n n h
 
 -- each byte but the last says that another follows
-abbrev IsRun : List ℕ → Type 0
+abbrev pub IsRun : List ℕ → Type 0
 IsRun [] = ⊥
 IsRun (b ∷ []) = b < 128
 IsRun (b ∷ c ∷ cs) = (128 ≤ b) × IsRun (c ∷ cs)
 
-longer_run : (b : ℕ) (bs : List ℕ) → 128 ≤ b → IsRun bs → IsRun (b ∷ bs)
+pub longer_run : (b : ℕ) (bs : List ℕ) → 128 ≤ b → IsRun bs → IsRun (b ∷ bs)
 longer_run b [] h r = absurd r
 longer_run b (c ∷ cs) h r = (h, r)
 

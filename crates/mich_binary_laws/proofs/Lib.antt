@@ -3,3 +3,4 @@ pub mod Fields
 pub mod Integers
 pub mod Names
 pub mod Nodes
+pub mod Prefixes

@@ -1,7 +1,7 @@
 -- What is read stands in the bytes as it is spelt.
-use Rattle.std.specs.Prelude.{◌≡◌, ℕ, ◌<◌, ℤ, List, ◌++◌, Ok, slice_index}
-use Rattle.rules_base.specs.Tree.{Tree}
-use Rattle.rules_binary.specs.Spelling.{field, integer, spelling}
+use Rattle.std.specs.Prelude.{◌≡◌, ◌^◌, [], length, ℕ, ◌<◌, ℤ, List, ◌++◌, Ok, slice_index}
+use Rattle.rules_base.specs.Tree.{Tree, int, str, bytes, prim, seq, Trees, none, more}
+use Rattle.rules_binary.specs.Spelling.{field, integer, joined, spelling, spellings}
 use Rattle.rules_binary.specs.Reading.{Spot, field_at, integer_at, decoded}
 
 -- each element is a byte
@@ -28,3 +28,20 @@ SpellingIsDecoded = (bs : List ℕ) (t : Tree) → IsBytes bs → decoded bs ≡
 -- no two lists of bytes are decoded as one node
 abbrev pub OneSpelling : Type 0
 OneSpelling = (bs cs : List ℕ) (t : Tree) → IsBytes bs → IsBytes cs → decoded bs ≡ Ok t → decoded cs ≡ Ok t → bs ≡ cs
+
+abbrev mutual
+  -- what stands in a field of this node's spelling has a length of four bytes
+  pub HasLengths : Tree → Type 0
+  HasLengths (int n) = Unit {0}
+  HasLengths (str s) = length s < 2 ^ 32
+  HasLengths (bytes b) = length b < 2 ^ 32
+  HasLengths (prim name annotations args) = (length (spellings args) < 2 ^ 32) × (length (joined annotations) < 2 ^ 32) × HaveLengths args
+  HasLengths (seq ts) = length (spellings ts) < 2 ^ 32
+
+  pub HaveLengths : Trees → Type 0
+  HaveLengths none = Unit {0}
+  HaveLengths (more t ts) = HasLengths t × HaveLengths ts
+
+-- no spelling is a proper prefix of another
+abbrev pub NoPrefix : Type 0
+NoPrefix = (t u : Tree) (more_bytes : List ℕ) → HasLengths t → HasLengths u → spelling t ++ more_bytes ≡ spelling u → more_bytes ≡ []

@@ -2,7 +2,7 @@
 // spelling for each node). Each function makes no call; its contract is the law.
 #![tactic(auto)]
 
-ghost use Rattle.mich_binary_laws.specs.Laws.{FieldsAreSpelt, IntegersAreSpelt, DecodedIsSpelt, SpellingIsDecoded, OneSpelling};
+ghost use Rattle.mich_binary_laws.specs.Laws.{FieldsAreSpelt, IntegersAreSpelt, DecodedIsSpelt, SpellingIsDecoded, OneSpelling, NoPrefix};
 
 /// A field that is read stands in the bytes as its spelling: its length and its content.
 pub fn fields_are_spelt()
@@ -27,4 +27,9 @@ pub fn spelling_is_decoded()
 /// No two lists of bytes are decoded as one node.
 pub fn one_spelling()
     ensures { OneSpelling }
+{}
+
+/// No spelling is a proper prefix of another, where fields are shorter than 2^32 bytes.
+pub fn no_spelling_is_a_prefix()
+    ensures { NoPrefix }
 {}
