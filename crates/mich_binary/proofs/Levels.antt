@@ -1,0 +1,25 @@
+-- One level of nodes, and how many nodes there are.
+use Rattle.std.proofs.Common.{◌≡◌, ℕ, zero, suc, ◌+◌, ◌-◌, ◌<◌, List, [], ◌∷◌, length, map, arith, refl, ap, ◌∙◌, sym}
+use Rattle.std.proofs.lemmas.List.{length-map}
+use Rattle.std.specs.Prelude.{Result}
+use Rattle.rules_base.specs.Tree.{Tree, Trees}
+use Rattle.rules_binary.specs.Spelling.{count}
+use Rattle.rules_binary.specs.declared.DecodeKind.TheVariants.{TooDeep}
+use Rattle.rules_binary.specs.Reading.{Spot, Fault, ◌>>=◌, fault, tag_at, node_by, node_at}
+use Rattle.mich_base.specs.declared.node.Node.{Node}
+use Rattle.mich_base.specs.View.{tree, trees, trees_of}
+
+pub no_levels : (n : ℕ) (s : Spot) → n ≡ 0 → node_at n s ≡ (tag_at s >>= λ tag. fault TooDeep s.place)
+unfolding node_at
+no_levels n s e = rw e refl
+
+pub one_level : (n : ℕ) (s : Spot) → 0 < n → node_at n s ≡ (tag_at s >>= λ tag. node_by (node_at (n - 1)) tag.0 s.place tag.1)
+unfolding node_at
+one_level n s h = let k : n ≡ suc (n - 1) = omega arith in ap (λ m. node_at m s) k
+
+count_of : (ts : List Tree) → count (trees_of ts) ≡ length ts
+count_of [] = refl
+count_of (t ∷ ts) = ap suc (count_of ts)
+
+pub count_is : (ns : List Node) → count (trees ns) ≡ length ns
+count_is ns = count_of (map tree ns) ∙ simp length-map

@@ -1,0 +1,4 @@
+use Rattle.mich_binary.proofs.writing.+put_groups.Given as goal
+
+abbrev pub decreases-put_groups : goal.decreases-put_groups
+decreases-put_groups l = l.n
