@@ -21,3 +21,4 @@ pub mod Good
 pub mod Depths
 pub mod Printable
 pub mod Runs
+pub mod OneLine

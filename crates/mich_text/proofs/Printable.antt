@@ -23,7 +23,7 @@ name_is [] p = absurd (cc p.first)
 name_is (c ∷ n) p = record { gap = λ rest. solid_gap c (n ++ rest) (word_solid c (word_is c p.first)); read = λ rest a. name_token (c ∷ n) rest p a }
 
 -- the signs of annotations
-note_sign : (c : ℕ) → shape_of c ≡ Some Note → (c == 64 || (c == 58 || c == 37)) ≡ true
+pub note_sign : (c : ℕ) → shape_of c ≡ Some Note → (c == 64 || (c == 58 || c == 37)) ≡ true
 note_sign c e = by _ _ _ _ _ _ _ _ _ e where
   by : (a b d f g h i j k : Bool) → cond a (Some Digits) (cond b (Some Quoted) (cond d (Some Word) (cond f (Some Note) (cond g (Some OpenBrace) (cond h (Some CloseBrace) (cond i (Some OpenParen) (cond j (Some CloseParen) (cond k (Some Semicolon) None)))))))) ≡ Some Note → f ≡ true
   by a b d true g h i j k e = refl
@@ -52,7 +52,7 @@ first_solid (d ∷ ds) some h c cs e = subst (λ (x : ℕ). is_solid x ≡ true)
     head : (d c : ℕ) (ds cs : List ℕ) → d ∷ ds ≡ c ∷ cs → d ≡ c
     head d c ds cs e = cc
 
-wide : (n : ℕ) → n ≤ 2 ^ 127 → n < 10 ^ 64
+pub wide : (n : ℕ) → n ≤ 2 ^ 127 → n < 10 ^ 64
 wide n h = omega (arith, h)
 
 number_is : (z : ℤ) → IsInt z → IsToken (signed_decimal z) (Token.number z)

@@ -110,7 +110,7 @@ nibble_again d h = grind (arith, nat_tests)
 hex_is : (d : ℕ) → d < 16 → is_ascii_hexdigit (hex_digit d) ≡ true
 hex_is d h = grind (arith, nat_tests)
 
-hexes : (b : List ℕ) → IsAll (λ c. ltb c 256) b → IsAll is_ascii_hexdigit (bytes_text b)
+pub hexes : (b : List ℕ) → IsAll (λ c. ltb c 256) b → IsAll is_ascii_hexdigit (bytes_text b)
 hexes [] h = tt
 hexes (c ∷ b) h =
     let lt : c < 256 = ltb-true c 256 h.0 in

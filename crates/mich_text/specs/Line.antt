@@ -1,5 +1,5 @@
 -- Elements of a sequence, as they are written one after another.
-use Rattle.std.specs.Prelude.{ℕ, List, [], ◌++◌}
+use Rattle.std.specs.Prelude.{ℕ, List, [], ◌++◌, Bool, ◌&&◌, nat_le}
 use Rattle.rules_base.specs.Tree.{Trees, none, more}
 use Rattle.rules_text.specs.Printed.{printed, elements_text}
 
@@ -7,3 +7,7 @@ use Rattle.rules_text.specs.Printed.{printed, elements_text}
 abbrev pub joined : List ℕ → Trees → List ℕ
 joined separator none = []
 joined separator (more x xs) = separator ++ (printed x ++ elements_text xs)
+
+-- what ASCII prints
+abbrev pub is_printing : ℕ → Bool
+is_printing c = nat_le 32 c && nat_le c 126
