@@ -22,3 +22,7 @@ pub mod Depths
 pub mod Printable
 pub mod Runs
 pub mod OneLine
+pub mod Cut
+pub mod Shown
+pub mod Suffix
+pub mod Odd

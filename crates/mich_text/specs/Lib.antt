@@ -7,3 +7,4 @@ pub mod Views
 pub mod Nodes
 pub mod Results
 pub mod Canonical
+pub mod Shown
