@@ -1,0 +1,4 @@
+pub mod View
+pub mod Scanned
+pub mod Built
+pub mod Answers
