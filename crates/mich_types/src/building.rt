@@ -1,6 +1,6 @@
 // Types from nodes that are known to be types.
 ghost use Rattle.std.specs.Prelude.{◌≡◌, IfOk, map};
-ghost use Rattle.rules_types.specs.Kind.{simple};
+ghost use Rattle.rules_types.specs.Kind.{pair, simple};
 ghost use Rattle.rules_types.specs.Reading.{of_argument, of_arguments};
 ghost use Rattle.mich_base.specs.View.{tree, trees};
 ghost use Rattle.mich_types.specs.View.{kind};
@@ -97,6 +97,13 @@ fn build_all(alloc: Global, nodes: &Nodes) -> Result<Rows<Ty>, Memory>
     Ok(types)
 }
 
+fn pair(alloc: Global, first: Ty, second: Ty) -> Result<Ty, Memory>
+    ensures { IfOk result (λ ty. kind ty ≡ pair (kind first) (kind second)) }
+{
+    let first = Link::new(alloc, first)?;
+    Ok(Ty::Pair(first, Link::new(alloc, second)?))
+}
+
 // The pair of these parts, in pairs of two parts.
 fn pair_of(alloc: Global, parts: Rows<Ty>) -> Result<Ty, Memory>
     ensures { IfOk result (λ ty. kind ty ≡ pair_of (map kind parts)) }
@@ -106,8 +113,7 @@ fn pair_of(alloc: Global, parts: Rows<Ty>) -> Result<Ty, Memory>
         return Ok(Ty::Unit);
     };
     'parts: while let Some(part) = left.pop() {
-        let first = Link::new(alloc, part)?;
-        ty = Ty::Pair(first, Link::new(alloc, ty)?);
+        ty = pair(alloc, part, ty)?;
     }
     Ok(ty)
 }

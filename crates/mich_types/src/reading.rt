@@ -22,7 +22,7 @@ pub fn read_type(alloc: Global, node: &Node) -> Result<Ty, TypeError>
 }
 
 // The type that the node at a location spells.
-// #[tactic(auto, using(crate::proofs::Scans::fault_is), using(crate::proofs::Scans::large_is), using(crate::proofs::Scans::type_is))]
+#[tactic(auto, using(crate::proofs::Scans::fault_is, crate::proofs::Scans::large_is, crate::proofs::Scans::type_is))]
 pub(crate) fn type_at(alloc: Global, node: &Node, at: u32) -> Result<Ty, TypeError>
     requires { at + size (tree node.now) < 2 ^ 32 }
     ensures { IsReading (type_at at (tree node.now)) result }
