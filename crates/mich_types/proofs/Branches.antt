@@ -1,6 +1,6 @@
 -- Branches that are taken one list after another.
-use Rattle.std.proofs.Common.{◌≡◌, ℕ, ◌+◌, Bool, true, false, List, [], ◌∷◌, ◌++◌, map, Result, Ok, Err, refl, ap, ◌∙◌, sym, subst}
-use Rattle.rules_base.specs.Tree.{Tree, int, str, bytes, seq, prim, Trees, none, more, size}
+use Rattle.std.proofs.Common.{◌≡◌, ℕ, ◌+◌, Bool, true, false, List, [], ◌∷◌, ◌++◌, map, Result, Err, refl, ap, ◌∙◌, sym, subst}
+use Rattle.rules_base.specs.Tree.{Tree, int, str, bytes, seq, prim, none, more, size}
 use Rattle.rules_types.specs.Kind.{Kind}
 use Rattle.rules_types.specs.Kind as k
 use Rattle.rules_types.specs.Entrypoints.{Entry, Branch, Entries, entries, bad_name, repeated, then_entries, with_branch, with_branches, in_order, branch, below}

@@ -1,8 +1,7 @@
 -- Names of entrypoints against their test.
-use Rattle.std.proofs.Common.{◌≡◌, ℕ, ◌≤◌, ◌<◌, Bool, true, false, cond, ◌&&◌, List, length, refl, ap, ◌∙◌, sym, arith, nat_le}
-use Rattle.std.specs.List.{list_all}
+use Rattle.std.proofs.Common.{◌≡◌, ℕ, Bool, true, false, ◌&&◌, List, length, refl}
 use Rattle.std.proofs.lemmas.Bool.{leb-true, le-leb}
-use Rattle.rules_forms.specs.Spelling.{IsEntrypoint, is_name_byte}
+use Rattle.rules_forms.specs.Spelling.{IsEntrypoint}
 use Rattle.rules_types.specs.Entrypoints.{is_entrypoint_name}
 
 and_true : (a b : Bool) → a ≡ true → b ≡ true → a && b ≡ true

@@ -1,8 +1,7 @@
 -- The walk that finds faults, and the type that is made, against the reading of a node as a type.
-use Rattle.std.proofs.Common.{◌≡◌, ℕ, ◌+◌, ◌<◌, ◌≤◌, min, Bool, true, false, cond, ◌&&◌, List, [], ◌∷◌, map, Result, Ok, Err, refl, ap, ◌∙◌, sym, subst, arith, nat_le}
+use Rattle.std.proofs.Common.{◌≡◌, ℕ, ◌+◌, ◌<◌, ◌≤◌, min, Bool, true, false, cond, ◌&&◌, List, [], ◌∷◌, map, Result, Ok, Err, refl, ap, ◌∙◌, sym, arith, nat_le}
 use Rattle.std.proofs.lemmas.Bool.Decides.{nat_tests}
 use Rattle.rules_base.specs.Tree.{Tree, int, str, bytes, prim, seq, Trees, none, more, size}
-use Rattle.rules_types.specs.declared.Simple.{Simple}
 use Rattle.rules_types.specs.declared.OneArgument.{OneArgument}
 use Rattle.rules_types.specs.declared.OneArgument.TheVariants as one
 use Rattle.rules_types.specs.declared.TwoArguments.{TwoArguments}
@@ -10,10 +9,10 @@ use Rattle.rules_types.specs.declared.TwoArguments.TheVariants as two
 use Rattle.rules_types.specs.Kind.{Kind, nodes}
 use Rattle.rules_types.specs.Kind as k
 use Rattle.rules_types.specs.Attributes.{comparable, passable, big_value}
-use Rattle.rules_types.specs.Reading.{Reading, Former, simple_type, operation_type, one_argument, two_arguments, pair_type, no_type, former_of_name, any_kind, asked_of_argument, of_argument, asked_of_first, asked_of_second, of_arguments, Read, good, bad, Part, part, with_part, on_good, paired, applied, typed, parts, type_at, limited, a_type, bad_type, too_large, type_limit}
+use Rattle.rules_types.specs.Reading.{Reading, Former, simple_type, operation_type, one_argument, two_arguments, pair_type, no_type, former_of_name, asked_of_argument, of_argument, asked_of_first, asked_of_second, of_arguments, Read, good, bad, Part, part, with_part, on_good, paired, applied, typed, parts, type_at, limited, a_type, bad_type, too_large, type_limit}
 use Rattle.mich_types.specs.declared.scan.Summary.{Summary}
 use Rattle.mich_types.specs.Scanned as s
-use Rattle.mich_types.specs.Built.{built, built_all, made, made_of_one, made_of_two, pair_of}
+use Rattle.mich_types.specs.Built.{built, built_all, made, pair_of}
 
 abbrev summary : Kind → Summary
 summary a = s.summary_of (min (nodes a) 2001) (comparable a) (passable a) (big_value a)
@@ -131,7 +130,7 @@ over_seen (two_arguments f) at (q ∷ r ∷ []) =
     (λ t. s.with_part (s.asked_of_second f) (seen_part r) (λ u. Ok (s.of_arguments f t u)))
     (asked_first f)
     (λ a. with_part_seen (asked_of_second f) (s.asked_of_second f) r (λ b. good (of_arguments f a b)) (λ u. Ok (s.of_arguments f (summary a) u))
-        (asked_second f) (λ b. ap Ok (summary_arguments f a b)))
+    (asked_second f) (λ b. ap Ok (summary_arguments f a b)))
 over_seen (two_arguments f) at (q ∷ r ∷ t ∷ ts) = refl
 over_seen pair_type at [] = refl
 over_seen pair_type at (q ∷ []) = refl

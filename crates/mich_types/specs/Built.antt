@@ -1,5 +1,5 @@
 -- The type of a node that is one; the unit type of another.
-use Rattle.std.specs.Prelude.{ℕ, List, [], ◌∷◌}
+use Rattle.std.specs.Prelude.{List, [], ◌∷◌}
 use Rattle.rules_base.specs.Tree.{Tree, int, str, bytes, prim, seq, Trees, none, more}
 use Rattle.rules_types.specs.declared.Simple.TheVariants as s
 use Rattle.rules_types.specs.Kind.{Kind}

@@ -1,6 +1,6 @@
 -- What the answers of the calls on parameters say.
-use Rattle.std.specs.Prelude.{ℕ, ◌≡◌, Bool, List, [], ◌∷◌, map, Result, Ok, Err}
-use Rattle.rules_base.specs.Tree.{Tree, prim, Trees, none, more}
+use Rattle.std.specs.Prelude.{ℕ, ◌≡◌, List, [], map, Result, Ok, Err}
+use Rattle.rules_base.specs.Tree.{Tree, prim, none, more}
 use Rattle.rules_types.specs.Kind.{Kind}
 use Rattle.rules_types.specs.Kind as k
 use Rattle.rules_types.specs.Entrypoints as rules

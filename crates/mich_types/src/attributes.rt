@@ -10,7 +10,14 @@ pub fn comparable(ty: &Ty) -> bool
     ensures { result ≡ comparable (kind ty.now) }
 {
     match ty {
-        Ty::List(_) | Ty::Set(_) | Ty::Contract(_) | Ty::Ticket(_) | Ty::Map(_, _) | Ty::BigMap(_, _) | Ty::Lambda(_, _) | Ty::Operation => false,
+        Ty::List(_)
+        | Ty::Set(_)
+        | Ty::Contract(_)
+        | Ty::Ticket(_)
+        | Ty::Map(_, _)
+        | Ty::BigMap(_, _)
+        | Ty::Lambda(_, _)
+        | Ty::Operation => false,
         Ty::Option(a) => comparable(a.get()),
         Ty::Or(a, b) | Ty::Pair(a, b) => comparable(a.get()) && comparable(b.get()),
         _ => true,
@@ -24,7 +31,8 @@ pub fn passable(ty: &Ty) -> bool
     match ty {
         Ty::Operation => false,
         Ty::Option(a) | Ty::List(a) | Ty::Set(a) => passable(a.get()),
-        Ty::Or(a, b) | Ty::Pair(a, b) | Ty::Map(a, b) | Ty::BigMap(a, b) => passable(a.get()) && passable(b.get()),
+        Ty::Or(a, b) | Ty::Pair(a, b) | Ty::Map(a, b) | Ty::BigMap(a, b) => passable(a.get())
+            && passable(b.get()),
         _ => true,
     }
 }
@@ -36,7 +44,8 @@ pub fn storable(ty: &Ty) -> bool
     match ty {
         Ty::Contract(_) | Ty::Operation => false,
         Ty::Option(a) | Ty::List(a) | Ty::Set(a) => storable(a.get()),
-        Ty::Or(a, b) | Ty::Pair(a, b) | Ty::Map(a, b) | Ty::BigMap(a, b) => storable(a.get()) && storable(b.get()),
+        Ty::Or(a, b) | Ty::Pair(a, b) | Ty::Map(a, b) | Ty::BigMap(a, b) => storable(a.get())
+            && storable(b.get()),
         _ => true,
     }
 }
@@ -84,7 +93,8 @@ pub fn duplicable(ty: &Ty) -> bool
     match ty {
         Ty::Ticket(_) => false,
         Ty::Option(a) | Ty::List(a) | Ty::Set(a) => duplicable(a.get()),
-        Ty::Or(a, b) | Ty::Pair(a, b) | Ty::Map(a, b) | Ty::BigMap(a, b) => duplicable(a.get()) && duplicable(b.get()),
+        Ty::Or(a, b) | Ty::Pair(a, b) | Ty::Map(a, b) | Ty::BigMap(a, b) => duplicable(a.get())
+            && duplicable(b.get()),
         _ => true,
     }
 }

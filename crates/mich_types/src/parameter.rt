@@ -218,7 +218,14 @@ fn add_branches(
     let right_path = step(alloc, path, true)?;
     let right_at = behind(left_node, at + 1);
     add_branch(alloc, entries, left_type, left_node, at + 1, &left_path)?;
-    add_branch(alloc, entries, right_type, right_node, right_at, &right_path)
+    add_branch(
+        alloc,
+        entries,
+        right_type,
+        right_node,
+        right_at,
+        &right_path,
+    )
 }
 
 // The parts of an `or`.
