@@ -3,10 +3,9 @@ use crate::{
     Parameter, TypeError, big_value, comparable, duplicable, entrypoint, packable, passable,
     pushable, read_parameter, read_type, storable, type_node,
 };
-use mich_base::{App, Memory, Node, Rows, Text, Ty, same_type, size_within};
+use mich_base::{App, Memory, Node, Rows, Text, Ty, size_within};
 use mich_forms::Entrypoint;
 use std::alloc::Global;
-use std::process::Abort;
 use std::test::Fail;
 
 // A name, its annotation or nothing, and how many arguments it has. Nodes are written in pre-order.
@@ -36,19 +35,22 @@ fn node(alloc: Global, tokens: &[Token]) -> Result<Node, Memory> {
     Ok(stack.pop().unwrap_or(Node::Int(0)))
 }
 
-// A node with many arguments: the last has a name of its own.
-fn wide(alloc: Global, count: u32, last: &str) -> Result<Node, Memory> {
-    let mut args = Rows::new(alloc);
-    let mut stack = Rows::new(alloc);
-    for _ in 1..count {
-        args.push(application(alloc, &("int", "", 0), &mut stack)?)?;
-    }
-    let name = Text::from_slice(alloc, last.as_bytes())?;
-    args.push(Node::Prim(App {
+fn leaf(alloc: Global, name: &str) -> Result<Node, Memory> {
+    let name = Text::from_slice(alloc, name.as_bytes())?;
+    Ok(Node::Prim(App {
         name,
         annots: Rows::new(alloc),
         args: Rows::new(alloc),
-    }))?;
+    }))
+}
+
+// A pair with so many parts, the last of another name.
+fn wide(alloc: Global, count: u32, last: &str) -> Result<Node, Memory> {
+    let mut args = Rows::new(alloc);
+    for _ in 1..count {
+        args.push(leaf(alloc, "int")?)?;
+    }
+    args.push(leaf(alloc, last)?)?;
     let name = Text::from_slice(alloc, b"pair")?;
     Ok(Node::Prim(App {
         name,
@@ -59,14 +61,17 @@ fn wide(alloc: Global, count: u32, last: &str) -> Result<Node, Memory> {
 
 // A type with so many nodes, each below the one before.
 fn deep(alloc: Global, count: u32) -> Result<Node, Memory> {
-    let mut stack = Rows::new(alloc);
-    let made = application(alloc, &("unit", "", 0), &mut stack)?;
-    stack.push(made)?;
+    let mut node = leaf(alloc, "unit")?;
     for _ in 1..count {
-        let made = application(alloc, &("option", "", 1), &mut stack)?;
-        stack.push(made)?;
+        let mut args = Rows::new(alloc);
+        args.push(node)?;
+        node = Node::Prim(App {
+            name: Text::from_slice(alloc, b"option")?,
+            annots: Rows::new(alloc),
+            args,
+        });
     }
-    Ok(stack.pop().unwrap_or(Node::Int(0)))
+    Ok(node)
 }
 
 fn read(alloc: Global, node: &Node) -> Result<Ty, TypeError> {
@@ -85,122 +90,105 @@ fn parameter(alloc: Global, node: &Node) -> Result<Parameter, TypeError> {
     }
 }
 
-fn bad(rt: &impl Abort, alloc: Global, tokens: &[Token], location: u32) -> Result<(), Memory> {
-    let found = read(alloc, &node(alloc, tokens)?);
-    assert!(rt; matches!(found, Err(TypeError::BadType(l)) if l == location));
+fn is_type(alloc: Global, node: Node) -> bool {
+    read(alloc, &node).is_ok()
+}
+
+fn is_large(alloc: Global, node: Node) -> bool {
+    matches!(read(alloc, &node), Err(TypeError::TypeTooLarge))
+}
+
+fn is_bad(alloc: Global, node: Node, location: u32) -> bool {
+    matches!(read(alloc, &node), Err(TypeError::BadType(l)) if l == location)
+}
+
+fn is_bad_parameter(alloc: Global, node: Node, location: u32) -> bool {
+    matches!(parameter(alloc, &node), Err(TypeError::BadType(l)) if l == location)
+}
+
+fn repeats(alloc: Global, node: Node, location: u32) -> bool {
+    matches!(parameter(alloc, &node), Err(TypeError::RepeatedEntrypoint(l)) if l == location)
+}
+
+#[test]
+fn an_attribute_is_tried_before_what_stands_behind(rt: HostRuntime) -> Result<(), Fail> {
+    let late = [
+        ("map", "", 2),
+        ("list", "", 1),
+        ("int", "", 0),
+        ("foo", "", 0),
+    ];
+    assert!(rt; is_bad(rt.alloc(), node(rt.alloc(), &late)?, 1));
+    let value = [("big_map", "", 2), ("int", "", 0), ("operation", "", 0)];
+    assert!(rt; is_bad(rt.alloc(), node(rt.alloc(), &value)?, 2));
+    let inner = [
+        ("or", "", 2),
+        ("int", "", 0),
+        ("set", "", 1),
+        ("list", "", 1),
+        ("int", "", 0),
+    ];
+    assert!(rt; is_bad(rt.alloc(), node(rt.alloc(), &inner)?, 3));
     Ok(())
 }
 
 #[test]
-fn the_first_fault_is_told(rt: HostRuntime) -> Result<(), Fail> {
-    let alloc = rt.alloc();
-    bad(
-        &rt,
-        alloc,
-        &[
-            ("map", "", 2),
-            ("list", "", 1),
-            ("int", "", 0),
-            ("foo", "", 0),
-        ],
-        1,
-    )?;
-    bad(
-        &rt,
-        alloc,
-        &[("map", "", 2), ("int", "", 0), ("foo", "", 0)],
-        2,
-    )?;
-    bad(&rt, alloc, &[("pair", "", 1), ("int", "", 0)], 0)?;
-    bad(&rt, alloc, &[("int", "", 1), ("int", "", 0)], 0)?;
-    bad(
-        &rt,
-        alloc,
-        &[("PAIR", "", 2), ("int", "", 0), ("int", "", 0)],
-        0,
-    )?;
-    bad(
-        &rt,
-        alloc,
-        &[("big_map", "", 2), ("int", "", 0), ("operation", "", 0)],
-        2,
-    )?;
-    bad(&rt, alloc, &[("contract", "", 1), ("operation", "", 0)], 1)?;
-    bad(
-        &rt,
-        alloc,
-        &[
-            ("or", "", 2),
-            ("int", "", 0),
-            ("set", "", 1),
-            ("list", "", 1),
-            ("int", "", 0),
-        ],
-        3,
-    )?;
+fn other_nodes_are_no_types(rt: HostRuntime) -> Result<(), Fail> {
+    let one = [("pair", "", 1), ("int", "", 0)];
+    assert!(rt; is_bad(rt.alloc(), node(rt.alloc(), &one)?, 0));
+    let instruction = [("PAIR", "", 2), ("int", "", 0), ("int", "", 0)];
+    assert!(rt; is_bad(rt.alloc(), node(rt.alloc(), &instruction)?, 0));
+    let unknown = [("map", "", 2), ("int", "", 0), ("foo", "", 0)];
+    assert!(rt; is_bad(rt.alloc(), node(rt.alloc(), &unknown)?, 2));
     Ok(())
 }
 
 #[test]
 fn sizes_are_limited(rt: HostRuntime) -> Result<(), Fail> {
-    let alloc = rt.alloc();
-    assert!(rt; read(alloc, &deep(alloc, 2000)?).is_ok());
-    assert!(rt;
-        matches!(
-            read(alloc, &deep(alloc, 2001)?),
-            Err(TypeError::TypeTooLarge)
-        )
-    );
-    assert!(rt; read(alloc, &wide(alloc, 1000, "int")?).is_ok());
-    assert!(rt;
-        matches!(
-            read(alloc, &wide(alloc, 1001, "int")?),
-            Err(TypeError::TypeTooLarge)
-        )
-    );
-    assert!(rt;
-        matches!(
-            read(alloc, &wide(alloc, 10_000, "int")?),
-            Err(TypeError::TypeTooLarge)
-        )
-    );
-    assert!(rt;
-        matches!(
-            read(alloc, &wide(alloc, 10_000, "foo")?),
-            Err(TypeError::BadType(10_000))
-        )
-    );
+    assert!(rt; is_type(rt.alloc(), deep(rt.alloc(), 2000)?));
+    assert!(rt; is_large(rt.alloc(), deep(rt.alloc(), 2001)?));
     Ok(())
 }
 
 #[test]
-fn types_are_printed_in_two_parts(rt: HostRuntime) -> Result<(), Fail> {
-    let alloc = rt.alloc();
-    let long = node(
-        alloc,
-        &[
-            ("pair", "%a", 3),
-            ("int", "", 0),
-            ("nat", ":b", 0),
-            ("string", "", 0),
-        ],
-    )?;
-    let short = node(
-        alloc,
-        &[
-            ("pair", "", 2),
-            ("int", "", 0),
-            ("pair", "", 2),
-            ("nat", "", 0),
-            ("string", "", 0),
-        ],
-    )?;
-    let ty = read(alloc, &long)?;
-    assert!(rt; same_type(&ty, &read(alloc, &short)?));
-    assert!(rt; type_node(alloc, &ty)? == short);
-    assert!(rt; comparable(&ty) && passable(&ty) && storable(&ty) && pushable(&ty));
-    assert!(rt; packable(&ty) && big_value(&ty) && duplicable(&ty));
+fn long_pairs_are_counted_in_two_parts(rt: HostRuntime) -> Result<(), Fail> {
+    assert!(rt; is_type(rt.alloc(), wide(rt.alloc(), 1000, "int")?));
+    assert!(rt; is_large(rt.alloc(), wide(rt.alloc(), 10_000, "int")?));
+    assert!(rt; is_bad(rt.alloc(), wide(rt.alloc(), 10_000, "foo")?, 10_000));
     Ok(())
+}
+
+// The type of a node as a node.
+fn printed(alloc: Global, node: Node) -> Result<Node, TypeError> {
+    let ty = read(alloc, &node)?;
+    Ok(type_node(alloc, &ty)?)
+}
+
+#[test]
+fn types_are_printed_in_two_parts(rt: HostRuntime) -> Result<(), Fail> {
+    let long = [
+        ("pair", "%a", 3),
+        ("int", "", 0),
+        ("nat", ":b", 0),
+        ("string", "", 0),
+    ];
+    let short = [
+        ("pair", "", 2),
+        ("int", "", 0),
+        ("pair", "", 2),
+        ("nat", "", 0),
+        ("string", "", 0),
+    ];
+    let long = printed(rt.alloc(), node(rt.alloc(), &long)?)?;
+    assert!(rt; long == node(rt.alloc(), &short)?);
+    Ok(())
+}
+
+#[test]
+fn attributes_are_those_of_the_reference(rt: HostRuntime) {
+    assert!(rt; comparable(&Ty::Int) && !comparable(&Ty::Operation));
+    assert!(rt; passable(&Ty::Int) && storable(&Ty::Int) && pushable(&Ty::Int));
+    assert!(rt; packable(&Ty::Int) && big_value(&Ty::Int) && duplicable(&Ty::Operation));
 }
 
 // parameter (or (pair %transfer (address %from) (address %to) (nat %value)) (pair %mint (address %to) (nat %value)))
@@ -216,57 +204,49 @@ const TOKEN: [Token; 9] = [
     ("nat", "%value", 0),
 ];
 
-fn has(rt: &impl Abort, p: &Parameter, name: &str, path: &[bool]) {
-    let name = Entrypoint::read(name.as_bytes()).expect(rt, "a name");
-    let found = entrypoint(p, &name).expect(rt, "an entrypoint");
-    assert!(rt; found.path.as_slice() == path);
+// Whether there is an entrypoint of this name with this path.
+fn has(p: &Parameter, name: &str, path: &[bool]) -> bool {
+    let Some(name) = Entrypoint::read(name.as_bytes()) else {
+        return false;
+    };
+    match entrypoint(p, &name) {
+        Some(found) => found.path.as_slice() == path,
+        None => false,
+    }
 }
 
 #[test]
 fn a_token_has_its_entrypoints(rt: HostRuntime) -> Result<(), Fail> {
-    let alloc = rt.alloc();
-    let p = parameter(alloc, &node(alloc, &TOKEN)?)?;
+    let p = parameter(rt.alloc(), &node(rt.alloc(), &TOKEN)?)?;
     assert_eq!(rt; p.entries.len(), 3);
-    has(&rt, &p, "transfer", &[false]);
-    has(&rt, &p, "mint", &[true]);
-    has(&rt, &p, "default", &[]);
-    let burn = Entrypoint::read(b"burn").expect(&rt, "a name");
-    assert!(rt; entrypoint(&p, &burn).is_none());
+    assert!(rt; has(&p, "transfer", &[false]) && has(&p, "mint", &[true]));
+    assert!(rt; has(&p, "default", &[]) && !has(&p, "burn", &[]));
     Ok(())
 }
 
 #[test]
 fn names_are_limited(rt: HostRuntime) -> Result<(), Fail> {
-    let alloc = rt.alloc();
     let long = "%a2345678901234567890123456789012";
-    let twice = node(
-        alloc,
-        &[
-            ("parameter", "%a", 1),
-            ("or", "", 2),
-            ("int", "%a", 0),
-            ("nat", "", 0),
-        ],
-    )?;
-    assert!(rt;
-        matches!(
-            parameter(alloc, &twice),
-            Err(TypeError::RepeatedEntrypoint(2))
-        )
-    );
-    let branch = node(
-        alloc,
-        &[
-            ("parameter", "", 1),
-            ("or", "", 2),
-            ("int", "", 0),
-            ("nat", long, 0),
-        ],
-    )?;
-    assert!(rt; matches!(parameter(alloc, &branch), Err(TypeError::BadType(3))));
-    let root = node(alloc, &[("parameter", "", 1), ("int", long, 0)])?;
-    assert!(rt; matches!(parameter(alloc, &root), Err(TypeError::BadType(1))));
-    let held = node(alloc, &[("parameter", "", 1), ("operation", "", 0)])?;
-    assert!(rt; matches!(parameter(alloc, &held), Err(TypeError::BadType(1))));
+    let branch = [
+        ("parameter", "", 1),
+        ("or", "", 2),
+        ("int", "", 0),
+        ("nat", long, 0),
+    ];
+    assert!(rt; is_bad_parameter(rt.alloc(), node(rt.alloc(), &branch)?, 3));
+    let root = [("parameter", "", 1), ("int", long, 0)];
+    assert!(rt; is_bad_parameter(rt.alloc(), node(rt.alloc(), &root)?, 1));
+    Ok(())
+}
+
+#[test]
+fn names_are_distinct(rt: HostRuntime) -> Result<(), Fail> {
+    let twice = [
+        ("parameter", "%a", 1),
+        ("or", "", 2),
+        ("int", "%a", 0),
+        ("nat", "", 0),
+    ];
+    assert!(rt; repeats(rt.alloc(), node(rt.alloc(), &twice)?, 2));
     Ok(())
 }
