@@ -1,0 +1,4 @@
+pub mod Lists
+pub mod Scans
+pub mod Names
+pub mod Branches

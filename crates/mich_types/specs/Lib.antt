@@ -1,0 +1,5 @@
+pub mod View
+pub mod Scanned
+pub mod Built
+pub mod Answers
+pub mod Entered

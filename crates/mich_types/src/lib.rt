@@ -1,0 +1,21 @@
+//! Types of Michelson: read from nodes and written as nodes, their attributes, and the entrypoints of a parameter.
+#![tactic(auto)]
+
+mod annotations;
+mod attributes;
+mod building;
+mod error;
+mod former;
+mod parameter;
+mod printing;
+mod reading;
+mod scan;
+
+pub use attributes::{big_value, comparable, duplicable, packable, passable, pushable, storable};
+pub use error::TypeError;
+pub use parameter::{Entry, Parameter, entrypoint, read_parameter};
+pub use printing::type_node;
+pub use reading::read_type;
+
+#[cfg(test)]
+mod tests;
