@@ -2,12 +2,12 @@
 use Rattle.std.proofs.Common.{◌≡◌, ℕ, zero, suc, ◌+◌, ◌-◌, ◌<◌, List, [], ◌∷◌, length, map, arith, refl, ap, ◌∙◌, sym}
 use Rattle.std.proofs.lemmas.List.{length-map}
 use Rattle.std.specs.Prelude.{Result}
-use Rattle.rules_base.specs.Tree.{Tree, Trees}
+use Rattle.rules_base.specs.Tree.{Tree, Trees, trees_of}
 use Rattle.rules_binary.specs.Spelling.{count}
 use Rattle.rules_binary.specs.declared.DecodeKind.TheVariants.{TooDeep}
 use Rattle.rules_binary.specs.Reading.{Spot, Fault, ◌>>=◌, fault, tag_at, node_by, node_at}
 use Rattle.mich_base.specs.declared.node.Node.{Node}
-use Rattle.mich_base.specs.View.{tree, trees, trees_of}
+use Rattle.mich_base.specs.View.{tree, trees}
 
 pub no_levels : (n : ℕ) (s : Spot) → n ≡ 0 → node_at n s ≡ (tag_at s >>= λ tag. fault TooDeep s.place)
 unfolding node_at

@@ -3,8 +3,7 @@ use Rattle.std.proofs.Common.{◌≡◌, ℕ, zero, suc, ◌-◌, ◌+◌, ◌�
 use Rattle.std.proofs.lemmas.List.{map_push}
 use Rattle.std.proofs.lemmas.Bool.{eqb-true}
 use Rattle.std.proofs.lemmas.Bool.Decides.{nat_tests}
-use Rattle.rules_base.specs.Tree.{Tree, Trees, none, more}
-use Rattle.mich_base.specs.View.{trees_of}
+use Rattle.rules_base.specs.Tree.{Tree, Trees, none, more, trees_of}
 use Rattle.rules_binary.specs.Reading.{Spot, Fault, ◌>>=◌, arguments_at, nodes_within}
 use Rattle.mich_binary.specs.declared.errors.DecodeError.{DecodeError}
 use Rattle.mich_binary.specs.declared.errors.DecodeError.TheVariants as errors
