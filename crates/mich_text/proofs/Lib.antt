@@ -26,3 +26,4 @@ pub mod Cut
 pub mod Shown
 pub mod Suffix
 pub mod Odd
+pub mod Conditions
