@@ -27,3 +27,4 @@ pub mod Shown
 pub mod Suffix
 pub mod Odd
 pub mod Conditions
+pub mod Closed

@@ -178,7 +178,7 @@ end_leads : (text : List ℕ) (ts : List Token) (o : Option (List ℕ)) → IsEn
 end_leads text [] o e p = (refl, sym p ∙ e)
 end_leads text (t ∷ ts) o e p = absurd (no_token p.1 t (ap token_at (same_rest [] p.0 (sym e ∙ p.2)) ∙ p.3))
 
-no_tokens : (e : Element) → element_tokens e ≡ [] → ⊥
+pub no_tokens : (e : Element) → element_tokens e ≡ [] → ⊥
 no_tokens (alone (number n)) h = omega (arith, ap (λ (l : List Token). length l) h)
 no_tokens (alone (bytes b)) h = omega (arith, ap (λ (l : List Token). length l) h)
 no_tokens (alone (string s)) h = omega (arith, ap (λ (l : List Token). length l) h)
