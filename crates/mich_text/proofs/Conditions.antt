@@ -34,7 +34,7 @@ module _ (before : ℕ) (front more : List ℕ) where
   -- ---- from the text to its front
 
   module _ (limit : ℕ) (is_limit : IsLimit before (front ++ more) limit) (cuts : limit ≡ 1 + length more) where
-    flawed_cut : (k : TextKind) (left : ℕ) → length more < left → IsFlawedWithin before (front ++ more) k left → IsFlawed front k (left - length more)
+    pub flawed_cut : (k : TextKind) (left : ℕ) → length more < left → IsFlawedWithin before (front ++ more) k left → IsFlawed front k (left - length more)
     flawed_cut k left far p =
         let near : left ≤ length p.here = (flaw_le p.here (record { kind = k; left = left }) p.wrong).0 in
         let g = leads_cut front more p.tokens p.here p.leads (omega (arith, near, far)) in
@@ -49,7 +49,7 @@ module _ (before : ℕ) (front more : List ℕ) where
           wrong = ap token_at (sym (append-nil g.0)) ∙ shown [] ∙ ap (λ (n : ℕ). Err (record { kind = k; left = n })) place;
         }
 
-  unexpected_cut : (k : TextKind) (left : ℕ) → length more < left → IsUnexpected (front ++ more) k left → IsUnexpected front k (left - length more)
+  pub unexpected_cut : (k : TextKind) (left : ℕ) → length more < left → IsUnexpected (front ++ more) k left → IsUnexpected front k (left - length more)
   unexpected_cut k left far p =
       let g = leads_cut front more p.before p.here p.leads (omega (arith, p.left_is, far)) in
       let count : length p.here ≡ length g.0 + length more = ap (λ (l : List ℕ). length l) g.1 ∙ length-append g.0 more in
@@ -60,7 +60,7 @@ module _ (before : ℕ) (front more : List ℕ) where
         left_is = omega (arith, count, p.left_is);
       }
 
-  too_deep_cut : (k : TextKind) (left : ℕ) → length more < left → IsTooDeep (front ++ more) k left → IsTooDeep front k (left - length more)
+  pub too_deep_cut : (k : TextKind) (left : ℕ) → length more < left → IsTooDeep (front ++ more) k left → IsTooDeep front k (left - length more)
   too_deep_cut k left far p =
       let g = leads_cut front more p.before p.here p.leads (omega (arith, p.left_is, far)) in
       let count : length p.here ≡ length g.0 + length more = ap (λ (l : List ℕ). length l) g.1 ∙ length-append g.0 more in
@@ -73,7 +73,7 @@ module _ (before : ℕ) (front more : List ℕ) where
 
   -- ---- from the front to the text
 
-  unexpected_kept : (k : TextKind) (left : ℕ) → IsUnexpected front k left → IsUnexpected (front ++ more) k (left + length more)
+  pub unexpected_kept : (k : TextKind) (left : ℕ) → IsUnexpected front k left → IsUnexpected (front ++ more) k (left + length more)
   unexpected_kept k left p = record {
     before = p.before; here = p.here ++ more; shape = p.shape;
     leads = leads_on front more p.before p.here p.leads (inr (p.shape, p.begins));
@@ -85,7 +85,7 @@ module _ (before : ℕ) (front more : List ℕ) where
     some [] shape e = absurd cc
     some (c ∷ here) shape e = omega arith
 
-  too_deep_kept : (k : TextKind) (left : ℕ) → IsTooDeep front k left → IsTooDeep (front ++ more) k (left + length more)
+  pub too_deep_kept : (k : TextKind) (left : ℕ) → IsTooDeep front k left → IsTooDeep (front ++ more) k (left + length more)
   too_deep_kept k left p = record {
     before = p.before; here = p.here ++ more; shape = p.shape;
     leads = leads_on front more p.before p.here p.leads (inr (p.shape, p.begins));
@@ -97,7 +97,7 @@ module _ (before : ℕ) (front more : List ℕ) where
     some [] shape e = absurd cc
     some (c ∷ here) shape e = omega arith
 
-  flawed_kept : ((limit : ℕ) → IsLimit before (front ++ more) limit → limit ≤ 1 + length more) → (k : TextKind) (left : ℕ) → 1 < left → (p : IsFlawed front k left) → Counts p.here k → IsFlawedWithin before (front ++ more) k (left + length more)
+  pub flawed_kept : ((limit : ℕ) → IsLimit before (front ++ more) limit → limit ≤ 1 + length more) → (k : TextKind) (left : ℕ) → 1 < left → (p : IsFlawed front k left) → Counts p.here k → IsFlawedWithin before (front ++ more) k (left + length more)
   flawed_kept last k left far p counts =
       let near : left ≤ length p.here = (flaw_le p.here (record { kind = k; left = left }) p.wrong).0 in
       let long : 1 < length p.here = omega (arith, near, far) in

@@ -28,3 +28,4 @@ pub mod Suffix
 pub mod Odd
 pub mod Conditions
 pub mod Closed
+pub mod Limited

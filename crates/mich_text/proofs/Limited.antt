@@ -1,0 +1,108 @@
+-- What the front of a text up to a limit is tells what the text is.
+use Rattle.std.proofs.Common.{◌≡◌, ℕ, ◌+◌, ◌-◌, ◌≤◌, ◌<◌, ◌⊎◌, inl, inr, Bool, true, false, ltb, List, [], ◌∷◌, ◌++◌, length, Some, Ok, Err, refl, sym, ap, subst, ◌∙◌, arith}
+use Rattle.std.proofs.lemmas.Bool.{ltb-true, ltb-false}
+use Rattle.std.proofs.lemmas.List.{length-append}
+use Rattle.rules_base.specs.Tree.{Tree}
+use Rattle.rules_text.specs.Token.{Token}
+use Rattle.rules_text.specs.Lexical.{token_at}
+use Rattle.rules_text.specs.Fault.{Flaw}
+use Rattle.rules_text.specs.declared.TextKind.{TextKind}
+use Rattle.rules_text.specs.Text.{IsLimit, EndsAt, Stands, IsFault, IsNode, rank}
+use Rattle.rules_text.specs.Text as within
+use Rattle.mich_text.specs.Plain as plain
+use Rattle.mich_text.specs.Shown.{Counts}
+use Rattle.mich_text.proofs.Places.{flaw_le, token_shorter}
+use Rattle.mich_text.proofs.Conditions.{flawed_cut, unexpected_cut, too_deep_cut, flawed_kept, unexpected_kept, too_deep_kept}
+use Rattle.mich_text.proofs.Closed.{stands_cut, stands_kept}
+
+-- a condition of the front that holds whatever follows
+abbrev pub Counted : {text : List ℕ} {kind : TextKind} {left : ℕ} → plain.Holds text kind left → Type 0
+Counted {kind = kind} (plain.flawed p) = Counts p.here kind
+Counted (plain.in_comment p) = ⊥
+Counted (plain.is_open p) = ⊥
+Counted (plain.unexpected p) = Unit {0}
+Counted (plain.too_deep p) = Unit {0}
+
+-- the text before its first limit byte has this condition
+data IsOwn (before : ℕ) (text : List ℕ) (kind : TextKind) (left : ℕ) (h : within.Holds before text kind left) : Type 0 where
+  own : rank h ≡ 1 + plain.rank kind → IsOwn before text kind left h
+  limit : IsLimit before text left → IsOwn before text kind left h
+  nowhere : left ≡ 0 → IsOwn before text kind left h
+
+own_is : (before : ℕ) (text : List ℕ) (kind : TextKind) (left : ℕ) (h : within.Holds before text kind left) → IsOwn before text kind left h
+own_is before text kind left (within.past_limit (k, inl l)) = limit (inl l.limit)
+own_is before text kind left (within.past_limit (k, inr f)) = limit (inr f)
+own_is before text kind left (within.flawed p) = own (omega (arith, (flaw_le p.here (record { kind = kind; left = left }) p.wrong).1))
+own_is before text kind left (within.in_comment p) = nowhere p.left_is
+own_is before text kind left (within.is_open p) = nowhere p.left_is
+own_is before text kind left (within.unexpected p) = own (omega (arith, ap plain.rank p.kind_is))
+own_is before text kind left (within.too_deep p) = own (omega (arith, ap plain.rank p.kind_is))
+
+split : (a b : ℕ) → (a ≤ b) ⊎ (b < a)
+split a b = by (ltb b a) refl
+  where
+    by : (t : Bool) → ltb b a ≡ t → (a ≤ b) ⊎ (b < a)
+    by true e = inr (ltb-true b a e)
+    by false e = inl (ltb-false b a e)
+
+closed_rest : (rest : List ℕ) (end : ℕ) → EndsAt rest end → 0 < end → end < length rest
+closed_rest [] end p h = absurd (omega (arith, p, h))
+closed_rest (c ∷ rest) end p h = omega (arith, p.2, token_shorter (c ∷ rest) p.0 Token.semicolon p.1)
+
+module _ (before : ℕ) (front more : List ℕ) (at : ℕ) (is_limit : IsLimit before (front ++ more) at) (cuts : at ≡ 1 + length more)
+         (last : (limit : ℕ) → IsLimit before (front ++ more) limit → limit ≤ at) where
+
+  -- a condition before the limit byte is one of the front
+  holds_cut : (k : TextKind) (left : ℕ) → at < left → within.Holds before (front ++ more) k left → plain.Holds front k (left - length more)
+  holds_cut k left far (within.past_limit (e, inl l)) = absurd (omega (arith, far, last left (inl l.limit)))
+  holds_cut k left far (within.past_limit (e, inr f)) = absurd (omega (arith, far, last left (inr f)))
+  holds_cut k left far (within.flawed p) = plain.flawed (flawed_cut before front more at is_limit cuts k left (omega (arith, far, cuts)) p)
+  holds_cut k left far (within.in_comment p) = absurd (omega (arith, far, p.left_is))
+  holds_cut k left far (within.is_open p) = absurd (omega (arith, far, p.left_is))
+  holds_cut k left far (within.unexpected p) = plain.unexpected (unexpected_cut before front more k left (omega (arith, far, cuts)) p)
+  holds_cut k left far (within.too_deep p) = plain.too_deep (too_deep_cut before front more k left (omega (arith, far, cuts)) p)
+
+  holds_kept : (k : TextKind) (left : ℕ) → 1 < left → (h : plain.Holds front k left) → Counted h → within.Holds before (front ++ more) k (left + length more)
+  holds_kept k left far (plain.flawed p) c = within.flawed (flawed_kept before front more (λ limit is. omega (arith, last limit is, cuts)) k left far p c)
+  holds_kept k left far (plain.in_comment p) c = absurd c
+  holds_kept k left far (plain.is_open p) c = absurd c
+  holds_kept k left far (plain.unexpected p) c = within.unexpected (unexpected_kept before front more k left p)
+  holds_kept k left far (plain.too_deep p) c = within.too_deep (too_deep_kept before front more k left p)
+
+  -- a fault of the front that counts is the text's
+  pub fault_kept : (k : TextKind) (left : ℕ) → 1 < left → (p : plain.IsFault front k left) → Counted p.holds → IsFault before (front ++ more) k (left + length more)
+  fault_kept k left far p c =
+      let h = holds_kept k left far p.holds c in
+      record {
+        holds = h;
+        first = λ j other q. later h (own_is before (front ++ more) k (left + length more) h) j other q;
+        within = λ tree start end s. closed tree start end s;
+      } where
+    ranks : (h : within.Holds before (front ++ more) k (left + length more)) → IsOwn before (front ++ more) k (left + length more) h → rank h ≡ 1 + plain.rank k
+    ranks h (own e) = e
+    ranks h (limit l) = absurd (omega (arith, last (left + length more) l, cuts, far))
+    ranks h (nowhere e) = absurd (omega (arith, e, far))
+
+    by : (h : within.Holds before (front ++ more) k (left + length more)) → rank h ≡ 1 + plain.rank k → (j : TextKind) (other : ℕ) (q : within.Holds before (front ++ more) j other) → at < other
+        → IsOwn before (front ++ more) j other q → (other - length more < left) ⊎ ((other - length more ≡ left) × (plain.rank k ≤ plain.rank j)) → (other < left + length more) ⊎ ((other ≡ left + length more) × (rank h ≤ rank q))
+    by h r j other q far_off (own e) (inl less) = inl (omega (arith, less, far_off, cuts))
+    by h r j other q far_off (own e) (inr same) = inr (omega (arith, same.0, far_off, cuts), omega (arith, same.1, r, e))
+    by h r j other q far_off (limit l) d = absurd (omega (arith, last other l, far_off))
+    by h r j other q far_off (nowhere e) d = absurd (omega (arith, e, far_off))
+
+    later : (h : within.Holds before (front ++ more) k (left + length more)) → IsOwn before (front ++ more) k (left + length more) h → (j : TextKind) (other : ℕ) (q : within.Holds before (front ++ more) j other)
+        → (other < left + length more) ⊎ ((other ≡ left + length more) × (rank h ≤ rank q))
+    later h o j other q = elim (split other at) [
+      | inl near ↦ inl (omega (arith, near, cuts, far))
+      | inr off ↦ by h (ranks h o) j other q off (own_is before (front ++ more) j other q) (p.first j (other - length more) (holds_cut j other off q))
+    ]
+
+    closed : (tree : Tree) (start end : ℕ) → Stands (front ++ more) tree start end → end < left + length more
+    closed tree start end s = elim (split (left + length more) end) [
+      | inl h ↦
+          let long : end < length s.rest = closed_rest s.rest end s.ends (omega (arith, h, far)) in
+          let cut = stands_cut front more tree start end s (omega (arith, long, h)) in
+          let less = p.within tree (start - length more) (end - length more) cut in
+          absurd (omega (arith, less, h))
+      | inr h ↦ h
+    ]
