@@ -40,7 +40,7 @@ ends_cut more (c ∷ r) (d ∷ b) end e h p =
     let count : end ≡ length b + length more = p.2 ∙ ap (λ (l : List ℕ). length l) (sign_rest c r p.0 p.1 ∙ same.1) ∙ length-append b more in
     (b, sign_again d b shape, omega (arith, count))
 
-ends_kept : (more : List ℕ) (c : ℕ) (rest : List ℕ) (end : ℕ) → EndsAt (c ∷ rest) end → EndsAt (c ∷ (rest ++ more)) (end + length more)
+pub ends_kept : (more : List ℕ) (c : ℕ) (rest : List ℕ) (end : ℕ) → EndsAt (c ∷ rest) end → EndsAt (c ∷ (rest ++ more)) (end + length more)
 ends_kept more c rest end p =
     let same = sign_rest c rest p.0 p.1 in
     (rest ++ more, sign_again c (rest ++ more) (token_shape_is (c ∷ rest) Token.semicolon p.0 p.1), omega (arith, p.2, ap (λ (l : List ℕ). length l) same, length-append rest more))

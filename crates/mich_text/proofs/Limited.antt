@@ -4,16 +4,20 @@ use Rattle.std.proofs.lemmas.Bool.{ltb-true, ltb-false}
 use Rattle.std.proofs.lemmas.List.{length-append}
 use Rattle.rules_base.specs.Tree.{Tree}
 use Rattle.rules_text.specs.Token.{Token}
-use Rattle.rules_text.specs.Lexical.{token_at}
+use Rattle.rules_text.specs.Lexical.{token_at, first_shape}
 use Rattle.rules_text.specs.Fault.{Flaw}
 use Rattle.rules_text.specs.declared.TextKind.{TextKind}
-use Rattle.rules_text.specs.Text.{IsLimit, EndsAt, Stands, IsFault, IsNode, rank}
+use Rattle.rules_text.specs.Syntax.{element_tokens}
+use Rattle.rules_text.specs.declared.Shape.{Shape}
+use Rattle.rules_text.specs.declared.Shape.TheVariants.{Semicolon}
+use Rattle.rules_text.specs.Text.{Leads, IsLimit, IsFileLimit, EndsAt, Stands, IsFault, IsNode, rank}
 use Rattle.rules_text.specs.Text as within
 use Rattle.mich_text.specs.Plain as plain
 use Rattle.mich_text.specs.Shown.{Counts}
-use Rattle.mich_text.proofs.Places.{flaw_le, token_shorter}
+use Rattle.mich_text.proofs.Places.{flaw_le, token_shorter, token_shape_is}
+use Rattle.mich_text.proofs.Fed.{leads_on}
 use Rattle.mich_text.proofs.Conditions.{flawed_cut, unexpected_cut, too_deep_cut, flawed_kept, unexpected_kept, too_deep_kept}
-use Rattle.mich_text.proofs.Closed.{stands_cut, stands_kept}
+use Rattle.mich_text.proofs.Closed.{stands_cut, stands_kept, ends_kept}
 
 -- a condition of the front that holds whatever follows
 abbrev pub Counted : {text : List ℕ} {kind : TextKind} {left : ℕ} → plain.Holds text kind left → Type 0
@@ -106,3 +110,43 @@ module _ (before : ℕ) (front more : List ℕ) (at : ℕ) (is_limit : IsLimit b
           absurd (omega (arith, less, h))
       | inr h ↦ h
     ]
+
+  -- a statement of the front that has its `;` is the text's; where the file ends at the limit the `;` stands before it
+  pub node_kept : (tree : Tree) (start end : ℕ) → (n : plain.IsNode front tree start end) → 0 < length n.stands.rest → (0 < end) ⊎ (IsFileLimit before (front ++ more) at → ⊥) → IsNode before (front ++ more) tree (start + length more) (end + length more)
+  node_kept tree start end n some before_end = record {
+    stands = stands_kept front more tree start end n.stands some;
+    clean = λ k left h. elim (split left (length more)) [
+      | inl near ↦ omega (arith, near)
+      | inr far ↦ by k left far h
+    ];
+  } where
+    -- the file's limit
+    file : (left : ℕ) → length more < left → IsFileLimit before (front ++ more) left → (0 < end) ⊎ (IsFileLimit before (front ++ more) at → ⊥) → left ≤ end + length more
+    file left far f (inl e) = omega (arith, last left (inr f), cuts, e)
+    file left far f (inr never) = absurd (never (subst (IsFileLimit before (front ++ more)) (same (last left (inr f))) f)) where
+      same : left ≤ at → left ≡ at
+      same h = omega (arith, h, far, cuts)
+
+    closes : (rest : List ℕ) → 0 < length rest → EndsAt rest end → (behind : List ℕ) × (token_at (rest ++ more) ≡ Ok (Token.semicolon, behind))
+    closes [] h p = absurd (omega (arith, h))
+    closes (c ∷ rest) h p =
+        let kept = ends_kept more c rest end p in
+        (kept.0, kept.1)
+
+    begins : (rest : List ℕ) → 0 < length rest → EndsAt rest end → (shape : Shape) × (first_shape rest ≡ Some shape)
+    begins [] h p = absurd (omega (arith, h))
+    begins (c ∷ rest) h p = (Semicolon, token_shape_is (c ∷ rest) Token.semicolon p.0 p.1)
+
+    by : (k : TextKind) (left : ℕ) → length more < left → within.Holds before (front ++ more) k left → left ≤ end + length more
+    by k left far (within.past_limit (e, inl l)) =
+        let s = n.stands in
+        let leads : Leads front (element_tokens s.statement.element) (Some s.rest) = subst (λ (ts : List Token). Leads front ts (Some s.rest)) s.statement.tokens s.leads in
+        let sign = closes s.rest some s.ends in
+        let on = l.goes_on s.statement.element (s.rest ++ more) sign.0 (leads_on front more (element_tokens s.statement.element) s.rest leads (inr (begins s.rest some s.ends))) sign.1 in
+        absurd (omega (arith, on, last left (inl l.limit), cuts, length-append s.rest more, some))
+    by k left far (within.past_limit (e, inr f)) = file left far f before_end
+    by k left far (within.flawed p) = omega (arith, far, n.clean k (left - length more) (plain.flawed (flawed_cut before front more at is_limit cuts k left far p)))
+    by k left far (within.in_comment p) = omega (arith, far, p.left_is)
+    by k left far (within.is_open p) = omega (arith, far, p.left_is)
+    by k left far (within.unexpected p) = omega (arith, far, n.clean k (left - length more) (plain.unexpected (unexpected_cut before front more k left far p)))
+    by k left far (within.too_deep p) = omega (arith, far, n.clean k (left - length more) (plain.too_deep (too_deep_cut before front more k left far p)))
