@@ -72,6 +72,14 @@ module _ (front more : List ℕ) (tree : Tree) (start end : ℕ) where
         ends = ends_cut more p.rest g.0 end g.1 h p.ends;
       }
 
+  -- as many bytes behind it are left
+  pub cut_rest : (p : Stands (front ++ more) tree start end) (h : length more < length p.rest) → length (stands_cut p h).rest + length more ≡ length p.rest
+  unfolding stands_cut
+  cut_rest p h =
+      let g = leads_cut front more p.tokens p.rest p.leads h in
+      let same : length g.0 + length more ≡ length p.rest = omega (arith, ap (λ (l : List ℕ). length l) g.1, length-append g.0 more) in
+      same
+
   -- a statement of the front with its `;`
   pub stands_kept : (p : Stands front tree start end) → 0 < length p.rest → Stands (front ++ more) tree (start + length more) (end + length more)
   stands_kept p h =

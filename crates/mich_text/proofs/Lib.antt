@@ -29,3 +29,4 @@ pub mod Odd
 pub mod Conditions
 pub mod Closed
 pub mod Limited
+pub mod Past

@@ -42,14 +42,14 @@ own_is before text kind left (within.is_open p) = nowhere p.left_is
 own_is before text kind left (within.unexpected p) = own (omega (arith, ap plain.rank p.kind_is))
 own_is before text kind left (within.too_deep p) = own (omega (arith, ap plain.rank p.kind_is))
 
-split : (a b : ℕ) → (a ≤ b) ⊎ (b < a)
+pub split : (a b : ℕ) → (a ≤ b) ⊎ (b < a)
 split a b = by (ltb b a) refl
   where
     by : (t : Bool) → ltb b a ≡ t → (a ≤ b) ⊎ (b < a)
     by true e = inr (ltb-true b a e)
     by false e = inl (ltb-false b a e)
 
-closed_rest : (rest : List ℕ) (end : ℕ) → EndsAt rest end → 0 < end → end < length rest
+pub closed_rest : (rest : List ℕ) (end : ℕ) → EndsAt rest end → 0 < end → end < length rest
 closed_rest [] end p h = absurd (omega (arith, p, h))
 closed_rest (c ∷ rest) end p h = omega (arith, p.2, token_shorter (c ∷ rest) p.0 Token.semicolon p.1)
 
@@ -57,7 +57,7 @@ module _ (before : ℕ) (front more : List ℕ) (at : ℕ) (is_limit : IsLimit b
          (last : (limit : ℕ) → IsLimit before (front ++ more) limit → limit ≤ at) where
 
   -- a condition before the limit byte is one of the front
-  holds_cut : (k : TextKind) (left : ℕ) → at < left → within.Holds before (front ++ more) k left → plain.Holds front k (left - length more)
+  pub holds_cut : (k : TextKind) (left : ℕ) → at < left → within.Holds before (front ++ more) k left → plain.Holds front k (left - length more)
   holds_cut k left far (within.past_limit (e, inl l)) = absurd (omega (arith, far, last left (inl l.limit)))
   holds_cut k left far (within.past_limit (e, inr f)) = absurd (omega (arith, far, last left (inr f)))
   holds_cut k left far (within.flawed p) = plain.flawed (flawed_cut before front more at is_limit cuts k left (omega (arith, far, cuts)) p)

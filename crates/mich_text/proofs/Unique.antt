@@ -28,7 +28,7 @@ one_place text k j left other p q = by (p.first j other q.holds) (q.first k left
   by (inr x) (inl y) = (omega (arith, x.0), omega (arith, x.0))
   by (inr x) (inr y) = (y.0, omega (arith, x.1, y.1))
 
-same_rest : (a b : List ℕ) → Some a ≡ Some b → a ≡ b
+pub same_rest : (a b : List ℕ) → Some a ≡ Some b → a ≡ b
 same_rest a b e = cc
 
 okay_stack : Stack → Result Stack Refusal
@@ -48,10 +48,10 @@ one_tree e f h =
     let same : p.0 ≡ q.0 = same_stack p.0 q.0 (sym p.1 ∙ ap (run high start) h ∙ q.1) in
     ap (λ s. ended_tree s (element_tree e)) (sym p.2 ∙ ap finish same ∙ q.2)
 
-no_token : (behind : List ℕ) (t : Token) → token_at [] ≡ Ok (t, behind) → ⊥
+pub no_token : (behind : List ℕ) (t : Token) → token_at [] ≡ Ok (t, behind) → ⊥
 no_token behind t e = omega (arith, token_shorter [] behind t e)
 
-end_token : (rest behind : List ℕ) (end : ℕ) (t : Token) → EndsAt rest end → token_at rest ≡ Ok (t, behind) → t ≡ Token.semicolon
+pub end_token : (rest behind : List ℕ) (end : ℕ) (t : Token) → EndsAt rest end → token_at rest ≡ Ok (t, behind) → t ≡ Token.semicolon
 end_token [] behind end t p e = absurd (no_token behind t e)
 end_token (c ∷ rest) behind end t p e = ap (λ (x : Token × List ℕ). x.0) (okay_is (t, behind) (Token.semicolon, p.0) (sym e ∙ p.1))
 
@@ -174,7 +174,7 @@ one_fault text k j left other p q =
 
 -- ---- the end is neither
 
-end_leads : (text : List ℕ) (ts : List Token) (o : Option (List ℕ)) → IsEnd text → Leads text ts o → (ts ≡ []) × (o ≡ Some [])
+pub end_leads : (text : List ℕ) (ts : List Token) (o : Option (List ℕ)) → IsEnd text → Leads text ts o → (ts ≡ []) × (o ≡ Some [])
 end_leads text [] o e p = (refl, sym p ∙ e)
 end_leads text (t ∷ ts) o e p = absurd (no_token p.1 t (ap token_at (same_rest [] p.0 (sym e ∙ p.2)) ∙ p.3))
 
@@ -196,7 +196,7 @@ no_shape : (here : List ℕ) (shape : Shape) → Some here ≡ Some [] → first
 no_shape [] shape e h = cc h
 no_shape (c ∷ here) shape e h = omega (arith, ap (λ (l : List ℕ). length l) (same_rest (c ∷ here) [] e))
 
-nothing_holds : (text : List ℕ) (k : TextKind) (left : ℕ) → IsEnd text → Holds text k left → ⊥
+pub nothing_holds : (text : List ℕ) (k : TextKind) (left : ℕ) → IsEnd text → Holds text k left → ⊥
 nothing_holds text k left e (flawed p) = omega (arith, p.some, ap (λ (l : List ℕ). length l) (same_rest p.here [] (end_leads text p.before (Some p.here) e p.leads).1))
 nothing_holds text k left e (in_comment p) = cc (end_leads text p.before None e p.leads).1
 nothing_holds text k left e (is_open p) = p.open_still (record { whole = ended nothing; tokens = (end_leads text p.before (Some []) e p.leads).0 })
