@@ -30,3 +30,4 @@ pub mod Conditions
 pub mod Closed
 pub mod Limited
 pub mod Past
+pub mod Unlimited
