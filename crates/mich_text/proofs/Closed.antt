@@ -28,7 +28,7 @@ sign_again : (c : ℕ) (rest : List ℕ) → shape_of c ≡ Some Semicolon → t
 unfolding token_at
 sign_again c rest e = ap (λ (o : Option Shape). shape_at o (c ∷ rest)) e
 
-sign_rest : (c : ℕ) (rest behind : List ℕ) → token_at (c ∷ rest) ≡ Ok (Token.semicolon, behind) → behind ≡ rest
+pub sign_rest : (c : ℕ) (rest behind : List ℕ) → token_at (c ∷ rest) ≡ Ok (Token.semicolon, behind) → behind ≡ rest
 sign_rest c rest behind e = ap (λ (x : Token × List ℕ). x.1) (okay_is (Token.semicolon, behind) (Token.semicolon, rest) (sym e ∙ sign_again c rest (token_shape_is (c ∷ rest) Token.semicolon behind e)))
 
 ends_cut : (more rest b : List ℕ) (end : ℕ) → rest ≡ b ++ more → length more < length rest → EndsAt rest end → EndsAt b (end - length more)

@@ -31,3 +31,4 @@ pub mod Closed
 pub mod Limited
 pub mod Past
 pub mod Unlimited
+pub mod LastByte

@@ -52,14 +52,14 @@ runs limit s [] = inl (s, run_none limit s)
 runs limit s (t ∷ ts) = one_step limit s t ts (step limit s t) refl (λ n. runs limit n ts)
 
 -- the place of one of the tokens that lead on
-record Passes (text : List ℕ) (before : List Token) (t : Token) (rest : List ℕ) : Type 0 where
-  here : List ℕ
-  behind : List ℕ
-  leads : Leads text before (Some here)
-  read : token_at here ≡ Ok (t, behind)
-  further : length rest < length here
+pub record Passes (text : List ℕ) (before : List Token) (t : Token) (rest : List ℕ) : Type 0 where
+  pub here : List ℕ
+  pub behind : List ℕ
+  pub leads : Leads text before (Some here)
+  pub read : token_at here ≡ Ok (t, behind)
+  pub further : length rest < length here
 
-passes : (text : List ℕ) (before behind : List Token) (t : Token) (rest : List ℕ) → Leads text (before ++ t ∷ behind) (Some rest) → Passes text before t rest
+pub passes : (text : List ℕ) (before behind : List Token) (t : Token) (rest : List ℕ) → Leads text (before ++ t ∷ behind) (Some rest) → Passes text before t rest
 passes text [] behind t rest p = record { here = p.0; behind = p.1; leads = p.2; read = p.3; further = omega (arith, token_shorter p.0 p.1 t p.3, leads_le p.1 behind rest p.4) }
 passes text (u ∷ before) behind t rest p =
     let q = passes p.1 before behind t rest p.4 in

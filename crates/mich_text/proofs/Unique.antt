@@ -90,7 +90,7 @@ same_kind : (k j : TextKind) (a b : ℕ) → wrongly (record { kind = k; left = 
 unfolding wrongly
 same_kind k j a b e = ap (λ (d : Flaw). d.kind) (flaw_is (record { kind = k; left = a }) (record { kind = j; left = b }) e)
 
-clash : (x : List ℕ) {r : Token × List ℕ} {d : Flaw} → token_at x ≡ Err d → token_at x ≡ Ok r → ⊥
+pub clash : (x : List ℕ) {r : Token × List ℕ} {d : Flaw} → token_at x ≡ Err d → token_at x ≡ Ok r → ⊥
 clash x f g = cc (sym f ∙ g)
 
 module _ (text : List ℕ) (k j : TextKind) (left other : ℕ) where
