@@ -6,7 +6,7 @@ use Rattle.rules_types.specs.Kind as k
 use Rattle.mich_base.specs.declared.node.Node.{Node}
 use Rattle.mich_base.specs.declared.ty.Ty.{Ty}
 use Rattle.mich_base.specs.View.{tree, trees}
-use Rattle.mich_types.specs.View.{kind}
+use Rattle.mich_base.specs.TypeView.{kind}
 use Rattle.mich_types.specs.Built.{built, built_all, pair_of}
 
 built_all_map : (ns : List Node) → built_all (trees ns) ≡ map (λ n. built (tree n)) ns

@@ -2,7 +2,7 @@
 use Rattle.std.specs.Prelude.{ℕ, ◌≡◌, List, [], ◌∷◌, Result, Ok, Err}
 use Rattle.rules_types.specs.Reading.{Reading, a_type, bad_type, too_large}
 use Rattle.mich_base.specs.declared.ty.Ty.{Ty}
-use Rattle.mich_types.specs.View.{kind}
+use Rattle.mich_base.specs.TypeView.{kind}
 use Rattle.mich_types.specs.declared.scan.Found.{Found}
 use Rattle.mich_types.specs.declared.scan.Summary.{Summary}
 use Rattle.mich_types.specs.declared.error.TypeError.{TypeError}

@@ -4,7 +4,7 @@ use Rattle.rules_base.specs.Tree.{Tree, prim, none, more}
 use Rattle.rules_types.specs.Kind.{Kind}
 use Rattle.rules_types.specs.Kind as k
 use Rattle.rules_types.specs.Entrypoints as rules
-use Rattle.mich_types.specs.View.{kind}
+use Rattle.mich_base.specs.TypeView.{kind}
 use Rattle.mich_types.specs.declared.parameter.Entry.{Entry}
 use Rattle.mich_types.specs.declared.parameter.Parameter.{Parameter}
 use Rattle.mich_types.specs.declared.error.TypeError.{TypeError}

@@ -1,7 +1,7 @@
 // The attributes of types.
 ghost use Rattle.std.specs.Prelude.{◌≡◌};
 ghost use Rattle.rules_types.specs.Attributes.{big_value, comparable, duplicable, packable, passable, pushable, storable};
-ghost use Rattle.mich_types.specs.View.{kind};
+ghost use Rattle.mich_base.specs.TypeView.{kind};
 
 use mich_base::Ty;
 

@@ -3,7 +3,7 @@ ghost use Rattle.std.specs.Prelude.{◌≡◌, IfOk, map};
 ghost use Rattle.rules_types.specs.Kind.{pair, simple};
 ghost use Rattle.rules_types.specs.Reading.{of_argument, of_arguments};
 ghost use Rattle.mich_base.specs.View.{tree, trees};
-ghost use Rattle.mich_types.specs.View.{kind};
+ghost use Rattle.mich_base.specs.TypeView.{kind};
 ghost use Rattle.mich_types.specs.Built.{built, built_all, pair_of};
 
 use crate::former::{Former, former_of_name};

@@ -5,7 +5,7 @@ ghost use Rattle.rules_types.specs.Kind.{or};
 ghost use Rattle.rules_types.specs.Reading.{type_at};
 ghost use Rattle.rules_types.specs.Entrypoints.{annotations, below, branch, bad_parameter, entries_of, find_entry, of_reading, parameter, field_name, root_by, with_branch, with_branches, with_default, with_name};
 ghost use Rattle.mich_base.specs.View.{tree};
-ghost use Rattle.mich_types.specs.View.{kind};
+ghost use Rattle.mich_base.specs.TypeView.{kind};
 ghost use Rattle.mich_types.specs.Entered.{HasNoTwo, IsEntered, IsEntries, IsNoOr, IsParameter, entry_of, name_of};
 
 use crate::annotations::{behind, field_name, node_name};

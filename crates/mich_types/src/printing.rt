@@ -3,7 +3,7 @@ ghost use Rattle.std.specs.Prelude.{◌≡◌, IfOk, [], ◌∷◌};
 ghost use Rattle.rules_base.specs.Tree.{none, more, prim};
 ghost use Rattle.rules_types.specs.Printing.{node_of, named};
 ghost use Rattle.mich_base.specs.View.{tree, trees};
-ghost use Rattle.mich_types.specs.View.{kind};
+ghost use Rattle.mich_base.specs.TypeView.{kind};
 
 use mich_base::{App, Memory, Node, Nodes, Rows, Text, Ty};
 use std::alloc::Global;

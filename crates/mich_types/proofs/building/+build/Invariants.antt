@@ -1,6 +1,6 @@
 use Rattle.std.proofs.Common.{◌≡◌, take, map}
 use Rattle.mich_base.specs.View.{tree}
-use Rattle.mich_types.specs.View.{kind}
+use Rattle.mich_base.specs.TypeView.{kind}
 use Rattle.mich_types.specs.Built.{built}
 use Rattle.mich_types.proofs.building.+build.Given as goal
 

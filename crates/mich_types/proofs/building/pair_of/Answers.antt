@@ -1,5 +1,5 @@
 use Rattle.std.proofs.Common.{sym, ◌∙◌, ◌++◌, ◌∷◌, [], map, ap}
-use Rattle.mich_types.specs.View.{kind}
+use Rattle.mich_base.specs.TypeView.{kind}
 use Rattle.mich_types.specs.Built.{pair_of}
 use Rattle.mich_types.proofs.Lists.{popped}
 use Rattle.mich_types.proofs.building.pair_of.Goals as goal

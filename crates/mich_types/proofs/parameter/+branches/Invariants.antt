@@ -1,6 +1,6 @@
 use Rattle.std.proofs.Common.{◌+◌, ◌*◌}
 use Rattle.rules_types.specs.Kind.{nodes}
-use Rattle.mich_types.specs.View.{kind}
+use Rattle.mich_base.specs.TypeView.{kind}
 use Rattle.mich_types.proofs.parameter.+branches.Given as goal
 
 abbrev pub decreases-add_branch : goal.decreases-add_branch
