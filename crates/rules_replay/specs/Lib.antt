@@ -1,9 +1,10 @@
+pub mod Places
 pub mod Statements
-pub mod Reading
-pub mod Grammar
 pub mod Receipts
 pub mod World
 pub mod Replay
 pub mod Lines
+pub mod Answers
+pub mod Codec
 pub mod Commands
 pub mod Promise

@@ -3,18 +3,26 @@ use Rattle.std.specs.Prelude.{ℕ, ◌+◌, List, [], ◌∷◌, ◌++◌, map, 
 use Rattle.std.specs.Fmt.{decimal}
 use Rattle.std.specs.List.{flat_map}
 use Rattle.hex.specs.Hex.{encode_lower}
-use Rattle.rules_replay.specs.Receipts.{Receipt, Refused, Done, GroupFault, FeeTooHigh, Failure, EmptyTransaction, BalanceTooLow, Effect, Transfer, Status, Applied, Failed}
+use Rattle.rules_text.specs.declared.TextKind.{TextKind}
+use Rattle.rules_text.specs.declared.TextKind.TheVariants as text
+use Rattle.rules_replay.specs.Receipts.{Receipt, Refused, Done, GroupFault, UnknownSource, GasTooHigh, FeeTooHigh, Failure, OutOfGas, NoContract, NoEntrypoint, BadParameter, EmptyTransaction, BalanceTooLow, Effect, Transfer, Status, Applied, Failed}
 use Rattle.rules_replay.specs.World.{World, supply}
-use Rattle.rules_replay.specs.Replay.{Replay, Ending, State, RefusedAt, FileFault, BadStatement}
+use Rattle.rules_replay.specs.Replay.{Replay, Ending, State, RefusedAt, FileFault, TextFault, BadStatement, BadOrder, RepeatedAccount, SupplyLimit}
 
 -- ---- receipts
 
 abbrev pub group_fault_name : GroupFault → List ℕ
+group_fault_name UnknownSource = codes "UnknownSource"
+group_fault_name GasTooHigh = codes "GasTooHigh"
 group_fault_name FeeTooHigh = codes "FeeTooHigh"
 
-abbrev pub failure_name : Failure → List ℕ
-failure_name EmptyTransaction = codes "EmptyTransaction"
-failure_name BalanceTooLow = codes "BalanceTooLow"
+abbrev pub failure_text : Failure → List ℕ
+failure_text OutOfGas = codes "OutOfGas"
+failure_text NoContract = codes "NoContract"
+failure_text NoEntrypoint = codes "NoEntrypoint"
+failure_text (BadParameter location) = codes "(BadParameter " ++ (decimal location ++ codes ")")
+failure_text EmptyTransaction = codes "EmptyTransaction"
+failure_text BalanceTooLow = codes "BalanceTooLow"
 
 -- implicit addresses, which are 0 and a key hash, an amount, the argument, and no change of tickets
 abbrev pub transfer_text : List ℕ → List ℕ → ℕ → List ℕ
@@ -34,7 +42,7 @@ braces (part ∷ parts) = codes "{ " ++ (part ++ behind parts)
 
 abbrev pub status_text : Status → List ℕ
 status_text (Applied gas effects) = codes "Applied " ++ (decimal gas ++ (codes " " ++ braces (map effect_text effects)))
-status_text (Failed count failure) = codes "Failed " ++ (decimal count ++ (codes " " ++ failure_name failure))
+status_text (Failed count failure) = codes "Failed " ++ (decimal count ++ (codes " " ++ failure_text failure))
 
 abbrev pub receipt_text : Receipt → List ℕ
 receipt_text (Refused fault) = codes "(Refused " ++ (group_fault_name fault ++ codes ")")
@@ -64,15 +72,30 @@ supply_line mutez = codes "Supply " ++ (decimal mutez ++ codes "\n")
 abbrev pub state_lines : World → List (List ℕ)
 state_lines w = map account_line w.accounts ++ fees_line w.fees ∷ supply_line (supply w) ∷ []
 
-abbrev pub file_fault_name : FileFault → List ℕ
-file_fault_name BadStatement = codes "BadStatement"
+abbrev pub text_kind_name : TextKind → List ℕ
+text_kind_name text.BadChar = codes "BadChar"
+text_kind_name text.BadString = codes "BadString"
+text_kind_name text.BadBytes = codes "BadBytes"
+text_kind_name text.BadNumber = codes "BadNumber"
+text_kind_name text.Unclosed = codes "Unclosed"
+text_kind_name text.Unexpected = codes "Unexpected"
+text_kind_name text.TooDeep = codes "TooDeep"
+text_kind_name text.TooLong = codes "TooLong"
 
-abbrev pub refusal_line : FileFault → ℕ → List ℕ
-refusal_line fault place = codes "Refused " ++ (file_fault_name fault ++ (codes " " ++ (decimal place ++ codes "\n")))
+abbrev pub file_fault_name : FileFault → List ℕ
+file_fault_name (TextFault kind) = text_kind_name kind
+file_fault_name BadStatement = codes "BadStatement"
+file_fault_name BadOrder = codes "BadOrder"
+file_fault_name RepeatedAccount = codes "RepeatedAccount"
+file_fault_name SupplyLimit = codes "SupplyLimit"
+
+-- a refusal by its name, and the place or location
+abbrev pub refusal_line : List ℕ → ℕ → List ℕ
+refusal_line name place = codes "Refused " ++ (name ++ (codes " " ++ (decimal place ++ codes "\n")))
 
 abbrev pub ending_lines : Ending → List (List ℕ)
 ending_lines (State w) = state_lines w
-ending_lines (RefusedAt fault place) = refusal_line fault place ∷ []
+ending_lines (RefusedAt fault place) = refusal_line (file_fault_name fault) place ∷ []
 
 -- ---- all lines
 

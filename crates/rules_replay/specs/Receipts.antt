@@ -1,16 +1,23 @@
--- What becomes of a group of operations (Octez: operations).
+-- What becomes of a group of operations (Octez "operations").
 use Rattle.std.specs.Prelude.{ℕ, List}
 
--- why a group is refused: the fees are more than the source's balance
+-- why a group is refused: its source is no account, its gas is over the limit, or its fee is over the source's balance
 pub data GroupFault : Type 0 where
+  UnknownSource : GroupFault
+  GasTooHigh : GroupFault
   FeeTooHigh : GroupFault
 
--- why an operation fails: it transfers no mutez, or more than the sender has
+-- why an operation fails: its gas ran out; its destination is no contract; there is no such entrypoint; the argument's
+-- node at this location doesn't fit; it moves no mutez, or more than the sender has
 pub data Failure : Type 0 where
+  OutOfGas : Failure
+  NoContract : Failure
+  NoEntrypoint : Failure
+  BadParameter : (location : ℕ) → Failure
   EmptyTransaction : Failure
   BalanceTooLow : Failure
 
--- what an operation did: so much mutez went from one implicit account to another
+-- what an operation did: so much mutez went from one implicit account to another, by their key hashes
 pub data Effect : Type 0 where
   Transfer : (sender destination : List ℕ) (amount : ℕ) → Effect
 

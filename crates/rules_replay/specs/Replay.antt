@@ -1,16 +1,20 @@
 -- What a file comes to: a receipt for each group, and the world at the end, or the refusal of the file.
-use Rattle.std.specs.Prelude.{ℕ, ◌==◌, ◌||◌, nat_le, Bool, true, false, if◌then◌else◌, List, [], ◌∷◌, length, take, drop, None, Some, is_some}
+use Rattle.std.specs.Prelude.{◌≡◌, ◌⊎◌, ℕ, List, [], ◌∷◌, ◌++◌, length, None, Some}
 use Rattle.std.specs.declared.option.Option.{Option}
-use Rattle.std.specs.Option.{option_map}
-use Rattle.std.specs.List.{prefix_len, list_all}
-use Rattle.rules_replay.specs.Reading.{◌>>=◌, statements_of}
-use Rattle.rules_replay.specs.Statements.{Statement, Chain, Account, Group}
+use Rattle.rules_text.specs.declared.TextKind.{TextKind}
+use Rattle.rules_replay.specs.Places.{Placed, AreStatements, IsEndAt, IsFaultAt}
+use Rattle.rules_replay.specs.Statements.{Statement, Chain, Account, Group, form}
 use Rattle.rules_replay.specs.Receipts.{Receipt}
-use Rattle.rules_replay.specs.World.{World, new_world, balance_of, granted_to, receipt_of, world_after}
+use Rattle.rules_replay.specs.World.{World, new_world, Grant, Granted, Repeated, TooMuch, granted_to, receipt_of, world_after}
 
--- why a file is refused: a statement isn't of the form
+-- Why a file is refused: a fault of its text; a node that is no statement; a chain that isn't first or stands again, or
+-- a file without statements; an account that is there; or more mutez granted than there may be.
 pub data FileFault : Type 0 where
+  TextFault : TextKind → FileFault
   BadStatement : FileFault
+  BadOrder : FileFault
+  RepeatedAccount : FileFault
+  SupplyLimit : FileFault
 
 -- the world at the end, or the fault and the byte at which it stands
 pub data Ending : Type 0 where
@@ -21,81 +25,68 @@ pub record Replay : Type 0 where
   pub receipts : List Receipt
   pub ending : Ending
 
--- ---- accounts
+-- ---- one statement
 
-abbrev pub is_account : Statement → Bool
-is_account (Account who mutez) = true
-is_account (Chain id level moment) = false
-is_account (Group call) = false
+-- what a statement comes to: a world and a receipt where it is a group, or a refusal
+pub data Step : Type 0 where
+  goes_on : World → List Receipt → Step
+  stops : FileFault → Step
 
--- the world that a grant makes, where it may be made
-abbrev pub granted_by : Option World → Statement → Option World
-granted_by world (Account who mutez) = world >>= λ w. granted_to w who mutez
-granted_by world (Chain id level moment) = world
-granted_by world (Group call) = world
+abbrev pub granting : Grant → Step
+granting (Granted w) = goes_on w []
+granting Repeated = stops RepeatedAccount
+granting TooMuch = stops SupplyLimit
 
-abbrev pub all_granted : Option World → List Statement → Option World
-all_granted world [] = world
-all_granted world (s ∷ ss) = all_granted (granted_by world s) ss
+-- in the world so far, or in none before the chain
+abbrev pub step : Option World → Statement → Step
+step None (Chain id level moment) = goes_on (new_world id level moment) []
+step None (Account who mutez) = stops BadOrder
+step None (Group source content) = stops BadOrder
+step (Some w) (Chain id level moment) = stops BadOrder
+step (Some w) (Account who mutez) = granting (granted_to w who mutez)
+step (Some w) (Group source content) = goes_on (world_after w source content) (receipt_of w source content ∷ [])
 
--- the accounts behind the chain, and the groups behind them
-abbrev pub accounts_in : List Statement → List Statement
-accounts_in ss = take (prefix_len is_account ss) ss
+-- a node that is no statement is refused before all else
+abbrev pub step_by : Option World → Option Statement → Step
+step_by w (Some s) = step w s
+step_by w None = stops BadStatement
 
-abbrev pub groups_in : List Statement → List Statement
-groups_in ss = drop (prefix_len is_account ss) ss
+-- ---- statements in order
 
--- ---- groups
+-- the receipts so far, and the world so far; or the refusal with its place, behind which nothing counts
+pub data Run : Type 0 where
+  going : List Receipt → Option World → Run
+  stopped : List Receipt → FileFault → (place : ℕ) → Run
 
--- a group whose source is an account
-abbrev pub is_known_group : World → Statement → Bool
-is_known_group w (Group call) = is_some (balance_of w call.source)
-is_known_group w (Account who mutez) = false
-is_known_group w (Chain id level moment) = false
+abbrev pub continued : List Receipt → ℕ → Step → Run
+continued receipts place (goes_on w more) = going (receipts ++ more) (Some w)
+continued receipts place (stops f) = stopped receipts f place
 
--- the receipts of groups, each in the world that the ones before it leave
-abbrev pub receipts_of : World → List Statement → List Receipt
-receipts_of w [] = []
-receipts_of w (Group call ∷ ss) = receipt_of w call ∷ receipts_of (world_after w call) ss
-receipts_of w (Account who mutez ∷ ss) = receipts_of w ss
-receipts_of w (Chain id level moment ∷ ss) = receipts_of w ss
+abbrev pub run_one : Run → Placed → Run
+run_one (going receipts w) s = continued receipts s.place (step_by w (form s.node))
+run_one (stopped receipts f place) s = stopped receipts f place
 
--- the world behind them
-abbrev pub world_after_all : World → List Statement → World
-world_after_all w [] = w
-world_after_all w (Group call ∷ ss) = world_after_all (world_after w call) ss
-world_after_all w (Account who mutez ∷ ss) = world_after_all w ss
-world_after_all w (Chain id level moment ∷ ss) = world_after_all w ss
+abbrev pub run_all : Run → List Placed → Run
+run_all r [] = r
+run_all r (s ∷ ss) = run_all (run_one r s) ss
 
--- ---- the plain form
+-- ---- files
 
--- A chain, then one or more accounts that may be made, then one or more groups whose sources are among them:
--- the world that the groups find, and the groups.
-abbrev pub opened_with : World → List Statement → List Statement → Option World
-opened_with w accounts groups = if (length accounts == 0) || (length groups == 0) then None
-    else (all_granted (Some w) accounts >>= λ made. if list_all (is_known_group made) groups then Some made else None)
+-- at the end of a file: the world, or a refusal where there was no statement
+abbrev pub ending_of : ℕ → Option World → Ending
+ending_of size (Some w) = State w
+ending_of size None = RefusedAt BadOrder size
 
-abbrev pub scenario_of : List Statement → Option (World × List Statement)
-scenario_of (Chain id level moment ∷ ss) = option_map (λ w. (w, groups_in ss)) (opened_with (new_world id level moment) (accounts_in ss) (groups_in ss))
-scenario_of [] = None
-scenario_of (Account who mutez ∷ ss) = None
-scenario_of (Group call ∷ ss) = None
+-- the statements end at a place, where the file ends or its text has a fault, or one of them was refused
+abbrev pub Closes : List ℕ → ℕ → Run → Replay → Type 0
+Closes file to (stopped receipts f place) done = done ≡ record { receipts = receipts; ending = RefusedAt f place }
+Closes file to (going receipts w) done =
+    (IsEndAt file to × (done ≡ record { receipts = receipts; ending = ending_of (length file) w }))
+    ⊎ ((kind : TextKind) × (place : ℕ) × IsFaultAt file to kind place × (done ≡ record { receipts = receipts; ending = RefusedAt (TextFault kind) place }))
 
--- a file of the plain form has at most 1 MiB
-abbrev pub most_bytes : ℕ
-most_bytes = 1048576
-
-abbrev pub bounded : List ℕ → Option (List ℕ)
-bounded bytes = if nat_le (length bytes) most_bytes then Some bytes else None
-
-abbrev pub replay_of : Option (World × List Statement) → Replay
-replay_of (Some found) = record { receipts = receipts_of found.0 found.1; ending = State (world_after_all found.0 found.1) }
-replay_of None = record { receipts = []; ending = RefusedAt BadStatement 0 }
-
--- what bytes come to that were read from a file, or that are too many
-abbrev pub replay_read : Option (List ℕ) → Replay
-replay_read found = replay_of (found >>= λ bytes. statements_of bytes >>= scenario_of)
-
--- what the bytes of a file come to
-abbrev pub replay : List ℕ → Replay
-replay bytes = replay_read (bounded bytes)
+-- the bytes of a file come to this
+pub record IsReplay (file : List ℕ) (done : Replay) : Type 0 where
+  pub statements : List Placed
+  pub to : ℕ
+  pub stand : AreStatements file 0 statements to
+  pub closes : Closes file to (run_all (going [] None) statements) done

@@ -1,28 +1,159 @@
--- The statements of a file of the plain form, with the values of their fields.
-use Rattle.std.specs.Prelude.{ℕ, ◌-◌, ◌^◌, List, ℤ}
+-- The statements of a file, with the values of their fields, and the nodes that are statements.
+use Rattle.std.specs.Prelude.{ℕ, ◌-◌, ◌^◌, ◌==◌, ◌&&◌, ◌||◌, nat_le, Bool, if◌then◌else◌, ℤ, pos, negsuc, List, [], ◌∷◌, length, slice_index, codes, Some, None}
+use Rattle.std.specs.declared.option.Option.{Option}
+use Rattle.std.specs.List.{list_all}
+use Rattle.std.specs.Option.{option_map}
+use Rattle.std.specs.Str.{bytes_eq}
+use Rattle.rules_base.specs.Tree.{Tree, int, str, bytes, prim, seq, Trees, none, more}
+use Rattle.rules_forms.specs.Spelling.{is_name_byte}
 
--- The largest amount of mutez, the largest gas of an operation, and the largest level (Octez: operations).
+-- The largest amount of mutez, and the largest level (Octez "operations").
 abbrev pub most_mutez : ℕ
 most_mutez = 2 ^ 63 - 1
-
-abbrev pub most_gas : ℕ
-most_gas = 10 ^ 10
 
 abbrev pub most_level : ℕ
 most_level = 2 ^ 31 - 1
 
--- A transfer that a source orders: its fee and amount in mutez, the gas that it may use, and the key hash of the
--- implicit account that it goes to. Key hashes are 21 bytes: the tag of a curve, and 20 bytes.
-pub record Call : Type 0 where
-  pub source : List ℕ
+-- What a source orders in a group. A transfer moves mutez to a place and calls an entrypoint there with an argument.
+-- Places are 22 bytes, key hashes 21: the tag of a curve, and 20 bytes.
+pub data Action : Type 0 where
+  Call : (amount : ℕ) (destination entrypoint : List ℕ) (argument : Tree) → Action
+
+-- an action, its fee in mutez, and the gas that it may use
+pub record Content : Type 0 where
   pub fee : ℕ
   pub gas : ℕ
-  pub amount : ℕ
-  pub destination : List ℕ
+  pub action : Action
 
 -- `Chain id level moment` says where and when the groups run, `Account key_hash mutez` grants mutez to a new account,
--- and `Group source { Call .. }` is a group of one transfer.
+-- and `Group source { content }` is a group of one operation.
 pub data Statement : Type 0 where
   Chain : (id : List ℕ) (level : ℕ) (moment : ℤ) → Statement
   Account : (key_hash : List ℕ) (mutez : ℕ) → Statement
-  Group : (call : Call) → Statement
+  Group : (source : List ℕ) (content : Content) → Statement
+
+-- ---- fields
+
+infixl 10 ◌>>=◌
+abbrev pub ◌>>=◌ : {A B : Type 0} → Option A → (A → Option B) → Option B
+None >>= f = None
+(Some x) >>= f = f x
+
+abbrev pub only_if : {A : Type 0} → Bool → A → Option A
+only_if test x = if test then Some x else None
+
+-- a number that isn't negative
+abbrev pub natural_of : Tree → Option ℕ
+natural_of (int (pos n)) = Some n
+natural_of (int (negsuc n)) = None
+natural_of (str s) = None
+natural_of (bytes b) = None
+natural_of (prim name annotations arguments) = None
+natural_of (seq elements) = None
+
+-- a number from 0 to so much
+abbrev pub number_of : ℕ → Tree → Option ℕ
+number_of most t = natural_of t >>= λ n. only_if (nat_le n most) n
+
+-- a moment in seconds, from -2^63 to 2^63 - 1; `negsuc n` is -1 - n
+abbrev pub moment_of : Tree → Option ℤ
+moment_of (int (pos n)) = only_if (nat_le n (2 ^ 63 - 1)) (pos n)
+moment_of (int (negsuc n)) = only_if (nat_le n (2 ^ 63 - 1)) (negsuc n)
+moment_of (str s) = None
+moment_of (bytes b) = None
+moment_of (prim name annotations arguments) = None
+moment_of (seq elements) = None
+
+-- bytes that pass a test
+abbrev pub bytes_of : (List ℕ → Bool) → Tree → Option (List ℕ)
+bytes_of test (bytes b) = only_if (test b) b
+bytes_of test (int n) = None
+bytes_of test (str s) = None
+bytes_of test (prim name annotations arguments) = None
+bytes_of test (seq elements) = None
+
+-- a string that names an entrypoint: 1 to 31 of the characters of such names
+abbrev pub is_entrypoint : List ℕ → Bool
+is_entrypoint name = nat_le 1 (length name) && nat_le (length name) 31 && list_all is_name_byte name
+
+abbrev pub entrypoint_of : Tree → Option (List ℕ)
+entrypoint_of (str s) = only_if (is_entrypoint s) s
+entrypoint_of (int n) = None
+entrypoint_of (bytes b) = None
+entrypoint_of (prim name annotations arguments) = None
+entrypoint_of (seq elements) = None
+
+abbrev pub is_chain_id : List ℕ → Bool
+is_chain_id b = length b == 4
+
+-- the tag of a curve, 0 to 3, and 20 bytes
+abbrev pub is_key_hash : List ℕ → Bool
+is_key_hash b = (length b == 21) && nat_le (slice_index b 0) 3
+
+-- 0 and a key hash, or 1, the 20 bytes of a contract, and 0
+abbrev pub is_place : List ℕ → Bool
+is_place b = (length b == 22) && (((slice_index b 0 == 0) && nat_le (slice_index b 1) 3) || ((slice_index b 0 == 1) && (slice_index b 21 == 0)))
+
+-- ---- forms
+
+abbrev pub nodes_of : Trees → List Tree
+nodes_of none = []
+nodes_of (more t ts) = t ∷ nodes_of ts
+
+-- id level moment
+abbrev pub chain_of : List Tree → Option Statement
+chain_of (id ∷ level ∷ moment ∷ []) = bytes_of is_chain_id id >>= λ id. number_of most_level level >>= λ level. moment_of moment >>= λ moment. Some (Chain id level moment)
+chain_of _ = None
+
+-- key_hash mutez
+abbrev pub account_of : List Tree → Option Statement
+account_of (who ∷ mutez ∷ []) = bytes_of is_key_hash who >>= λ who. number_of most_mutez mutez >>= λ mutez. Some (Account who mutez)
+account_of _ = None
+
+-- fee gas amount destination "entrypoint" argument
+abbrev pub call_of : List Tree → Option Content
+call_of (fee ∷ gas ∷ amount ∷ destination ∷ entrypoint ∷ argument ∷ []) =
+    number_of most_mutez fee >>= λ fee. natural_of gas >>= λ gas. number_of most_mutez amount >>= λ amount.
+    bytes_of is_place destination >>= λ destination. entrypoint_of entrypoint >>= λ entrypoint.
+    Some (record { fee = fee; gas = gas; action = Call amount destination entrypoint argument })
+call_of _ = None
+
+-- an application of a name without annotations: what the arguments make
+abbrev pub named : {A : Type 0} → (List ℕ → List Tree → Option A) → Tree → Option A
+named f (prim name [] arguments) = f name (nodes_of arguments)
+named f (prim name (a ∷ annotations) arguments) = None
+named f (int n) = None
+named f (str s) = None
+named f (bytes b) = None
+named f (seq elements) = None
+
+abbrev pub content_by : List ℕ → List Tree → Option Content
+content_by name fields = if bytes_eq name (codes "Call") then call_of fields else None
+
+-- a sequence of one content
+abbrev pub one_content : List Tree → Option Content
+one_content (content ∷ []) = named content_by content
+one_content _ = None
+
+abbrev pub contents_of : Tree → Option Content
+contents_of (seq elements) = one_content (nodes_of elements)
+contents_of (int n) = None
+contents_of (str s) = None
+contents_of (bytes b) = None
+contents_of (prim name annotations arguments) = None
+
+-- source { content }
+abbrev pub group_of : List Tree → Option Statement
+group_of (source ∷ contents ∷ []) = bytes_of is_key_hash source >>= λ source. contents_of contents >>= λ content. Some (Group source content)
+group_of _ = None
+
+abbrev pub statement_by : List ℕ → List Tree → Option Statement
+statement_by name fields =
+    if bytes_eq name (codes "Chain") then chain_of fields
+    else if bytes_eq name (codes "Account") then account_of fields
+    else if bytes_eq name (codes "Group") then group_of fields
+    else None
+
+-- the statement that a node is, or none; an annotation on a statement or content makes it none
+abbrev pub form : Tree → Option Statement
+form t = named statement_by t

@@ -1,12 +1,15 @@
--- A world of implicit accounts, and what statements make of it (Octez: operations, accounts).
-use Rattle.std.specs.Prelude.{ℕ, ◌+◌, ◌-◌, ◌==◌, ◌||◌, nat_lt, nat_le, ℤ, if◌then◌else◌, List, [], ◌∷◌, sum, None, Some, is_some, unwrap_or}
+-- A world of implicit accounts, and what statements make of it (Octez "operations", accounts).
+use Rattle.std.specs.Prelude.{ℕ, ◌+◌, ◌-◌, ◌^◌, ◌==◌, ◌&&◌, nat_lt, nat_le, Bool, true, false, not, ℤ, if◌then◌else◌, List, [], ◌∷◌, drop, slice_index, sum, None, Some, is_some, unwrap_or, codes}
 use Rattle.std.specs.declared.option.Option.{Option}
 use Rattle.std.specs.Ordering.{nat_cmp}
 use Rattle.std.specs.Cmp.Lexicographic.{slice_cmp}
 use Rattle.std.specs.BTreeMap.{is_at, insert_entry}
 use Rattle.std.specs.Map.{lookup, values_of}
-use Rattle.rules_replay.specs.Statements.{Call, most_mutez}
-use Rattle.rules_replay.specs.Receipts.{Receipt, Refused, Done, FeeTooHigh, EmptyTransaction, BalanceTooLow, Transfer, Applied, Failed}
+use Rattle.std.specs.Str.{bytes_eq}
+use Rattle.rules_base.specs.Tree.{Tree, int, str, bytes, prim, seq, Trees, none, more}
+use Rattle.rules_forms.specs.Spelling.{default_name}
+use Rattle.rules_replay.specs.Statements.{Action, Call, Content, most_mutez}
+use Rattle.rules_replay.specs.Receipts.{Receipt, Refused, Done, GroupFault, UnknownSource, GasTooHigh, FeeTooHigh, Failure, OutOfGas, NoContract, NoEntrypoint, BadParameter, EmptyTransaction, BalanceTooLow, Transfer, Applied, Failed}
 
 -- where and when the groups run; the accounts in the order of the bytes of their key hashes, with their balances;
 -- the fees taken; and all that was granted, both in mutez
@@ -34,48 +37,124 @@ supply w = sum (values_of w.accounts) + w.fees
 
 -- ---- grants
 
--- an account is made once, and no more than 2^63 - 1 mutez are granted in all
-abbrev pub granted_to : World → List ℕ → ℕ → Option World
-granted_to w who mutez =
-    if is_some (balance_of w who) then None
-    else if nat_le (w.granted + mutez) most_mutez then Some (record w { accounts = with_balance w.accounts who mutez; granted = w.granted + mutez })
-    else None
+-- what a grant comes to: an account is made once, and no more than 2^63 - 1 mutez are granted in all
+pub data Grant : Type 0 where
+  Granted : World → Grant
+  Repeated : Grant
+  TooMuch : Grant
 
--- ---- groups
+abbrev pub granted_to : World → List ℕ → ℕ → Grant
+granted_to w who mutez =
+    if is_some (balance_of w who) then Repeated
+    else if nat_le (w.granted + mutez) most_mutez then Granted (record w { accounts = with_balance w.accounts who mutez; granted = w.granted + mutez })
+    else TooMuch
+
+-- ---- transfers
 
 -- a balance, or 0 where there is no account
 abbrev pub balance_in : List (List ℕ × ℕ) → List ℕ → ℕ
 balance_in accounts who = unwrap_or (lookup (is_at (slice_cmp nat_cmp who)) accounts) 0
 
+-- the most gas that an operation may have
+abbrev pub most_gas : ℕ
+most_gas = 10 ^ 10
+
+-- the gas that a transfer uses
+abbrev pub transfer_gas : ℕ
+transfer_gas = 1
+
+-- the argument that an implicit account takes
+abbrev pub is_unit : Tree → Bool
+is_unit (prim name annotations none) = bytes_eq name (codes "Unit")
+is_unit (prim name annotations (more t ts)) = false
+is_unit (int n) = false
+is_unit (str s) = false
+is_unit (bytes b) = false
+is_unit (seq elements) = false
+
+-- the key hash of an implicit account's place
+abbrev pub key_hash_of : List ℕ → List ℕ
+key_hash_of place = drop 1 place
+
+-- why a transfer to an account fails, of a sender with this balance
+abbrev pub account_failure : ℕ → ℕ → List ℕ → Tree → Option Failure
+account_failure balance amount entrypoint argument =
+    if not (bytes_eq entrypoint default_name) then Some NoEntrypoint
+    else if not (is_unit argument) then Some (BadParameter 0)
+    else if amount == 0 then Some EmptyTransaction
+    else if nat_lt balance amount then Some BalanceTooLow
+    else None
+
+-- why an action with so much gas fails, of a source with this balance; a place that begins with 0 is an account's
+abbrev pub failure_of : ℕ → ℕ → Action → Option Failure
+failure_of balance gas (Call amount destination entrypoint argument) =
+    if nat_lt gas transfer_gas then Some OutOfGas
+    else if slice_index destination 0 == 0 then account_failure balance amount entrypoint argument
+    else Some NoContract
+
+-- ---- groups
+
+-- why a group is refused: the first of these that holds
+abbrev pub refusal_of : World → List ℕ → Content → Option GroupFault
+refusal_of w source c =
+    if not (is_some (balance_of w source)) then Some UnknownSource
+    else if nat_lt most_gas c.gas then Some GasTooHigh
+    else if nat_lt (balance_in w.accounts source) c.fee then Some FeeTooHigh
+    else None
+
 -- what is left of the source's balance after the fee
-abbrev pub left_after_fee : World → Call → ℕ
-left_after_fee w c = balance_in w.accounts c.source - c.fee
+abbrev pub left_after_fee : World → List ℕ → Content → ℕ
+left_after_fee w source c = balance_in w.accounts source - c.fee
 
 -- the fee goes from the source to the fees
-abbrev pub fee_taken : World → Call → World
-fee_taken w c = record w { accounts = with_balance w.accounts c.source (left_after_fee w c); fees = w.fees + c.fee }
+abbrev pub fee_taken : World → List ℕ → Content → World
+fee_taken w source c = record w { accounts = with_balance w.accounts source (left_after_fee w source c); fees = w.fees + c.fee }
 
 -- accounts with so much more of one
 abbrev pub with_more : List (List ℕ × ℕ) → List ℕ → ℕ → List (List ℕ × ℕ)
 with_more accounts who mutez = with_balance accounts who (balance_in accounts who + mutez)
 
--- then the amount goes from the source to the destination, which is made where it isn't there
-abbrev pub transferred : World → Call → World
-transferred w c = record (fee_taken w c) {
-  accounts = with_more (with_balance (fee_taken w c).accounts c.source (left_after_fee w c - c.amount)) c.destination c.amount;
-}
+-- so much mutez goes from an account to another, which is made where it isn't there
+abbrev pub moved : World → List ℕ → List ℕ → ℕ → World
+moved w from to amount = record w { accounts = with_more (with_balance w.accounts from (balance_in w.accounts from - amount)) to amount }
 
--- what becomes of a group: the first of these tests that fails decides; a transfer uses 1 unit of gas
-abbrev pub receipt_of : World → Call → Receipt
-receipt_of w c =
-    if nat_lt (balance_in w.accounts c.source) c.fee then Refused FeeTooHigh
-    else if c.amount == 0 then Done (Failed 0 EmptyTransaction ∷ [])
-    else if nat_lt (left_after_fee w c) c.amount then Done (Failed 0 BalanceTooLow ∷ [])
-    else Done (Applied 1 (Transfer c.source c.destination c.amount ∷ []) ∷ [])
+-- the world after an action that doesn't fail
+abbrev pub acted : World → List ℕ → Action → World
+acted w source (Call amount destination entrypoint argument) = moved w source (key_hash_of destination) amount
 
--- the world behind it: a refused group changes nothing, and one that fails changes its fees alone
-abbrev pub world_after : World → Call → World
-world_after w c =
-    if nat_lt (balance_in w.accounts c.source) c.fee then w
-    else if (c.amount == 0) || nat_lt (left_after_fee w c) c.amount then fee_taken w c
-    else transferred w c
+-- what becomes of a group
+pub data Verdict : Type 0 where
+  refused : GroupFault → Verdict
+  failed : Failure → Verdict
+  applied : Verdict
+
+abbrev pub tried : Option Failure → Verdict
+tried (Some f) = failed f
+tried None = applied
+
+abbrev pub admitted : World → List ℕ → Content → Option GroupFault → Verdict
+admitted w source c (Some f) = refused f
+admitted w source c None = tried (failure_of (left_after_fee w source c) c.gas c.action)
+
+abbrev pub verdict_of : World → List ℕ → Content → Verdict
+verdict_of w source c = admitted w source c (refusal_of w source c)
+
+abbrev pub transfer_receipt : List ℕ → Action → Receipt
+transfer_receipt source (Call amount destination entrypoint argument) = Done (Applied transfer_gas (Transfer source (key_hash_of destination) amount ∷ []) ∷ [])
+
+abbrev pub receipt_by : List ℕ → Content → Verdict → Receipt
+receipt_by source c (refused f) = Refused f
+receipt_by source c (failed f) = Done (Failed 0 f ∷ [])
+receipt_by source c applied = transfer_receipt source c.action
+
+abbrev pub receipt_of : World → List ℕ → Content → Receipt
+receipt_of w source c = receipt_by source c (verdict_of w source c)
+
+-- a refused group changes nothing, and one that fails changes its fee alone
+abbrev pub world_by : World → List ℕ → Content → Verdict → World
+world_by w source c (refused f) = w
+world_by w source c (failed f) = fee_taken w source c
+world_by w source c applied = acted (fee_taken w source c) source c.action
+
+abbrev pub world_after : World → List ℕ → Content → World
+world_after w source c = world_by w source c (verdict_of w source c)
