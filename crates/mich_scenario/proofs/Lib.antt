@@ -1,5 +1,1 @@
-pub mod Values
-pub mod Fronts
-pub mod Words
-pub mod Decoding
-pub mod Sentences
+mod Counts

@@ -1,108 +1,81 @@
-//! The fields of statements.
-ghost use Rattle.std.specs.Prelude.{◌≡◌, ◌<◌, ◌≤◌, ◌+◌, ◌-◌, ◌^◌, ℕ, List, length, Some, None, IfSome};
-ghost use Rattle.std.specs.Option.{option_map, option_copied};
-ghost use Rattle.rules_replay.specs.Reading.{digits_in, digits_here, number_at, moment_at, bytes_at, key_hash_at, implicit_at};
+// The fields of statements.
+ghost use Rattle.std.specs.Prelude.{◌≡◌, ◌<◌, ◌≤◌, ◌^◌, ◌-◌, ℕ, ℤ, pos, neg_ℤ, unsigned_abs, Some, None, IfSome, option_map};
+ghost use Rattle.mich_base.specs.View.{tree};
+ghost use Rattle.mich_forms.specs.Spelled.{place_bytes};
+ghost use Rattle.rules_replay.specs.Statements.{within, number_of, moment_of, gas_of, bytes_of, is_chain_id, is_key_hash, is_place, entrypoint_of};
 
-use crate::scan::{is_digit, skip, word, word_here};
-use mich_forms::KeyHash;
+use mich_base::Node;
+use mich_forms::{ChainId, Entrypoint, KeyHash, Place};
 
-fn digits_in(word: &[u8], most: u64) -> Option<u64>
-    ensures value { result ≡ digits_in most word.now }
-    ensures within { IfSome result (λ n. n ≤ most) }
+// A number from one to another.
+fn within(node: &Node, low: i128, high: i128) -> Option<i128>
+    ensures { result ≡ within low high (tree node.now) }
 {
-    let mut number = 0u128;
-    for byte in word {
-        if !is_digit(*byte) {
-            return None;
-        }
-        number = number * 10 + u128::from(*byte - b'0');
-        if number > u128::from(most) {
-            return None;
-        }
+    match node {
+        Node::Int(n) if low <= *n && *n <= high => Some(*n),
+        _ => None,
     }
-    Some(number as u64)
-}
-
-#[tactic(auto, unfolding(rules_replay::specs::Reading::digits_here))]
-fn digits_here(bytes: &[u8], most: u64) -> Option<(u64, &[u8])>
-    ensures value { option_map (λ x. (x.0, x.1.now)) result ≡ digits_here most bytes.now }
-    ensures within { IfSome result (λ x. x.0 ≤ most) }
-{
-    let (found, rest) = word_here(bytes)?;
-    let number = digits_in(found, most)?;
-    Some((number, rest))
 }
 
 // A number from 0 to so much.
-#[tactic(auto, unfolding(rules_replay::specs::Reading::number_at))]
-pub(crate) fn number(bytes: &[u8], most: u64) -> Option<(u64, &[u8])>
-    ensures value { option_map (λ x. (x.0, x.1.now)) result ≡ number_at most bytes.now }
-    ensures within { IfSome result (λ x. x.0 ≤ most) }
+pub(crate) fn number(node: &Node, most: u64) -> Option<u64>
+    ensures value { result ≡ number_of most (tree node.now) }
+    ensures within { IfSome result (λ n. n ≤ most) }
 {
-    let text = skip(bytes);
-    match text.split_first() {
-        Some((first, rest)) if *first == b'-' => digits_here(rest, 0),
-        _ => digits_here(text, most),
-    }
+    let n = within(node, 0, i128::from(most))?;
+    Some(n as u64)
 }
 
 // A moment, in seconds.
-#[tactic(auto, unfolding(rules_replay::specs::Reading::moment_at))]
-pub(crate) fn moment(bytes: &[u8]) -> Option<(i64, &[u8])>
-    ensures { option_map (λ x. (x.0, x.1.now)) result ≡ moment_at bytes.now }
+pub(crate) fn moment(node: &Node) -> Option<i64>
+    ensures { result ≡ moment_of (tree node.now) }
 {
-    let text = skip(bytes);
-    match text.split_first() {
-        Some((first, rest)) if *first == b'-' => {
-            let (seconds, rest) = digits_here(rest, 1 << 63)?;
-            Some(((-i128::from(seconds)) as i64, rest))
-        }
-        _ => {
-            let (seconds, rest) = digits_here(text, (1 << 63) - 1)?;
-            Some((seconds as i64, rest))
-        }
+    let n = within(node, i128::from(i64::MIN), i128::from(i64::MAX))?;
+    Some(n as i64)
+}
+
+// A number that isn't negative.
+pub(crate) fn gas(node: &Node) -> Option<i128>
+    ensures { result ≡ gas_of (tree node.now) }
+{
+    match node {
+        Node::Int(n) if 0 <= *n => Some(*n),
+        _ => None,
     }
 }
 
-// So many bytes in hexadecimal digits.
-#[tactic(auto, unfolding(rules_replay::specs::Reading::bytes_at))]
-pub(crate) fn fixed<const N: usize>(bytes: &[u8]) -> Option<([u8; N], &[u8])>
-    ensures { option_map (λ x. (x.0, x.1.now)) result ≡ bytes_at N bytes.now }
+pub(crate) fn chain_id(node: &Node) -> Option<ChainId>
+    ensures { option_map (λ id. id) result ≡ bytes_of is_chain_id (tree node.now) }
 {
-    let (found, rest) = word(bytes)?;
-    if found.len() < 2 {
-        return None;
-    }
-    let (front, digits) = found.split_at(2);
-    if front != b"0x".as_slice() {
-        return None;
-    }
-    let mut value = [0u8; N];
-    match hex::decode_to_slice(digits, &mut value) {
-        Ok(()) => Some((value, rest)),
-        Err(_) => None,
+    match node {
+        Node::Bytes(bytes) => ChainId::read(bytes.as_slice()),
+        _ => None,
     }
 }
 
-// A key hash.
-#[tactic(auto, unfolding(rules_replay::specs::Reading::key_hash_at))]
-pub(crate) fn key_hash(bytes: &[u8]) -> Option<(KeyHash, &[u8])>
-    ensures { option_map (λ x. (x.0, x.1.now)) result ≡ key_hash_at bytes.now }
+pub(crate) fn key_hash(node: &Node) -> Option<KeyHash>
+    ensures { option_map (λ who. who) result ≡ bytes_of is_key_hash (tree node.now) }
 {
-    let (spelled, rest) = fixed::<21>(bytes)?;
-    let found = KeyHash::read(&spelled)?;
-    Some((found, rest))
+    match node {
+        Node::Bytes(bytes) => KeyHash::read(bytes.as_slice()),
+        _ => None,
+    }
 }
 
-// The key hash of an implicit address.
-#[tactic(auto, unfolding(rules_replay::specs::Reading::implicit_at))]
-pub(crate) fn implicit(bytes: &[u8]) -> Option<(KeyHash, &[u8])>
-    ensures { option_map (λ x. (x.0, x.1.now)) result ≡ implicit_at bytes.now }
+pub(crate) fn place(node: &Node) -> Option<Place>
+    ensures { option_map place_bytes result ≡ bytes_of is_place (tree node.now) }
 {
-    let (spelled, rest) = fixed::<22>(bytes)?;
-    if spelled[0] != 0 {
-        return None;
+    match node {
+        Node::Bytes(bytes) => Place::read(bytes.as_slice()),
+        _ => None,
     }
-    let found = KeyHash::read(spelled.split_at(1).1)?;
-    Some((found, rest))
+}
+
+pub(crate) fn entrypoint(node: &Node) -> Option<Entrypoint>
+    ensures { option_map (λ name. name) result ≡ entrypoint_of (tree node.now) }
+{
+    match node {
+        Node::Str(name) => Entrypoint::read(name.as_slice()),
+        _ => None,
+    }
 }

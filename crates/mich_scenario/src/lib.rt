@@ -1,15 +1,14 @@
-//! The statements of a file of the plain form: a chain, accounts, and groups of one transfer between implicit accounts.
+//! The forms of the statements of a file: what a node says as a statement.
 #![tactic(auto)]
 
+mod error;
 mod fields;
-mod laws;
-mod scan;
+mod forms;
 mod statement;
-mod statements;
 
-pub use laws::statements_are_those_of_the_grammar;
-pub use statement::{Call, Statement};
-pub use statements::read_plain;
+pub use error::FormError;
+pub use forms::read_form;
+pub use statement::{Action, Content, Group, Statement};
 
 #[cfg(test)]
 mod tests;

@@ -1,23 +1,41 @@
-//! Statements with their fields.
-use mich_forms::{ChainId, KeyHash};
+// Statements with their fields.
+use mich_base::Node;
+use mich_forms::{ChainId, Entrypoint, KeyHash, Place};
 
-/// A transfer that `source` orders: its fee and amount in mutez, the gas that it may use, and where it goes.
-#[derive(Clone, Copy, Debug)]
-pub struct Call {
-    pub source: KeyHash,
-    pub fee: u64,
-    pub gas: u64,
-    pub amount: u64,
-    pub destination: KeyHash,
+/// What a source orders in a group.
+#[derive(Debug, Drop)]
+pub enum Action {
+    /// Moves so much mutez to a place, and calls an entrypoint there with an argument.
+    Call {
+        amount: u64,
+        to: Place,
+        entrypoint: Entrypoint,
+        argument: Node,
+    },
 }
 
-/// A statement of the plain form.
-#[derive(Clone, Copy, Debug)]
+/// An action, its fee in mutez, and the gas that it may use, which isn't negative.
+#[derive(Debug, Drop)]
+pub struct Content {
+    pub fee: u64,
+    pub gas: i128,
+    pub action: Action,
+}
+
+/// A group of one operation.
+#[derive(Debug, Drop)]
+pub struct Group {
+    pub source: KeyHash,
+    pub content: Content,
+}
+
+/// A statement of a file.
+#[derive(Debug, Drop)]
 pub enum Statement {
     /// The chain's identity, its level, and its moment in seconds.
     Chain(ChainId, u32, i64),
     /// A new account with so much mutez.
     Account(KeyHash, u64),
-    /// A group of one transfer.
-    Group(Call),
+    /// A group of operations.
+    Group(Group),
 }

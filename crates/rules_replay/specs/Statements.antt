@@ -1,5 +1,5 @@
 -- The statements of a file, with the values of their fields, and the nodes that are statements.
-use Rattle.std.specs.Prelude.{ℕ, ◌-◌, ◌^◌, ◌==◌, ◌&&◌, ◌||◌, nat_le, Bool, if◌then◌else◌, ℤ, pos, negsuc, List, [], ◌∷◌, length, slice_index, codes, Some, None}
+use Rattle.std.specs.Prelude.{ℕ, ◌-◌, ◌^◌, ◌==◌, ◌&&◌, ◌||◌, nat_le, Bool, if◌then◌else◌, ℤ, pos, neg_ℤ, int_le, unsigned_abs, List, [], ◌∷◌, length, slice_index, codes, Some, None}
 use Rattle.std.specs.declared.option.Option.{Option}
 use Rattle.std.specs.List.{list_all}
 use Rattle.std.specs.Option.{option_map}
@@ -22,7 +22,7 @@ pub data Action : Type 0 where
 -- an action, its fee in mutez, and the gas that it may use
 pub record Content : Type 0 where
   pub fee : ℕ
-  pub gas : ℕ
+  pub gas : ℤ
   pub action : Action
 
 -- `Chain id level moment` says where and when the groups run, `Account key_hash mutez` grants mutez to a new account,
@@ -42,27 +42,28 @@ None >>= f = None
 abbrev pub only_if : {A : Type 0} → Bool → A → Option A
 only_if test x = if test then Some x else None
 
--- a number that isn't negative
-abbrev pub natural_of : Tree → Option ℕ
-natural_of (int (pos n)) = Some n
-natural_of (int (negsuc n)) = None
-natural_of (str s) = None
-natural_of (bytes b) = None
-natural_of (prim name annotations arguments) = None
-natural_of (seq elements) = None
+abbrev pub integer_of : Tree → Option ℤ
+integer_of (int n) = Some n
+integer_of (str s) = None
+integer_of (bytes b) = None
+integer_of (prim name annotations arguments) = None
+integer_of (seq elements) = None
+
+-- a number from one to another
+abbrev pub within : ℤ → ℤ → Tree → Option ℤ
+within low high t = integer_of t >>= λ n. only_if (int_le low n && int_le n high) n
 
 -- a number from 0 to so much
 abbrev pub number_of : ℕ → Tree → Option ℕ
-number_of most t = natural_of t >>= λ n. only_if (nat_le n most) n
+number_of most t = option_map unsigned_abs (within (pos 0) (pos most) t)
 
--- a moment in seconds, from -2^63 to 2^63 - 1; `negsuc n` is -1 - n
+-- a moment in seconds
 abbrev pub moment_of : Tree → Option ℤ
-moment_of (int (pos n)) = only_if (nat_le n (2 ^ 63 - 1)) (pos n)
-moment_of (int (negsuc n)) = only_if (nat_le n (2 ^ 63 - 1)) (negsuc n)
-moment_of (str s) = None
-moment_of (bytes b) = None
-moment_of (prim name annotations arguments) = None
-moment_of (seq elements) = None
+moment_of t = within (neg_ℤ (pos (2 ^ 63))) (pos (2 ^ 63 - 1)) t
+
+-- a number that isn't negative
+abbrev pub gas_of : Tree → Option ℤ
+gas_of t = integer_of t >>= λ n. only_if (int_le (pos 0) n) n
 
 -- bytes that pass a test
 abbrev pub bytes_of : (List ℕ → Bool) → Tree → Option (List ℕ)
@@ -110,12 +111,17 @@ abbrev pub account_of : List Tree → Option Statement
 account_of (who ∷ mutez ∷ []) = bytes_of is_key_hash who >>= λ who. number_of most_mutez mutez >>= λ mutez. Some (Account who mutez)
 account_of _ = None
 
+-- amount destination "entrypoint" argument
+abbrev pub transfer_of : Tree → Tree → Tree → Tree → Option Action
+transfer_of amount destination entrypoint argument =
+    number_of most_mutez amount >>= λ amount. bytes_of is_place destination >>= λ destination. entrypoint_of entrypoint >>= λ entrypoint.
+    Some (Call amount destination entrypoint argument)
+
 -- fee gas amount destination "entrypoint" argument
 abbrev pub call_of : List Tree → Option Content
 call_of (fee ∷ gas ∷ amount ∷ destination ∷ entrypoint ∷ argument ∷ []) =
-    number_of most_mutez fee >>= λ fee. natural_of gas >>= λ gas. number_of most_mutez amount >>= λ amount.
-    bytes_of is_place destination >>= λ destination. entrypoint_of entrypoint >>= λ entrypoint.
-    Some (record { fee = fee; gas = gas; action = Call amount destination entrypoint argument })
+    number_of most_mutez fee >>= λ fee. gas_of gas >>= λ gas. transfer_of amount destination entrypoint argument >>= λ action.
+    Some (record { fee = fee; gas = gas; action = action })
 call_of _ = None
 
 -- an application of a name without annotations: what the arguments make

@@ -1,5 +1,5 @@
 -- A world of implicit accounts, and what statements make of it (Octez "operations", accounts).
-use Rattle.std.specs.Prelude.{ℕ, ◌+◌, ◌-◌, ◌^◌, ◌==◌, ◌&&◌, nat_lt, nat_le, Bool, true, false, not, ℤ, if◌then◌else◌, List, [], ◌∷◌, drop, slice_index, sum, None, Some, is_some, unwrap_or, codes}
+use Rattle.std.specs.Prelude.{ℕ, ◌+◌, ◌-◌, ◌^◌, ◌==◌, ◌&&◌, nat_lt, nat_le, Bool, true, false, not, ℤ, pos, int_lt, if◌then◌else◌, List, [], ◌∷◌, drop, slice_index, sum, None, Some, is_some, unwrap_or, codes}
 use Rattle.std.specs.declared.option.Option.{Option}
 use Rattle.std.specs.Ordering.{nat_cmp}
 use Rattle.std.specs.Cmp.Lexicographic.{slice_cmp}
@@ -86,9 +86,9 @@ account_failure balance amount entrypoint argument =
     else None
 
 -- why an action with so much gas fails, of a source with this balance; a place that begins with 0 is an account's
-abbrev pub failure_of : ℕ → ℕ → Action → Option Failure
+abbrev pub failure_of : ℕ → ℤ → Action → Option Failure
 failure_of balance gas (Call amount destination entrypoint argument) =
-    if nat_lt gas transfer_gas then Some OutOfGas
+    if int_lt gas (pos transfer_gas) then Some OutOfGas
     else if slice_index destination 0 == 0 then account_failure balance amount entrypoint argument
     else Some NoContract
 
@@ -98,7 +98,7 @@ failure_of balance gas (Call amount destination entrypoint argument) =
 abbrev pub refusal_of : World → List ℕ → Content → Option GroupFault
 refusal_of w source c =
     if not (is_some (balance_of w source)) then Some UnknownSource
-    else if nat_lt most_gas c.gas then Some GasTooHigh
+    else if int_lt (pos most_gas) c.gas then Some GasTooHigh
     else if nat_lt (balance_in w.accounts source) c.fee then Some FeeTooHigh
     else None
 
