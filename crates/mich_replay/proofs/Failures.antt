@@ -1,5 +1,6 @@
 -- A group that is refused, and one that fails.
-use Rattle.std.proofs.Common.{◌≡◌, ◌≢◌, ◌≤◌, ℕ, ◌==◌, ◌||◌, nat_lt, List, [], ◌∷◌, Bool, true, false, cond, Some, refl, ap, ◌∙◌, arith}
+use Rattle.std.proofs.Common.{◌≡◌, ◌≢◌, ◌≤◌, ℕ, List, [], ◌∷◌, Bool, false, cond, Some, None, refl, ap, ◌∙◌, arith}
+use Rattle.std.specs.declared.option.Option.{Option}
 use Rattle.std.specs.Ordering.{nat_cmp, is_eq}
 use Rattle.std.specs.Cmp.Lexicographic.{slice_cmp}
 use Rattle.std.specs.BTreeMap.{is_at}
@@ -8,14 +9,14 @@ use Rattle.std.specs.Str.{bytes_eq}
 use Rattle.std.proofs.lemmas.Cmp.{nat_list_cmp_total}
 use Rattle.std.proofs.lemmas.Map.Text.{is_eq-slice_cmp}
 use Rattle.std.proofs.lemmas.Slice.Eq.{bytes_eq-Decides}
-use borrow.Author.Tests.{ltb-false}
-use Rattle.rules_replay.specs.Statements.{Call}
-use Rattle.rules_replay.specs.Receipts.{Receipt, GroupFault, FeeTooHigh, Failure, EmptyTransaction, BalanceTooLow, Refused, Done, Transfer, Applied, Failed}
-use Rattle.rules_replay.specs.World.{World, balance_in, with_balance, left_after_fee, fee_taken, transferred}
+use Rattle.rules_replay.specs.Statements.{Action, Call, Content}
+use Rattle.rules_replay.specs.Receipts.{Receipt, GroupFault, Failure, Refused, Done, Applied, Failed}
+use Rattle.rules_replay.specs.World.{World, balance_in, with_balance, left_after_fee, fee_taken, refusal_of, failure_of, admitted, tried, transfer_receipt, receipt_by, world_by}
 use Rattle.mich_replay.specs.Laws.{FeeAlone, RefusalChangesNothing, FailureTakesFeeAlone}
 use Rattle.mich_replay.proofs.Truth.{false_of}
 use Rattle.mich_replay.proofs.Entries.{lookup-insert_entry}
 use Rattle.mich_replay.proofs.Conserved.{balance_in-with_balance}
+use Rattle.mich_replay.proofs.Verdicts.{admitted-fee}
 
 -- the balance of another account stays
 balance_of-other : (accounts : List (List ℕ × ℕ)) (who other : List ℕ) (n : ℕ) → other ≢ who
@@ -25,42 +26,38 @@ balance_of-other accounts who other n apart =
     lookup-insert_entry (slice_cmp nat_cmp) nat_list_cmp_total other accounts who n
     ∙ ap (λ (b : Bool). cond b (Some n) (lookup (is_at (slice_cmp nat_cmp other)) accounts)) differ
 
-fee_taken-alone : (w : World) (c : Call) → c.fee ≤ balance_in w.accounts c.source → FeeAlone c w (fee_taken w c)
-fee_taken-alone w c enough = record {
-  source = omega (arith, balance_in-with_balance w.accounts c.source (left_after_fee w c));
-  others = λ who apart. balance_of-other w.accounts c.source who (left_after_fee w c) apart;
+fee_taken-alone : (w : World) (source : List ℕ) (c : Content) → c.fee ≤ balance_in w.accounts source → FeeAlone source c.fee w (fee_taken w source c)
+fee_taken-alone w source c enough = record {
+  payer = omega (arith, balance_in-with_balance w.accounts source (left_after_fee w source c));
+  others = λ who apart. balance_of-other w.accounts source who (left_after_fee w source c) apart;
   fees = refl;
   rest = refl;
 }
 
--- the receipt and the world, by the outcomes of the three tests
-receipt_by : Call → Bool → Bool → Bool → Receipt
-receipt_by c a b d = cond a (Refused FeeTooHigh) (cond b (Done (Failed 0 EmptyTransaction ∷ [])) (cond d (Done (Failed 0 BalanceTooLow ∷ [])) (Done (Applied 1 (Transfer c.source c.destination c.amount ∷ []) ∷ []))))
+not_refused : (source : List ℕ) (a : Action) (fault : GroupFault) → transfer_receipt source a ≡ Refused fault → ⊥
+not_refused source (Call amount destination entrypoint argument) fault e = cc
 
-world_by : World → Call → Bool → Bool → Bool → World
-world_by w c a b d = cond a w (cond (b || d) (fee_taken w c) (transferred w c))
-
-refused_by : (w : World) (c : Call) (a b d : Bool) (fault : GroupFault) → receipt_by c a b d ≡ Refused fault → world_by w c a b d ≡ w
-unfolding receipt_by world_by
-refused_by w c true b d fault e = refl
-refused_by w c false true d fault e = cc
-refused_by w c false false true fault e = cc
-refused_by w c false false false fault e = cc
-
-failed_by : (w : World) (c : Call) (a b d : Bool) (count : ℕ) (failure : Failure) → nat_lt (balance_in w.accounts c.source) c.fee ≡ a
-    → receipt_by c a b d ≡ Done (Failed count failure ∷ []) → FeeAlone c w (world_by w c a b d)
-unfolding receipt_by world_by
-failed_by w c true b d count failure t e = cc
-failed_by w c false true d count failure t e = fee_taken-alone w c (ltb-false (balance_in w.accounts c.source) c.fee t)
-failed_by w c false false true count failure t e = fee_taken-alone w c (ltb-false (balance_in w.accounts c.source) c.fee t)
-failed_by w c false false false count failure t e = cc
+not_failed : (source : List ℕ) (a : Action) (count : ℕ) (failure : Failure) → transfer_receipt source a ≡ Done (Failed count failure ∷ []) → ⊥
+not_failed source (Call amount destination entrypoint argument) count failure e = cc
 
 pub refusal_changes_nothing : RefusalChangesNothing
-unfolding receipt_by world_by
-refusal_changes_nothing w c fault e =
-    refused_by w c (nat_lt (balance_in w.accounts c.source) c.fee) (c.amount == 0) (nat_lt (left_after_fee w c) c.amount) fault e
+refusal_changes_nothing w source c fault e = by (refusal_of w source c) e
+  where
+    tried-refused : (o : Option Failure) → receipt_by source c (tried o) ≡ Refused fault → world_by w source c (tried o) ≡ w
+    tried-refused (Some f) h = absurd cc
+    tried-refused None h = absurd (not_refused source c.action fault h)
+
+    by : (o : Option GroupFault) → receipt_by source c (admitted w source c o) ≡ Refused fault → world_by w source c (admitted w source c o) ≡ w
+    by (Some f) h = refl
+    by None h = tried-refused (failure_of (left_after_fee w source c) c.gas c.action) h
 
 pub failure_takes_fee_alone : FailureTakesFeeAlone
-unfolding receipt_by world_by
-failure_takes_fee_alone w c count failure e =
-    failed_by w c (nat_lt (balance_in w.accounts c.source) c.fee) (c.amount == 0) (nat_lt (left_after_fee w c) c.amount) count failure refl e
+failure_takes_fee_alone w source c count failure e = by (refusal_of w source c) refl e
+  where
+    tried-failed : c.fee ≤ balance_in w.accounts source → (o : Option Failure) → receipt_by source c (tried o) ≡ Done (Failed count failure ∷ []) → FeeAlone source c.fee w (world_by w source c (tried o))
+    tried-failed enough (Some f) h = fee_taken-alone w source c enough
+    tried-failed enough None h = absurd (not_failed source c.action count failure h)
+
+    by : (o : Option GroupFault) → refusal_of w source c ≡ o → receipt_by source c (admitted w source c o) ≡ Done (Failed count failure ∷ []) → FeeAlone source c.fee w (world_by w source c (admitted w source c o))
+    by (Some f) p h = absurd cc
+    by None p h = tried-failed (admitted-fee w source c p) (failure_of (left_after_fee w source c) c.gas c.action) h

@@ -1,10 +1,13 @@
 pub mod Conserved
 pub mod Entries
 pub mod Failures
-pub mod Grants
-pub mod Listed
+pub mod Listing
+pub mod Once
 pub mod Promise
+pub mod Reaching
+pub mod Shorter
 pub mod Sums
-pub mod Written
 pub mod Texts
 pub mod Truth
+pub mod Verdicts
+pub mod Written

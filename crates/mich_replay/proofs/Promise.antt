@@ -1,49 +1,53 @@
 -- What is promised, where the whole text was written.
-use Rattle.std.proofs.Common.{◌≡◌, ◌≤◌, ℕ, List, [], None, Some, IfSome, IsSome, inl, inr, refl, sym, ap, subst, append-nil, arith}
+use Rattle.std.proofs.Common.{◌≡◌, ◌≤◌, ℕ, List, [], Some, IsSome, inl, inr, refl, sym, ap, subst, append-nil, arith}
 use Rattle.std.specs.declared.option.Option.{Option}
 use Rattle.std.specs.Io.KnownBytes.{Appends, IsAtEnd}
 use Rattle.rules_io.specs.Known.{AppendsFront}
 use Rattle.rules_replay.specs.Lines.{text_of}
-use Rattle.rules_replay.specs.Commands.{Answer, Command, ReplayFile, NoCommand, IsOwn, outcome, command_of, file_of}
+use Rattle.rules_replay.specs.Answers.{Answer}
+use Rattle.rules_replay.specs.Commands.{Command, OnFile, NoCommand, IsOwn, IsTold, IsAnswer, command_of, file_of}
 use Rattle.rules_replay.specs.Promise.{Meets}
+use Rattle.mich_replay.proofs.Once.{answers-one}
 
 own_known : (command : Command) (status : ℕ) → IsOwn command status → status ≤ 2
-own_known (ReplayFile path) status (inl e) = omega arith
-own_known (ReplayFile path) status (inr e) = omega arith
-own_known NoCommand status e = omega arith
+own_known (OnFile verb path) status (inl e) = omega (arith, e)
+own_known (OnFile verb path) status (inr e) = omega (arith, e)
+own_known NoCommand status e = omega (arith, e)
 
 own_usage : (command : Command) (status : ℕ) → IsOwn command status → status ≡ 1 → command ≡ NoCommand
-own_usage (ReplayFile path) status (inl e) h = absurd (omega arith)
-own_usage (ReplayFile path) status (inr e) h = absurd (omega arith)
+own_usage (OnFile verb path) status (inl e) h = absurd (omega (arith, e, h))
+own_usage (OnFile verb path) status (inr e) h = absurd (omega (arith, e, h))
 own_usage NoCommand status e h = refl
 
 own_refused : (command : Command) (status : ℕ) → IsOwn command status → status ≡ 2 → IsSome (file_of command)
-own_refused (ReplayFile path) status own h = refl
-own_refused NoCommand status e h = absurd (omega arith)
+own_refused (OnFile verb path) status own h = refl
+own_refused NoCommand status e h = absurd (omega (arith, e, h))
 
-whole_of : (found : Option Answer) (answer : Answer) (a b : Option (List ℕ)) → IfSome found (λ o. answer ≡ o) → Appends a b (text_of answer.lines)
-    → IfSome found (λ o. (answer.status ≡ o.status) × Appends a b (text_of o.lines))
-whole_of None answer a b e p = tt
-whole_of (Some o) answer a b e p = (ap (λ (x : Answer). x.status) e, subst (λ (x : Answer). Appends a b (text_of x.lines)) e p)
+-- what has an answer is told
+told : (command : Command) (content : List ℕ → Option (List ℕ)) (answer : Answer) → IsAnswer command content answer → IsTold command content
+told (OnFile verb path) content answer h = subst IsSome (sym h.1) refl
+told NoCommand content answer h = tt
 
-front_of : (found : Option Answer) (answer : Answer) (a b : Option (List ℕ)) → IfSome found (λ o. answer ≡ o) → AppendsFront a b (text_of answer.lines)
-    → IfSome found (λ o. AppendsFront a b (text_of o.lines))
-front_of None answer a b e p = tt
-front_of (Some o) answer a b e p = subst (λ (x : Answer). AppendsFront a b (text_of x.lines)) e p
+module _ (words : List (List ℕ)) (content : List ℕ → Option (List ℕ)) (a b : Option (List ℕ)) (answer : Answer)
+    (exact : IsTold (command_of words) content → IsAnswer (command_of words) content answer) where
+  -- each answer is this one
+  pub front : (other : Answer) → IsAnswer (command_of words) content other → AppendsFront a b (text_of answer.lines) → AppendsFront a b (text_of other.lines)
+  front other h p =
+      let same : answer ≡ other = answers-one (command_of words) content answer other (exact (told (command_of words) content other h)) h in
+      subst (λ (x : Answer). AppendsFront a b (text_of x.lines)) same p
 
-pub meets : (words : List (List ℕ)) (content : List ℕ → Option (List ℕ)) (r0 r1 w0 w1 : ℕ) (left a b : Option (List ℕ)) (answer : Answer)
-    → IfSome (outcome words content) (λ o. answer ≡ o) → IsOwn (command_of words) answer.status → (answer.status ≡ 0 → IsAtEnd left) → Appends a b (text_of answer.lines)
-    → Meets words content r0 r1 w0 w1 left a b answer.status
-meets words content r0 r1 w0 w1 left a b answer exact own end p =
-    let small = own_known (command_of words) answer.status own in
-    record {
-      known = omega (arith, small);
-      whole = λ _. whole_of (outcome words content) answer a b exact p;
-      front = front_of (outcome words content) answer a b exact (text_of answer.lines, [], sym (append-nil (text_of answer.lines)), p);
-      usage = own_usage (command_of words) answer.status own;
-      refused = own_refused (command_of words) answer.status own;
-      read_fault = λ e. absurd (omega (arith, small, e));
-      write_fault = λ e. absurd (omega (arith, small, e));
-      complete = λ _ _. inl small;
-      end = end;
-    }
+  pub meets : (r0 r1 w0 w1 : ℕ) (left : Option (List ℕ)) → IsOwn (command_of words) answer.status → (answer.status ≡ 0 → IsAtEnd left) → Appends a b (text_of answer.lines)
+      → Meets words content r0 r1 w0 w1 left a b answer.status
+  meets r0 r1 w0 w1 left own end p =
+      let small = own_known (command_of words) answer.status own in
+      record {
+        known = omega (arith, small);
+        whole = λ t _. (answer, exact t, refl, p);
+        front = λ other h. front other h (text_of answer.lines, [], sym (append-nil (text_of answer.lines)), p);
+        usage = own_usage (command_of words) answer.status own;
+        refused = own_refused (command_of words) answer.status own;
+        read_fault = λ e. absurd (omega (arith, small, e));
+        write_fault = λ e. absurd (omega (arith, small, e));
+        complete = λ _ _. inl small;
+        end = end;
+      }

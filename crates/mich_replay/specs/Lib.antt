@@ -2,7 +2,12 @@ pub use Rattle.rules_replay.specs.Statements
 pub use Rattle.rules_replay.specs.World
 pub use Rattle.rules_replay.specs.Replay
 pub use Rattle.rules_replay.specs.Lines
+pub use Rattle.rules_replay.specs.Answers
+pub use Rattle.rules_replay.specs.Codec
+pub use Rattle.rules_replay.specs.Places
 pub use Rattle.rules_replay.specs.Commands
 pub use Rattle.rules_replay.specs.Promise
 pub mod Laws
+pub mod Listed
+pub mod Steps
 pub mod View

@@ -1,16 +1,24 @@
 // What the words ask for.
 ghost use Rattle.std.specs.Prelude.{◌≡◌, Some, None, option_map, if◌then◌else◌};
 ghost use Rattle.std.specs.Str.{is_utf8};
-ghost use Rattle.rules_replay.specs.Commands.{command_of};
-ghost use Rattle.mich_replay.specs.View.{command_seen};
+ghost use Rattle.rules_replay.specs.Commands.{is_path, verb_of, command_of};
+ghost use Rattle.mich_replay.specs.View.{verb_seen, command_seen};
 
 use mich_base::Text;
 use std::str;
 
-/// A command that takes a file, or none.
+/// A command that takes a file.
+#[derive(Clone, Copy)]
+pub enum Verb {
+    Replay,
+    Encode,
+    Decode,
+}
+
+/// A command with its file, or none.
 #[derive(Clone, Copy)]
 pub enum Command<'a> {
-    ReplayFile(&'a str),
+    OnFile(Verb, &'a str),
     NoCommand,
 }
 
@@ -24,6 +32,30 @@ fn as_text(bytes: &[u8]) -> Option<&str>
     }
 }
 
+fn verb_of(word: &[u8]) -> Option<Verb>
+    ensures { option_map verb_seen result ≡ verb_of word.now }
+{
+    if word == b"replay".as_slice() {
+        Some(Verb::Replay)
+    } else if word == b"encode".as_slice() {
+        Some(Verb::Encode)
+    } else if word == b"decode".as_slice() {
+        Some(Verb::Decode)
+    } else {
+        None
+    }
+}
+
+// The word as a path.
+fn path_of(word: &[u8]) -> Option<&str>
+    ensures { option_map (λ s. s.now) result ≡ (if is_path word.now then Some word.now else None) }
+{
+    match as_text(word) {
+        Some(path) if !path.starts_with('-') => Some(path),
+        _ => None,
+    }
+}
+
 /// The command that the words are.
 pub(crate) fn read_words(words: &[Text]) -> Command<'_>
     ensures { command_seen result ≡ command_of words.now }
@@ -31,10 +63,8 @@ pub(crate) fn read_words(words: &[Text]) -> Command<'_>
     let [verb, path] = words else {
         return Command::NoCommand;
     };
-    match as_text(path.as_slice()) {
-        Some(path) if verb.as_slice() == b"replay".as_slice() && !path.starts_with('-') => {
-            Command::ReplayFile(path)
-        }
+    match (verb_of(verb.as_slice()), path_of(path.as_slice())) {
+        (Some(verb), Some(path)) => Command::OnFile(verb, path),
         _ => Command::NoCommand,
     }
 }

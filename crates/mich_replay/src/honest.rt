@@ -1,8 +1,8 @@
 // The replay of a file and a sink that never fail.
 ghost use Rattle.std.specs.Prelude.{◌≡◌, ◌⊎◌, ◌≤◌, ◌<◌, ℕ, List, [], ◌∷◌, IfOk, Some, codes};
 ghost use Rattle.rules_replay.specs.Lines.{text_of};
-ghost use Rattle.rules_replay.specs.Replay.{replay};
-ghost use Rattle.rules_replay.specs.Commands.{replay_answer};
+ghost use Rattle.rules_replay.specs.Answers.{Answer};
+ghost use Rattle.rules_replay.specs.Commands.{Replaying, IsVerbAnswer};
 
 use crate::mich;
 use mich_base::{Bytes, Memory, Text, Texts};
@@ -23,8 +23,7 @@ fn words(alloc: Global) -> Result<Texts, Memory>
 /// whole text is written, or it is 5, where memory ran out.
 #[tactic(auto, using(crate::proofs::Truth::file_is_text))]
 pub fn replay_bytes(alloc: Global, content: Bytes) -> Result<(u8, HonestSink), Memory>
-    ensures { IfOk result (λ done. (done.0 ≡ 5) ⊎ ((done.0 ≡ (replay_answer (replay content)).status)
-        × (done.1 ≡ text_of (replay_answer (replay content)).lines))) }
+    ensures { IfOk result (λ done. (done.0 ≡ 5) ⊎ ((answer : Answer) × IsVerbAnswer Replaying content answer × (done.0 ≡ answer.status) × (done.1 ≡ text_of answer.lines))) }
 {
     let words = words(alloc)?;
     let mut files = HonestFiles::new(Text::from_slice(alloc, b"file")?, content);

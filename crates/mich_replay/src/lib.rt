@@ -1,15 +1,18 @@
-//! The command `replay`: from the words and the file to the lines that are written.
+//! The commands: from the words and the file to the lines that are written.
 #![tactic(auto)]
 
 mod answer;
+mod codec;
 mod command;
-mod groups;
+mod failing;
 mod honest;
 mod laws;
 mod lines;
-mod opening;
 mod outcome;
 mod reading;
+mod replaying;
+mod statements;
+mod steps;
 mod top;
 mod world;
 

@@ -2,14 +2,22 @@
 ghost use Rattle.std.specs.Prelude.{◌≡◌, ◌<◌, ◌≤◌, ◌+◌, ◌^◌, ℕ, IfOk, string_bytes, map, ◌++◌, ◌∷◌, [], codes};
 ghost use Rattle.std.specs.Fmt.{decimal};
 ghost use Rattle.hex.specs.Hex.{encode_lower};
-ghost use Rattle.rules_replay.specs.Replay.{BadStatement};
-ghost use Rattle.rules_replay.specs.Lines.{transfer_text, group_line, account_line, fees_line, supply_line, refusal_line, usage_line};
-ghost use Rattle.mich_scenario.specs.View.{call_said};
-ghost use Rattle.mich_replay.specs.View.{receipt_seen};
+ghost use Rattle.rules_replay.specs.Receipts as receipts;
+ghost use Rattle.rules_replay.specs.World.{receipt_by};
+ghost use Rattle.rules_replay.specs.Lines.{transfer_text, failure_text, group_fault_name, text_kind_name, file_fault_name, group_line, account_line, fees_line, supply_line, refusal_line, usage_line};
+ghost use Rattle.rules_replay.specs.Codec.{decode_kind_name, bytes_line, node_line};
+ghost use Rattle.mich_base.specs.View.{tree};
+ghost use Rattle.mich_scenario.specs.View.{content_said};
+ghost use Rattle.mich_forms.specs.Spelled.{place_bytes};
+ghost use Rattle.mich_replay.specs.View.{group_fault_seen, failure_seen, verdict_seen, file_fault_seen};
 
-use crate::outcome::Outcome;
-use mich_forms::KeyHash;
-use mich_scenario::Call;
+use crate::outcome::{Failure, FileFault, GroupFault, Verdict};
+use mich_base::{Memory, Node, Text};
+use mich_forms::{KeyHash, Place};
+use mich_scenario::{Action, Group};
+use mich_text::print;
+use rules_binary::DecodeKind;
+use rules_text::TextKind;
 use std::alloc::{AllocError, Global};
 
 // The bytes of a key hash in hexadecimal digits.
@@ -20,11 +28,19 @@ fn digits(alloc: Global, who: &KeyHash) -> Result<String, AllocError>
     hex::encode(alloc, bytes.as_slice())
 }
 
-// The effect of a transfer between accounts whose key hashes are written so.
+// The bytes of a place in hexadecimal digits.
+fn place_digits(alloc: Global, place: &Place) -> Result<String, AllocError>
+    ensures { IfOk result (λ s. string_bytes s ≡ encode_lower (place_bytes place.now)) }
+{
+    let bytes = place.bytes();
+    hex::encode(alloc, bytes.as_slice())
+}
+
+// The effect of a transfer between places that are written so.
 fn transfer_text(alloc: Global, from: &str, to: &str, amount: u64) -> Result<String, AllocError>
     ensures { IfOk result (λ s. string_bytes s ≡ transfer_text from.now to.now amount) }
 {
-    format!(in alloc; "Transfer 0x00{from} 0x00{to} {amount} Unit {{}}")
+    format!(in alloc; "Transfer 0x{from} 0x{to} {amount} Unit {{}}")
 }
 
 // The line of a group whose operation was applied, with the gas that it used and its effect.
@@ -41,13 +57,49 @@ fn failed_line(alloc: Global, number: u64, count: u32, failure: &str) -> Result<
     format!(in alloc; "Group {number} {{ Failed {count} {failure} }}\n")
 }
 
-// The line of a group whose transfer was applied, which uses 1 unit of gas.
-fn transfer_line(alloc: Global, number: u64, call: &Call) -> Result<String, AllocError>
-    ensures { IfOk result (λ s. string_bytes s ≡ group_line number (receipt_seen (call_said call.now) Outcome.Applied)) }
+// The line of a group that is refused.
+fn refused_line(alloc: Global, number: u64, fault: &str) -> Result<String, AllocError>
+    ensures { IfOk result (λ s. string_bytes s ≡ codes "Group " ++ (decimal number ++ (codes " (Refused " ++ (fault.now ++ codes ")\n")))) }
 {
-    let from = digits(alloc, &call.source)?;
-    let to = digits(alloc, &call.destination)?;
-    let effect = transfer_text(alloc, from.as_str(), to.as_str(), call.amount)?;
+    format!(in alloc; "Group {number} (Refused {fault})\n")
+}
+
+fn group_fault_name(fault: GroupFault) -> &'static str
+    ensures { result.now ≡ group_fault_name (group_fault_seen fault) }
+{
+    match fault {
+        GroupFault::UnknownSource => "UnknownSource",
+        GroupFault::GasTooHigh => "GasTooHigh",
+        GroupFault::FeeTooHigh => "FeeTooHigh",
+    }
+}
+
+fn failure_text(alloc: Global, failure: Failure) -> Result<String, AllocError>
+    ensures { IfOk result (λ s. string_bytes s ≡ failure_text (failure_seen failure)) }
+{
+    match failure {
+        Failure::OutOfGas => String::from_str(alloc, "OutOfGas"),
+        Failure::NoContract => String::from_str(alloc, "NoContract"),
+        Failure::NoEntrypoint => String::from_str(alloc, "NoEntrypoint"),
+        Failure::BadParameter(location) => format!(in alloc; "(BadParameter {location})"),
+        Failure::EmptyTransaction => String::from_str(alloc, "EmptyTransaction"),
+        Failure::BalanceTooLow => String::from_str(alloc, "BalanceTooLow"),
+    }
+}
+
+// The line of a group whose transfer was applied, which uses 1 unit of gas.
+fn transfer_line(
+    alloc: Global,
+    number: u64,
+    from: &Place,
+    to: &Place,
+    amount: u64,
+) -> Result<String, AllocError>
+    ensures { IfOk result (λ s. string_bytes s ≡ group_line number (receipts.Done (receipts.Applied 1 (receipts.Transfer (place_bytes from.now) (place_bytes to.now) amount ∷ []) ∷ []))) }
+{
+    let from = place_digits(alloc, from)?;
+    let to = place_digits(alloc, to)?;
+    let effect = transfer_text(alloc, from.as_str(), to.as_str(), amount)?;
     applied_line(alloc, number, 1, effect.as_str())
 }
 
@@ -55,16 +107,22 @@ fn transfer_line(alloc: Global, number: u64, call: &Call) -> Result<String, Allo
 pub(crate) fn group_line(
     alloc: Global,
     number: u64,
-    call: &Call,
-    outcome: Outcome,
+    group: &Group,
+    verdict: Verdict,
 ) -> Result<String, AllocError>
-    ensures { IfOk result (λ s. string_bytes s ≡ group_line number (receipt_seen (call_said call.now) outcome)) }
+    ensures { IfOk result (λ s. string_bytes s ≡ group_line number (receipt_by group.now.source (content_said group.now.content) (verdict_seen verdict))) }
 {
-    match outcome {
-        Outcome::FeeTooHigh => format!(in alloc; "Group {number} (Refused FeeTooHigh)\n"),
-        Outcome::EmptyTransaction => failed_line(alloc, number, 0, "EmptyTransaction"),
-        Outcome::BalanceTooLow => failed_line(alloc, number, 0, "BalanceTooLow"),
-        Outcome::Applied => transfer_line(alloc, number, call),
+    match verdict {
+        Verdict::Refused(fault) => refused_line(alloc, number, group_fault_name(fault)),
+        Verdict::Failed(failure) => {
+            let text = failure_text(alloc, failure)?;
+            failed_line(alloc, number, 0, text.as_str())
+        }
+        Verdict::Applied => match &group.content.action {
+            Action::Call { amount, to, .. } => {
+                transfer_line(alloc, number, &Place::Implicit(group.source), to, *amount)
+            }
+        },
     }
 }
 
@@ -90,11 +148,82 @@ pub(crate) fn supply_line(alloc: Global, mutez: u64) -> Result<String, AllocErro
     format!(in alloc; "Supply {mutez}\n")
 }
 
-/// The line of a file with a statement of another form at a place.
-pub(crate) fn refusal_line(alloc: Global, place: u64) -> Result<String, AllocError>
-    ensures { IfOk result (λ s. string_bytes s ≡ refusal_line BadStatement place) }
+/// The line of a refusal with a name, at a place or location.
+pub(crate) fn refusal_line(alloc: Global, name: &str, place: u64) -> Result<String, AllocError>
+    ensures { IfOk result (λ s. string_bytes s ≡ refusal_line name.now place) }
 {
-    format!(in alloc; "Refused BadStatement {place}\n")
+    format!(in alloc; "Refused {name} {place}\n")
+}
+
+/// The name of a fault of a text.
+pub(crate) fn text_kind_name(kind: TextKind) -> &'static str
+    ensures { result.now ≡ text_kind_name kind }
+{
+    match kind {
+        TextKind::BadChar => "BadChar",
+        TextKind::BadString => "BadString",
+        TextKind::BadBytes => "BadBytes",
+        TextKind::BadNumber => "BadNumber",
+        TextKind::Unclosed => "Unclosed",
+        TextKind::Unexpected => "Unexpected",
+        TextKind::TooDeep => "TooDeep",
+        TextKind::TooLong => "TooLong",
+    }
+}
+
+/// The name of why a file is refused.
+pub(crate) fn file_fault_name(fault: FileFault) -> &'static str
+    ensures { result.now ≡ file_fault_name (file_fault_seen fault) }
+{
+    match fault {
+        FileFault::Text(kind) => text_kind_name(kind),
+        FileFault::BadStatement => "BadStatement",
+        FileFault::BadOrder => "BadOrder",
+        FileFault::RepeatedAccount => "RepeatedAccount",
+        FileFault::SupplyLimit => "SupplyLimit",
+    }
+}
+
+/// The name of a fault of binary forms.
+pub(crate) fn decode_kind_name(kind: DecodeKind) -> &'static str
+    ensures { result.now ≡ decode_kind_name kind }
+{
+    match kind {
+        DecodeKind::BadTag => "BadTag",
+        DecodeKind::BadPrim => "BadPrim",
+        DecodeKind::BadLength => "BadLength",
+        DecodeKind::BadInteger => "BadInteger",
+        DecodeKind::BadString => "BadString",
+        DecodeKind::Trailing => "Trailing",
+        DecodeKind::TooDeep => "TooDeep",
+        DecodeKind::TooWide => "TooWide",
+    }
+}
+
+/// The line of a literal of bytes.
+pub(crate) fn bytes_line(alloc: Global, bytes: &[u8]) -> Result<String, AllocError>
+    ensures { IfOk result (λ s. string_bytes s ≡ bytes_line bytes.now) }
+{
+    let digits = hex::encode(alloc, bytes)?;
+    let digits = digits.as_str();
+    format!(in alloc; "0x{digits}\n")
+}
+
+/// The line of a node.
+pub(crate) fn node_line(alloc: Global, node: &Node) -> Result<Text, Memory>
+    ensures { IfOk result (λ line. line ≡ node_line (tree node.now)) }
+{
+    let text = print(alloc, node)?;
+    let mut line = text.as_slice().to_vec(alloc)?;
+    line.push(b'\n')?;
+    Ok(Text::from_vec(line))
+}
+
+/// A line as its bytes.
+pub(crate) fn as_text(line: String) -> Text
+    ensures { result ≡ string_bytes line }
+{
+    Text::from_vec(line.into_bytes())
 }
 
 /// The line for words that are no command.

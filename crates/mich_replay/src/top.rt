@@ -5,7 +5,6 @@ ghost use Rattle.rules_io.specs.Causes.{HasCause};
 ghost use Rattle.rules_io.specs.Known.{AppendsFront};
 ghost use Rattle.rules_replay.specs.Lines.{text_of};
 ghost use Rattle.rules_replay.specs.Promise.{Meets};
-ghost use Rattle.mich_replay.specs.View.{texts};
 
 use crate::answer::answer_words;
 use mich_base::Texts;
@@ -13,13 +12,13 @@ use mich_io::{Files, FilesFault, Sink, SinkFault, write_all};
 use std::alloc::Global;
 
 // Writes lines, one after another.
-fn write_lines<K: Sink>(out: &mut K, lines: &Vec<String>) -> Result<(), SinkFault>
-    ensures ok { OnOk result (Appends (K.written out.old) (K.written out.new) (text_of (texts lines.now.items))) }
-    ensures err { OnErr result (AppendsFront (K.written out.old) (K.written out.new) (text_of (texts lines.now.items))) }
+fn write_lines<K: Sink>(out: &mut K, lines: &Texts) -> Result<(), SinkFault>
+    ensures ok { OnOk result (Appends (K.written out.old) (K.written out.new) (text_of lines.now)) }
+    ensures err { OnErr result (AppendsFront (K.written out.old) (K.written out.new) (text_of lines.now)) }
     ensures cause { HasCause SinkFault.Failed (K.faults out.old) (K.faults out.new) result }
 {
-    'lines: for line in lines {
-        write_all(out, line.as_str().as_bytes())?;
+    'lines: for line in lines.as_slice() {
+        write_all(out, line.as_slice())?;
     }
     Ok(())
 }

@@ -1,22 +1,25 @@
 // The accounts and their balances.
-ghost use Rattle.std.specs.Prelude.{◌≡◌, ◌<◌, ◌≤◌, ◌+◌, ◌-◌, ◌^◌, ℕ, sum, is_some, Some, None, IfOk, OnOk, OnErr, if◌then◌else◌, ◌++◌, map};
-ghost use Rattle.std.specs.Bool.{OnFalse};
+ghost use Rattle.std.specs.Prelude.{◌≡◌, ◌≢◌, ◌<◌, ◌≤◌, ◌+◌, ◌-◌, ◌^◌, ℕ, sum, is_some, Some, None, option_map, IfOk, OnOk, OnErr, ◌++◌, map};
 ghost use Rattle.std.specs.Map.{values_of};
-ghost use Rattle.rules_replay.specs.World.{new_world, balance_of, balance_in, with_balance, granted_to, receipt_of, world_after, supply};
+ghost use Rattle.rules_replay.specs.World.{new_world, balance_of, balance_in, with_balance, with_more, granted_to, refusal_of, fee_taken, left_after_fee, failure_of, moved, acted, verdict_of, world_after, supply};
 ghost use Rattle.rules_replay.specs.Lines.{account_line, state_lines};
-ghost use Rattle.mich_scenario.specs.View.{call_said};
-ghost use Rattle.mich_replay.specs.View.{receipt_seen, texts};
+ghost use Rattle.mich_scenario.specs.View.{action_said, content_said};
+ghost use Rattle.mich_replay.specs.View.{group_fault_seen, failure_seen, verdict_seen, grant_seen, granted_mutez};
+ghost use Rattle.mich_replay.specs.declared.outcome.Grant.TheVariants as grants;
 
-use crate::lines::{account_line, fees_line, supply_line};
-use crate::outcome::Outcome;
-use mich_base::Memory;
-use mich_forms::{ChainId, KeyHash};
-use mich_scenario::Call;
+use crate::failing::failure_of;
+use crate::lines::{account_line, as_text, fees_line, supply_line};
+use crate::outcome::{Grant, GroupFault, Verdict};
+use mich_base::{Memory, Texts};
+use mich_forms::{ChainId, KeyHash, Place};
+use mich_scenario::{Action, Content, Group};
 use std::alloc::Global;
 use std::collections::BTreeMap;
 use std::marker::Model;
 
 const MOST_MUTEZ: u64 = (1 << 63) - 1;
+
+const MOST_GAS: i128 = 10_000_000_000;
 
 // The balance of an account, or 0 where there is none.
 fn balance(accounts: &BTreeMap<KeyHash, u64>, who: &KeyHash) -> u64
@@ -42,12 +45,12 @@ fn set(accounts: &mut BTreeMap<KeyHash, u64>, who: KeyHash, mutez: u64) -> Resul
 fn account_lines(
     alloc: Global,
     accounts: &BTreeMap<KeyHash, u64>,
-    lines: &mut Vec<String>,
+    lines: &mut Texts,
 ) -> Result<(), Memory>
-    ensures { OnOk result (texts lines.new.items ≡ texts lines.old.items ++ map account_line accounts.now.entries) }
+    ensures { OnOk result (lines.new ≡ lines.old ++ map account_line accounts.now.entries) }
 {
     'accounts: for (who, mutez) in accounts {
-        lines.push(account_line(alloc, who, *mutez)?)?;
+        lines.push(as_text(account_line(alloc, who, *mutez)?))?;
     }
     Ok(())
 }
@@ -98,43 +101,92 @@ impl World {
         self.accounts.contains_key(who)
     }
 
-    /// Makes an account, and says whether it may be made. After an `Err` the world is given up.
-    pub fn grant(&mut self, who: KeyHash, mutez: u64) -> Result<bool, Memory>
-        ensures made { IfOk result (λ made. granted_to self.old who mutez ≡ (if made then Some self.new else None)) }
-        ensures refused { IfOk result (λ made. OnFalse made (self.new ≡ self.old)) }
-        ensures supply { IfOk result (λ made. supply self.new ≡ supply self.old + (if made then mutez else 0)) }
+    /// Makes an account with so much mutez, where it isn't there and no more than 2^63-1 mutez are granted in all. After an
+    /// `Err` the world is given up.
+    pub fn grant(&mut self, who: KeyHash, mutez: u64) -> Result<Grant, Memory>
+        ensures exact { IfOk result (λ grant. grant_seen grant self.new ≡ granted_to self.old who mutez) }
+        ensures refused { IfOk result (λ grant. grant ≢ Grant.Granted → self.new ≡ self.old) }
+        ensures supply { IfOk result (λ grant. supply self.new ≡ supply self.old + granted_mutez grant mutez) }
     {
-        if self.accounts.contains_key(&who) || mutez > MOST_MUTEZ - self.granted {
-            return Ok(false);
+        if self.accounts.contains_key(&who) {
+            return Ok(Grant::Repeated);
+        }
+        if mutez > MOST_MUTEZ - self.granted {
+            return Ok(Grant::TooMuch);
         }
         set(&mut self.accounts, who, mutez)?;
         self.granted += mutez;
-        Ok(true)
+        Ok(Grant::Granted)
     }
 
-    /// Applies a group of one transfer. After an `Err` the world is given up.
-    pub fn apply(&mut self, call: &Call) -> Result<Outcome, Memory>
-        ensures receipt { IfOk result (λ o. receipt_seen (call_said call.now) o ≡ receipt_of self.old (call_said call.now)) }
-        ensures world { OnOk result (self.new ≡ world_after self.old (call_said call.now)) }
+    // Why a group is refused.
+    fn refusal(&self, source: &KeyHash, content: &Content) -> Option<GroupFault>
+        ensures { option_map group_fault_seen result ≡ refusal_of self.now source.now (content_said content.now) }
+    {
+        if !self.has(source) {
+            Some(GroupFault::UnknownSource)
+        } else if content.gas > MOST_GAS {
+            Some(GroupFault::GasTooHigh)
+        } else if balance(&self.accounts, source) < content.fee {
+            Some(GroupFault::FeeTooHigh)
+        } else {
+            None
+        }
+    }
+
+    // Takes a fee that the source has, and answers what is left of its balance.
+    fn take_fee(&mut self, source: &KeyHash, content: &Content) -> Result<u64, Memory>
+        requires { content.now.fee ≤ balance_in self.old.accounts source.now }
+        ensures world { OnOk result (self.new ≡ fee_taken self.old source.now (content_said content.now)) }
+        ensures left { IfOk result (λ left. left ≡ left_after_fee self.old source.now (content_said content.now)) }
+        ensures balance { IfOk result (λ left. balance_in self.new.accounts source.now ≡ left) }
         ensures supply { OnOk result (supply self.new ≡ supply self.old) }
     {
-        let had = balance(&self.accounts, &call.source);
-        if had < call.fee {
-            return Ok(Outcome::FeeTooHigh);
+        let left = balance(&self.accounts, source) - content.fee;
+        set(&mut self.accounts, *source, left)?;
+        self.fees += content.fee;
+        Ok(left)
+    }
+
+    // Moves mutez that an account has.
+    fn move_mutez(&mut self, from: KeyHash, to: KeyHash, amount: u64) -> Result<(), Memory>
+        requires { amount ≤ balance_in self.old.accounts from }
+        ensures world { OnOk result (self.new ≡ moved self.old from to amount) }
+        ensures supply { OnOk result (supply self.new ≡ supply self.old) }
+    {
+        let left = balance(&self.accounts, &from) - amount;
+        set(&mut self.accounts, from, left)?;
+        let had = balance(&self.accounts, &to);
+        set(&mut self.accounts, to, had + amount)?;
+        Ok(())
+    }
+
+    /// Applies a group of one operation. After an `Err` the world is given up.
+    pub fn apply(&mut self, group: &Group) -> Result<Verdict, Memory>
+        ensures verdict { IfOk result (λ v. verdict_seen v ≡ verdict_of self.old group.now.source (content_said group.now.content)) }
+        ensures world { OnOk result (self.new ≡ world_after self.old group.now.source (content_said group.now.content)) }
+        ensures supply { OnOk result (supply self.new ≡ supply self.old) }
+    {
+        let content = &group.content;
+        if let Some(fault) = self.refusal(&group.source, content) {
+            return Ok(Verdict::Refused(fault));
         }
-        let left = had - call.fee;
-        set(&mut self.accounts, call.source, left)?;
-        self.fees += call.fee;
-        if call.amount == 0 {
-            return Ok(Outcome::EmptyTransaction);
+        let left = self.take_fee(&group.source, content)?;
+        if let Some(failure) = failure_of(left, content) {
+            return Ok(Verdict::Failed(failure));
         }
-        if left < call.amount {
-            return Ok(Outcome::BalanceTooLow);
+        match &content.action {
+            Action::Call {
+                amount,
+                to: Place::Implicit(to),
+                ..
+            } => self.move_mutez(group.source, *to, *amount)?,
+            Action::Call {
+                to: Place::Contract(_),
+                ..
+            } => {}
         }
-        set(&mut self.accounts, call.source, left - call.amount)?;
-        let to = balance(&self.accounts, &call.destination);
-        set(&mut self.accounts, call.destination, to + call.amount)?;
-        Ok(Outcome::Applied)
+        Ok(Verdict::Applied)
     }
 
     /// All balances and the fees, in mutez.
@@ -146,12 +198,12 @@ impl World {
     }
 
     /// Adds the lines of the state.
-    pub fn state_lines(&self, alloc: Global, lines: &mut Vec<String>) -> Result<(), Memory>
-        ensures { OnOk result (texts lines.new.items ≡ texts lines.old.items ++ state_lines self.now) }
+    pub fn state_lines(&self, alloc: Global, lines: &mut Texts) -> Result<(), Memory>
+        ensures { OnOk result (lines.new ≡ lines.old ++ state_lines self.now) }
     {
         account_lines(alloc, &self.accounts, lines)?;
-        lines.push(fees_line(alloc, self.fees)?)?;
-        lines.push(supply_line(alloc, self.supply())?)?;
+        lines.push(as_text(fees_line(alloc, self.fees)?))?;
+        lines.push(as_text(supply_line(alloc, self.supply())?))?;
         Ok(())
     }
 }

@@ -1,5 +1,5 @@
 // The forms of statements.
-ghost use Rattle.std.specs.Prelude.{◌≡◌, ◌≢◌, ◌^◌, ℕ, [], ◌∷◌, length, Some, None, option_map, MatchOption};
+ghost use Rattle.std.specs.Prelude.{◌≡◌, ◌^◌, ℕ, [], Some, None, option_map, MatchOption};
 ghost use Rattle.rules_base.specs.Tree.{prim, seq};
 ghost use Rattle.mich_base.specs.View.{tree, trees};
 ghost use Rattle.rules_replay.specs.Statements.{nodes_of, chain_of, account_of, transfer_of, call_of, named, content_by, contents_of, group_of, statement_by, form};
@@ -16,10 +16,10 @@ const MOST_MUTEZ: u64 = (1 << 63) - 1;
 const MOST_LEVEL: u64 = (1 << 31) - 1;
 
 #[tactic(auto, using(crate::proofs::Counts::chain_fields))]
-fn chain(fields: &[Node]) -> Option<Statement>
+fn chain(fields: &Nodes) -> Option<Statement>
     ensures { option_map said result ≡ chain_of (nodes_of (trees fields.now)) }
 {
-    let [id, level, moment_node] = fields else {
+    let Some((id, level, moment_node)) = fields.three() else {
         return None;
     };
     let id = chain_id(id)?;
@@ -29,10 +29,10 @@ fn chain(fields: &[Node]) -> Option<Statement>
 }
 
 #[tactic(auto, using(crate::proofs::Counts::account_fields))]
-fn account(fields: &[Node]) -> Option<Statement>
+fn account(fields: &Nodes) -> Option<Statement>
     ensures { option_map said result ≡ account_of (nodes_of (trees fields.now)) }
 {
-    let [who, mutez] = fields else {
+    let Some((who, mutez)) = fields.both() else {
         return None;
     };
     let who = key_hash(who)?;
@@ -62,34 +62,16 @@ fn transfer(
 }
 
 #[tactic(auto, using(crate::proofs::Counts::call_fields))]
-fn call(alloc: Global, fields: &[Node]) -> Result<Content, FormError>
+fn call(alloc: Global, fields: &Nodes) -> Result<Content, FormError>
     ensures { IsForm content_said (call_of (nodes_of (trees fields.now))) result }
 {
-    let [fee, gas_node, amount, to, name, argument] = fields else {
+    let [fee, gas_node, amount, to, name, argument] = fields.as_slice() else {
         return Err(FormError::BadStatement);
     };
     let fee = number(fee, MOST_MUTEZ).ok_or(FormError::BadStatement)?;
     let gas = gas(gas_node).ok_or(FormError::BadStatement)?;
     let action = transfer(alloc, amount, to, name, argument)?;
     Ok(Content { fee, gas, action })
-}
-
-fn one(nodes: &[Node]) -> Option<&Node>
-    ensures { MatchOption result (length nodes.now ≢ 1) (λ n. nodes.now ≡ n.now ∷ []) }
-{
-    match nodes {
-        [first] => Some(first),
-        _ => None,
-    }
-}
-
-fn two(nodes: &[Node]) -> Option<(&Node, &Node)>
-    ensures { MatchOption result (length nodes.now ≢ 2) (λ p. nodes.now ≡ p.0.now ∷ p.1.now ∷ []) }
-{
-    match nodes {
-        [first, second] => Some((first, second)),
-        _ => None,
-    }
 }
 
 // An application of this name without annotations.
@@ -106,7 +88,7 @@ fn content(alloc: Global, node: &Node) -> Result<Content, FormError>
     ensures { IsForm content_said (named content_by (tree node.now)) result }
 {
     match plain(node) {
-        Some(app) if app.name.as_slice() == b"Call".as_slice() => call(alloc, app.args.as_slice()),
+        Some(app) if app.name.as_slice() == b"Call".as_slice() => call(alloc, &app.args),
         _ => Err(FormError::BadStatement),
     }
 }
@@ -129,17 +111,17 @@ fn contents(alloc: Global, node: &Node) -> Result<Content, FormError>
     let Some(nodes) = elements(node) else {
         return Err(FormError::BadStatement);
     };
-    match one(nodes.as_slice()) {
+    match nodes.only() {
         Some(first) => content(alloc, first),
         None => Err(FormError::BadStatement),
     }
 }
 
 #[tactic(auto, using(crate::proofs::Counts::group_fields))]
-fn group(alloc: Global, fields: &[Node]) -> Result<Statement, FormError>
+fn group(alloc: Global, fields: &Nodes) -> Result<Statement, FormError>
     ensures { IsForm said (group_of (nodes_of (trees fields.now))) result }
 {
-    let Some((source, contents_node)) = two(fields) else {
+    let Some((source, contents_node)) = fields.both() else {
         return Err(FormError::BadStatement);
     };
     let source = key_hash(source).ok_or(FormError::BadStatement)?;
@@ -147,7 +129,7 @@ fn group(alloc: Global, fields: &[Node]) -> Result<Statement, FormError>
     Ok(Statement::Group(Group { source, content }))
 }
 
-fn statement_by(alloc: Global, name: &[u8], fields: &[Node]) -> Result<Statement, FormError>
+fn statement_by(alloc: Global, name: &[u8], fields: &Nodes) -> Result<Statement, FormError>
     ensures { IsForm said (statement_by name.now (nodes_of (trees fields.now))) result }
 {
     if name == b"Chain".as_slice() {
@@ -168,7 +150,7 @@ pub fn read_form(alloc: Global, node: &Node) -> Result<Statement, FormError>
     ensures { IsForm said (form (tree node.now)) result }
 {
     match plain(node) {
-        Some(app) => statement_by(alloc, app.name.as_slice(), app.args.as_slice()),
+        Some(app) => statement_by(alloc, app.name.as_slice(), &app.args),
         None => Err(FormError::BadStatement),
     }
 }

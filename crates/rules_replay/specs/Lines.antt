@@ -24,9 +24,9 @@ failure_text (BadParameter location) = codes "(BadParameter " ++ (decimal locati
 failure_text EmptyTransaction = codes "EmptyTransaction"
 failure_text BalanceTooLow = codes "BalanceTooLow"
 
--- implicit addresses, which are 0 and a key hash, an amount, the argument, and no change of tickets
+-- the places, an amount, the argument, and no change of tickets
 abbrev pub transfer_text : List ℕ → List ℕ → ℕ → List ℕ
-transfer_text sender destination amount = codes "Transfer 0x00" ++ (sender ++ (codes " 0x00" ++ (destination ++ (codes " " ++ (decimal amount ++ codes " Unit {}")))))
+transfer_text sender destination amount = codes "Transfer 0x" ++ (sender ++ (codes " 0x" ++ (destination ++ (codes " " ++ (decimal amount ++ codes " Unit {}")))))
 
 abbrev pub effect_text : Effect → List ℕ
 effect_text (Transfer sender destination amount) = transfer_text (encode_lower sender) (encode_lower destination) amount

@@ -17,7 +17,7 @@ pub data Failure : Type 0 where
   EmptyTransaction : Failure
   BalanceTooLow : Failure
 
--- what an operation did: so much mutez went from one implicit account to another, by their key hashes
+-- what an operation did: so much mutez went from one place to another
 pub data Effect : Type 0 where
   Transfer : (sender destination : List ℕ) (amount : ℕ) → Effect
 

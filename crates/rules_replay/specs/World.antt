@@ -7,7 +7,7 @@ use Rattle.std.specs.BTreeMap.{is_at, insert_entry}
 use Rattle.std.specs.Map.{lookup, values_of}
 use Rattle.std.specs.Str.{bytes_eq}
 use Rattle.rules_base.specs.Tree.{Tree, int, str, bytes, prim, seq, Trees, none, more}
-use Rattle.rules_forms.specs.Spelling.{default_name}
+use Rattle.rules_forms.specs.Spelling.{default_name, implicit_place}
 use Rattle.rules_replay.specs.Statements.{Action, Call, Content, most_mutez}
 use Rattle.rules_replay.specs.Receipts.{Receipt, Refused, Done, GroupFault, UnknownSource, GasTooHigh, FeeTooHigh, Failure, OutOfGas, NoContract, NoEntrypoint, BadParameter, EmptyTransaction, BalanceTooLow, Transfer, Applied, Failed}
 
@@ -140,7 +140,7 @@ abbrev pub verdict_of : World → List ℕ → Content → Verdict
 verdict_of w source c = admitted w source c (refusal_of w source c)
 
 abbrev pub transfer_receipt : List ℕ → Action → Receipt
-transfer_receipt source (Call amount destination entrypoint argument) = Done (Applied transfer_gas (Transfer source (key_hash_of destination) amount ∷ []) ∷ [])
+transfer_receipt source (Call amount destination entrypoint argument) = Done (Applied transfer_gas (Transfer (implicit_place source) destination amount ∷ []) ∷ [])
 
 abbrev pub receipt_by : List ℕ → Content → Verdict → Receipt
 receipt_by source c (refused f) = Refused f

@@ -1,7 +1,6 @@
 use Rattle.std.proofs.Common.{◌≤◌, take}
 use Rattle.std.specs.Io.KnownBytes.{Appends}
 use Rattle.rules_replay.specs.Lines.{text_of}
-use Rattle.mich_replay.specs.View.{texts}
 use Rattle.mich_replay.proofs.top.write_lines.Given as goal
 
 abbrev pub invariant-lines : goal.invariant-lines
@@ -9,5 +8,5 @@ invariant-lines g l =
     let sink = g.K.Sink in
     record {
       later : sink.faults l.fn.out ≤ sink.faults l.out;
-      bytes : Appends (sink.written l.fn.out) (sink.written l.out) (text_of (texts (take l.line-index l.lines.items)));
+      bytes : Appends (sink.written l.fn.out) (sink.written l.out) (text_of (take l.line-index l.lines));
     }

@@ -1,0 +1,129 @@
+-- A file comes to one answer.
+use Rattle.std.proofs.Common.{◌≡◌, ◌⊎◌, inl, inr, ℕ, ◌+◌, List, [], ◌∷◌, length, drop, Option, Some, None, refl, sym, ap, ◌∙◌, subst, arith}
+use Rattle.rules_base.specs.Tree.{Tree}
+use Rattle.rules_text.specs.declared.TextKind.{TextKind}
+use Rattle.mich_text.proofs.Unique.{one_statement, one_fault, no_fault_at_node, no_node_at_end, no_fault_at_end}
+use Rattle.rules_replay.specs.Places.{Placed, IsNodeAt, IsFaultAt, IsEndAt, AreStatements, Listing, EndsIn, IsListing}
+use Rattle.rules_replay.specs.Receipts.{Receipt}
+use Rattle.rules_replay.specs.World.{World}
+use Rattle.rules_replay.specs.Replay.{Replay, IsReplay, Closes, FileFault, TextFault, RefusedAt, ending_of, Run, going, stopped, run_one, run_all}
+use Rattle.rules_replay.specs.Answers.{Answer, replay_answer}
+use Rattle.rules_replay.specs.Codec.{IsCodecAnswer, of_listing}
+use Rattle.rules_replay.specs.Commands.{Command, OnFile, NoCommand, Verb, Replaying, Encoding, Decoding, IsVerbAnswer, IsAnswer}
+
+-- ---- what stands at a place
+
+record SameNode (s t : Placed) (b c : ℕ) : Type 0 where
+  statement : s ≡ t
+  behind : b ≡ c
+
+one-node : (file : List ℕ) (p : ℕ) (s t : Placed) (b c : ℕ) → IsNodeAt file p s.node s.place b → IsNodeAt file p t.node t.place c → SameNode s t b c
+one-node file p s t b c m n =
+    let one = one_statement (drop p file) s.node t.node m.0 m.1 n.0 n.1 m.2.stands n.2.stands in
+    let place : s.place ≡ t.place = omega (arith, one.1, m.3, n.3) in
+    record {
+      statement = ap (λ (x : ℕ). record { place = x; node = s.node }) place ∙ ap (λ (x : Tree). record { place = t.place; node = x }) one.0;
+      behind = omega (arith, one.2, m.4, n.4);
+    }
+
+fault-at : (file : List ℕ) (p : ℕ) (k j : TextKind) (a b : ℕ) → IsFaultAt file p k a → IsFaultAt file p j b → (k ≡ j) × (a ≡ b)
+fault-at file p k j a b m n =
+    let one = one_fault (drop p file) k j m.0 n.0 m.1 n.1 in
+    (one.1, omega (arith, one.0, m.2, n.2))
+
+node-and-fault : (file : List ℕ) (p : ℕ) (t : Tree) (a b : ℕ) (k : TextKind) (c : ℕ) → IsNodeAt file p t a b → IsFaultAt file p k c → ⊥
+node-and-fault file p t a b k c m n = no_fault_at_node (drop p file) k n.0 t m.0 m.1 n.1 m.2
+
+node-and-end : (file : List ℕ) (p : ℕ) (t : Tree) (a b : ℕ) → IsNodeAt file p t a b → IsEndAt file p → ⊥
+node-and-end file p t a b m e = no_node_at_end (drop p file) t m.0 m.1 e m.2
+
+fault-and-end : (file : List ℕ) (p : ℕ) (k : TextKind) (c : ℕ) → IsFaultAt file p k c → IsEndAt file p → ⊥
+fault-and-end file p k c n e = no_fault_at_end (drop p file) k n.0 e n.1
+
+-- ---- replays
+
+stays : (rs : List Receipt) (f : FileFault) (place : ℕ) (ss : List Placed) → run_all (stopped rs f place) ss ≡ stopped rs f place
+stays rs f place [] = refl
+stays rs f place (s ∷ ss) = stays rs f place ss
+
+closes-one : (file : List ℕ) (p : ℕ) (r : Run) (a b : Replay) → Closes file p r a → Closes file p r b → a ≡ b
+closes-one file p (stopped rs f place) a b c d = c ∙ sym d
+closes-one file p (going rs w) a b (inl c) (inl d) = c.1 ∙ sym d.1
+closes-one file p (going rs w) a b (inl c) (inr d) = absurd (fault-and-end file p d.0 d.1 d.2 c.0)
+closes-one file p (going rs w) a b (inr c) (inl d) = absurd (fault-and-end file p c.0 c.1 c.2 d.0)
+closes-one file p (going rs w) a b (inr c) (inr d) =
+    let same = fault-at file p c.0 d.0 c.1 d.1 c.2 d.2 in
+    c.3 ∙ ap (λ (k : TextKind). record { receipts = rs; ending = RefusedAt (TextFault k) c.1 }) same.0
+    ∙ ap (λ (at : ℕ). record { receipts = rs; ending = RefusedAt (TextFault d.0) at }) same.1 ∙ sym d.3
+
+-- where it closes before a statement, a statement was refused already
+closes-early : (file : List ℕ) (p : ℕ) (r : Run) (a b : Replay) (s : Placed) (behind : ℕ) (ss : List Placed) (to : ℕ) → Closes file p r a
+    → IsNodeAt file p s.node s.place behind → Closes file to (run_all r (s ∷ ss)) b → a ≡ b
+closes-early file p (stopped rs f place) a b s behind ss to c node d =
+    c ∙ sym (subst (λ (x : Run). Closes file to x b) (stays rs f place (s ∷ ss)) d)
+closes-early file p (going rs w) a b s behind ss to (inl c) node d = absurd (node-and-end file p s.node s.place behind node c.0)
+closes-early file p (going rs w) a b s behind ss to (inr c) node d = absurd (node-and-fault file p s.node s.place behind c.0 c.1 node c.2)
+
+replays-one : (file : List ℕ) (p : ℕ) (r : Run) (a b : Replay) (ss ts : List Placed) (to of : ℕ) → AreStatements file p ss to → AreStatements file p ts of
+    → Closes file to (run_all r ss) a → Closes file of (run_all r ts) b → a ≡ b
+replays-one file p r a b [] [] to of m n c d =
+    closes-one file p r a b (subst (λ (x : ℕ). Closes file x r a) (sym m) c) (subst (λ (x : ℕ). Closes file x r b) (sym n) d)
+replays-one file p r a b [] (t ∷ ts) to of m n c d =
+    closes-early file p r a b t n.0 ts of (subst (λ (x : ℕ). Closes file x r a) (sym m) c) n.1 d
+replays-one file p r a b (s ∷ ss) [] to of m n c d =
+    sym (closes-early file p r b a s m.0 ss to (subst (λ (x : ℕ). Closes file x r b) (sym n) d) m.1 c)
+replays-one file p r a b (s ∷ ss) (t ∷ ts) to of m n c d =
+    let same = one-node file p s t m.0 n.0 m.1 n.1 in
+    replays-one file m.0 (run_one r s) a b ss ts to of m.2 (subst (λ (x : ℕ). AreStatements file x ts of) (sym same.behind) n.2)
+    c (subst (λ (x : Placed). Closes file of (run_all (run_one r x) ts) b) (sym same.statement) d)
+
+-- ---- listings
+
+ends-one : (file : List ℕ) (p : ℕ) (f g : Option (TextKind × ℕ)) → EndsIn file p f → EndsIn file p g → f ≡ g
+ends-one file p None None c d = refl
+ends-one file p None (Some g) c d = absurd (fault-and-end file p g.0 g.1 d c)
+ends-one file p (Some f) None c d = absurd (fault-and-end file p f.0 f.1 c d)
+ends-one file p (Some f) (Some g) c d =
+    let same = fault-at file p f.0 g.0 f.1 g.1 c d in
+    ap (λ (k : TextKind). Some (k, f.1)) same.0 ∙ ap (λ (at : ℕ). Some (g.0, at)) same.1
+
+no-ends : (file : List ℕ) (p : ℕ) (f : Option (TextKind × ℕ)) (s : Placed) (behind : ℕ) → EndsIn file p f → IsNodeAt file p s.node s.place behind → ⊥
+no-ends file p None s behind c node = node-and-end file p s.node s.place behind node c
+no-ends file p (Some f) s behind c node = node-and-fault file p s.node s.place behind f.0 f.1 node c
+
+record SameListing (ss ts : List Placed) (f g : Option (TextKind × ℕ)) : Type 0 where
+  statements : ss ≡ ts
+  fault : f ≡ g
+
+listings-one : (file : List ℕ) (p : ℕ) (ss ts : List Placed) (to of : ℕ) (f g : Option (TextKind × ℕ)) → AreStatements file p ss to → AreStatements file p ts of
+    → EndsIn file to f → EndsIn file of g → SameListing ss ts f g
+listings-one file p [] [] to of f g m n c d =
+    record { statements = refl; fault = ends-one file p f g (subst (λ (x : ℕ). EndsIn file x f) (sym m) c) (subst (λ (x : ℕ). EndsIn file x g) (sym n) d) }
+listings-one file p [] (t ∷ ts) to of f g m n c d = absurd (no-ends file p f t n.0 (subst (λ (x : ℕ). EndsIn file x f) (sym m) c) n.1)
+listings-one file p (s ∷ ss) [] to of f g m n c d = absurd (no-ends file p g s m.0 (subst (λ (x : ℕ). EndsIn file x g) (sym n) d) m.1)
+listings-one file p (s ∷ ss) (t ∷ ts) to of f g m n c d =
+    let same = one-node file p s t m.0 n.0 m.1 n.1 in
+    let rest = listings-one file m.0 ss ts to of f g m.2 (subst (λ (x : ℕ). AreStatements file x ts of) (sym same.behind) n.2) c d in
+    record { statements = ap (λ (x : Placed). x ∷ ss) same.statement ∙ ap (λ (l : List Placed). t ∷ l) rest.statements; fault = rest.fault }
+
+-- ---- answers
+
+codec-one : (command : Tree → Option Answer) (file : List ℕ) (a b : Answer) → IsCodecAnswer command file a → IsCodecAnswer command file b → a ≡ b
+codec-one command file a b m n =
+    let same = listings-one file 0 m.0.statements n.0.statements m.1.0 n.1.0 m.0.fault n.0.fault m.1.1 n.1.1 m.1.2 n.1.2 in
+    m.2 ∙ ap (λ (ss : List Placed). of_listing command (length file) (record { statements = ss; fault = m.0.fault })) same.statements
+    ∙ ap (λ (f : Option (TextKind × ℕ)). of_listing command (length file) (record { statements = n.0.statements; fault = f })) same.fault ∙ sym n.2
+
+verbs-one : (verb : Verb) (file : List ℕ) (a b : Answer) → IsVerbAnswer verb file a → IsVerbAnswer verb file b → a ≡ b
+verbs-one Replaying file a b m n =
+    m.2 ∙ ap replay_answer (replays-one file 0 (going [] None) m.0 n.0 m.1.statements n.1.statements m.1.to n.1.to m.1.stand n.1.stand m.1.closes n.1.closes) ∙ sym n.2
+verbs-one Encoding file a b m n = codec-one _ file a b m n
+verbs-one Decoding file a b m n = codec-one _ file a b m n
+
+some_is : (x y : List ℕ) → Some x ≡ Some y → x ≡ y
+some_is x y e = cc
+
+pub answers-one : (command : Command) (content : List ℕ → Option (List ℕ)) (a b : Answer) → IsAnswer command content a → IsAnswer command content b → a ≡ b
+answers-one (OnFile verb path) content a b m n =
+    verbs-one verb m.0 a b m.2 (subst (λ (file : List ℕ). IsVerbAnswer verb file b) (some_is n.0 m.0 (sym n.1 ∙ m.1)) n.2)
+answers-one NoCommand content a b m n = m ∙ sym n

@@ -1,0 +1,12 @@
+use Rattle.std.proofs.Common.{◌≤◌, ◌-◌, length}
+use Rattle.mich_replay.specs.Steps.{Reached}
+use Rattle.mich_replay.proofs.replaying.replay.Given as goal
+
+abbrev pub invariant-statements : goal.invariant-statements
+invariant-statements l = record {
+  within : l.place ≤ length l.file;
+  reached : Reached l.file l.place l.world l.lines;
+}
+
+abbrev pub decreases-statements : goal.decreases-statements
+decreases-statements l = length l.file - l.place

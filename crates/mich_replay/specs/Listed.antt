@@ -1,0 +1,49 @@
+-- What is kept of the statements of a file: the first, the place of the second, and the fault behind them.
+use Rattle.std.specs.Prelude.{◌≡◌, ℕ, List, [], ◌∷◌, Option, Some, None, option_map}
+use Rattle.rules_base.specs.Tree.{Tree}
+use Rattle.rules_text.specs.declared.TextKind.{TextKind}
+use Rattle.rules_replay.specs.Answers.{Answer, misplaced}
+use Rattle.rules_replay.specs.Places.{Placed, Listing, IsListing, AreStatements}
+use Rattle.mich_base.specs.View.{tree}
+use Rattle.mich_text.specs.declared.reader.Placed.{Placed as CodePlaced}
+use Rattle.mich_replay.specs.declared.statements.Listed.{Listed}
+
+abbrev pub first_of : List Placed → Option Placed
+first_of [] = None
+first_of (s ∷ ss) = Some s
+
+abbrev pub second_place : List Placed → Option ℕ
+second_place [] = None
+second_place (s ∷ []) = None
+second_place (s ∷ r ∷ ss) = Some r.place
+
+abbrev pub placed_seen : CodePlaced → Placed
+placed_seen p = record { place = p.start; node = tree p.node }
+
+-- this is kept of these statements
+pub record Keeps (ss : List Placed) (first : Option CodePlaced) (second : Option ℕ) : Type 0 where
+  pub first_is : option_map placed_seen first ≡ first_of ss
+  pub second_is : second ≡ second_place ss
+
+-- of statements up to a place this is kept
+pub record Passed (file : List ℕ) (place : ℕ) (first : Option CodePlaced) (second : Option ℕ) : Type 0 where
+  pub statements : List Placed
+  pub stand : AreStatements file 0 statements place
+  pub kept : Keeps statements first second
+
+-- this is kept of a whole file
+pub record IsListed (file : List ℕ) (l : Listed) : Type 0 where
+  pub found : Listing
+  pub listing : IsListing file found
+  pub kept : Keeps found.statements l.first l.second
+  pub fault_is : l.fault ≡ found.fault
+
+-- the answer to what is kept, of a command that gives this answer to a node
+abbrev pub beside : Option Answer → ℕ → Option ℕ → Answer
+beside None start second = misplaced start
+beside (Some answer) start None = answer
+beside (Some answer) start (Some at) = misplaced at
+
+abbrev pub of_kept : (Tree → Option Answer) → ℕ → Option CodePlaced → Option ℕ → Answer
+of_kept command size None second = misplaced size
+of_kept command size (Some p) second = beside (command (tree p.node)) p.start second

@@ -1,0 +1,84 @@
+// One statement of a file, in the world so far.
+ghost use Rattle.std.specs.Prelude.{◌≡◌, ◌<◌, ◌≤◌, ◌+◌, ◌++◌, ◌∷◌, [], ℕ, length, map, Some, None, IfOk, OnOk, IfSome};
+ghost use Rattle.mich_base.specs.View.{tree};
+ghost use Rattle.rules_replay.specs.Statements.{form};
+ghost use Rattle.rules_replay.specs.World.{receipt_of, world_after, granted_to};
+ghost use Rattle.rules_replay.specs.Replay.{step, step_by, granting};
+ghost use Rattle.rules_replay.specs.Lines.{group_line};
+ghost use Rattle.mich_scenario.specs.View.{said, content_said};
+ghost use Rattle.mich_replay.specs.View.{file_fault_seen};
+ghost use Rattle.mich_replay.specs.Steps.{IsGranting, IsTaken};
+
+use crate::lines::{as_text, group_line};
+use crate::outcome::{FileFault, Grant};
+use crate::world::World;
+use mich_base::{Memory, Node, Texts};
+use mich_forms::KeyHash;
+use mich_scenario::{FormError, Group, Statement, read_form};
+use std::alloc::Global;
+
+// Makes an account, or says why it can't be made.
+fn grant(world: &mut World, who: KeyHash, mutez: u64) -> Result<Option<FileFault>, Memory>
+    ensures { IfOk result (λ fault. IsGranting (granting (granted_to world.old who mutez)) world.new fault) }
+{
+    match world.grant(who, mutez)? {
+        Grant::Granted => Ok(None),
+        Grant::Repeated => Ok(Some(FileFault::RepeatedAccount)),
+        Grant::TooMuch => Ok(Some(FileFault::SupplyLimit)),
+    }
+}
+
+// Applies a group, and adds its line.
+fn apply(alloc: Global, world: &mut World, group: &Group, lines: &mut Texts) -> Result<(), Memory>
+    ensures line { OnOk result (lines.new ≡ lines.old ++ group_line (length lines.old + 1) (receipt_of world.old group.now.source (content_said group.now.content)) ∷ []) }
+    ensures world { OnOk result (world.new ≡ world_after world.old group.now.source (content_said group.now.content)) }
+{
+    let verdict = world.apply(group)?;
+    let number = lines.len() as u64 + 1;
+    lines.push(as_text(group_line(alloc, number, group, verdict)?))?;
+    Ok(())
+}
+
+fn step(
+    alloc: Global,
+    world: &mut Option<World>,
+    lines: &mut Texts,
+    statement: &Statement,
+) -> Result<Option<FileFault>, Memory>
+    ensures { IsTaken (step world.old (said statement.now)) lines.old world.new lines.new result }
+{
+    match world {
+        None => match statement {
+            Statement::Chain(id, level, moment) => {
+                *world = Some(World::new(alloc, *id, *level, *moment));
+                Ok(None)
+            }
+            _ => Ok(Some(FileFault::BadOrder)),
+        },
+        Some(found) => match statement {
+            Statement::Chain(_, _, _) => Ok(Some(FileFault::BadOrder)),
+            Statement::Account(who, mutez) => grant(found, *who, *mutez),
+            Statement::Group(group) => {
+                apply(alloc, found, group, lines)?;
+                Ok(None)
+            }
+        },
+    }
+}
+
+/// Takes a node as a statement: the world and the lines of the groups go on, or it is why the file is refused. After an
+/// `Err` both are given up.
+pub(crate) fn take(
+    alloc: Global,
+    world: &mut Option<World>,
+    lines: &mut Texts,
+    node: &Node,
+) -> Result<Option<FileFault>, Memory>
+    ensures { IsTaken (step_by world.old (form (tree node.now))) lines.old world.new lines.new result }
+{
+    match read_form(alloc, node) {
+        Ok(statement) => step(alloc, world, lines, &statement),
+        Err(FormError::BadStatement) => Ok(Some(FileFault::BadStatement)),
+        Err(FormError::Memory) => Err(Memory),
+    }
+}
