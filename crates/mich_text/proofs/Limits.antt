@@ -1,7 +1,7 @@
 -- What a text is, by what its front is up to the first byte past a limit.
 use Rattle.std.proofs.Common.{◌≡◌, ℕ, zero, suc, ◌+◌, ◌-◌, ◌≤◌, ◌<◌, ◌⊎◌, inl, inr, max, Bool, true, false, eqb, ltb, List, [], ◌∷◌, ◌++◌, length, take, drop, take-append-drop, Option, Some, None, Result, Ok, Err, refl, sym, ap, subst, ◌∙◌, arith}
 use Rattle.std.proofs.lemmas.Bool.{eqb-true, eqb-false, ltb-true, ltb-false, eq-eqb}
-use Rattle.std.proofs.lemmas.List.{length-append, length-drop}
+use Rattle.std.proofs.lemmas.List.{length-append, length-drop, take_all}
 use Rattle.std.proofs.lemmas.List.Sums.{prefix_len-le-length}
 use Rattle.std.proofs.Math.Seq.{drop-append_seam}
 use Rattle.std.specs.List.{prefix_len}
@@ -228,25 +228,25 @@ first_limit before text statement file s f some = by (ltb file statement) refl w
       let larger : file ≡ max statement file = omega (arith, ltb-false file statement e) in
       inr (subst (IsFileLimit before text) larger (f.0 (omega (arith, larger, some))))
 
-pub up_to : (before : ℕ) (text : List ℕ) (statement file : ℕ) → IsOnly (IsStatementLimit text) statement → IsOnly (IsFileLimit before text) file → statement ≤ length text → file ≤ length text → 0 < max statement file
-    → IsUpTo before text (take (length text - (max statement file - 1)) text) (max statement file - 1) (eqb file (max statement file))
-up_to before text statement file s f ws wf some =
-    let left = max statement file in
+pub up_to : (before : ℕ) (text : List ℕ) (statement file left : ℕ) → IsOnly (IsStatementLimit text) statement → IsOnly (IsFileLimit before text) file → statement ≤ length text → file ≤ length text → left ≡ max statement file → 0 < left
+    → IsUpTo before text (take (length text - (left - 1)) text) (left - 1) (eqb file left)
+up_to before text statement file left s f ws wf most some =
     let same : left ≡ 1 + (left - 1) = omega (arith, some) in
     let cut = length text - (left - 1) in
+    let first : IsLimit before text left = subst (IsLimit before text) (sym most) (first_limit before text statement file s f (omega (arith, most, some))) in
     record {
       more = drop cut text;
       text_is = sym (take-append-drop cut text);
-      behind_is = omega (arith, length-drop cut text, ws, wf);
-      limit = subst (IsLimit before text) same (first_limit before text statement file s f some);
+      behind_is = omega (arith, length-drop cut text, ws, wf, most);
+      limit = subst (IsLimit before text) same first;
       last = λ other l. last other l;
       file = λ e. subst (IsFileLimit before text) (eqb-true file left e ∙ same) (f.0 (omega (arith, eqb-true file left e, some)));
       no_file = λ e l. eqb-false file left e (sym (f.1 left (subst (IsFileLimit before text) (sym same) l)));
     }
   where
-    last : (other : ℕ) → IsLimit before text other → other ≤ 1 + (max statement file - 1)
-    last other (inl x) = omega (arith, s.1 other x, some)
-    last other (inr x) = omega (arith, f.1 other x, some)
+    last : (other : ℕ) → IsLimit before text other → other ≤ 1 + (left - 1)
+    last other (inl x) = omega (arith, s.1 other x, most, some)
+    last other (inr x) = omega (arith, f.1 other x, most, some)
 
 -- ---- places
 
@@ -263,8 +263,15 @@ fault_within before text k left (is_open p) = holds_within text k left (plain.is
 fault_within before text k left (unexpected p) = holds_within text k left (plain.unexpected p)
 fault_within before text k left (too_deep p) = holds_within text k left (plain.too_deep p)
 
-pub limited_within : (before : ℕ) (text : List ℕ) (r : Result (Option Found) LexError) → IsLimitedRead before text r → IsWithinText (length text) r
-limited_within before text (Ok None) p = tt
-limited_within before text (Ok (Some found)) p = stands_within text (tree found.node) found.start found.end p.stands
-limited_within before text (Err errors.Memory) p = tt
-limited_within before text (Err (errors.Flaw f)) p = fault_within before text f.kind f.left p.holds
+read_within : (before : ℕ) (text : List ℕ) (n : ℕ) → length text ≤ n → (r : Result (Option Found) LexError) → IsLimitedRead before text r → IsWithinText n r
+read_within before text n h (Ok None) p = tt
+read_within before text n h (Ok (Some found)) p = let w = stands_within text (tree found.node) found.start found.end p.stands in (omega (arith, w.0, h), omega (arith, w.1, h))
+read_within before text n h (Err errors.Memory) p = tt
+read_within before text n h (Err (errors.Flaw f)) p = omega (arith, fault_within before text f.kind f.left p.holds, h)
+
+pub limited_within : (before : ℕ) (bytes : List ℕ) (r : Result (Option Found) LexError) → IsLimitedRead before (drop before bytes) r → IsWithinText (length bytes) r
+limited_within before bytes r p = read_within before (drop before bytes) (length bytes) (omega (arith, length-drop before bytes)) r p
+
+-- the bytes from a place on, as a slice
+pub rest_all : (n : ℕ) (xs : List ℕ) → take (length xs - n) (drop n xs) ≡ drop n xs
+rest_all n xs = take_all (length xs - n) (drop n xs) (omega (arith, length-drop n xs))

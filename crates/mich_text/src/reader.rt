@@ -97,6 +97,7 @@ fn open_bytes(alloc: Global, front: &[u8], left: usize, behind: usize) -> LexErr
 fn fault_of(alloc: Global, front: &[u8], flaw: Flaw, behind: usize) -> LexError
     requires within { flaw.left ≤ length front.now }
     requires fits { length front.now + behind < 2 ^ 64 }
+    requires room { behind + 1 < 2 ^ 64 }
     ensures { (before : ℕ) (text : List ℕ) (ends_file : Bool) → IsUpTo before text front.now behind ends_file → IsFault front.now flaw.kind flaw.left → IsLimitedRead before text (Err result) }
 {
     if flaw.left <= 1 {
