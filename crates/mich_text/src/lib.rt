@@ -32,4 +32,6 @@ const STATEMENT_LIMIT: usize = 16_777_216;
 const FILE_LIMIT: usize = 1_073_741_824;
 
 #[cfg(test)]
+mod limit_tests;
+#[cfg(test)]
 mod tests;

@@ -134,7 +134,7 @@ fn statement_of(found: Found, behind: usize, ends_file: bool) -> Result<Option<F
 }
 
 /// The statement at the front of a text with a byte past a limit, behind the first of which so many bytes follow.
-fn statement_up_to(
+pub(crate) fn statement_up_to(
     alloc: Global,
     text: &[u8],
     behind: usize,
