@@ -22,3 +22,17 @@ pub mod Depths
 pub mod Printable
 pub mod Runs
 pub mod OneLine
+pub mod Cut
+pub mod Shown
+pub mod Suffix
+pub mod Odd
+pub mod Conditions
+pub mod Closed
+pub mod Limited
+pub mod Past
+pub mod Unlimited
+pub mod LastByte
+pub mod Flaws
+pub mod OddBytes
+pub mod OneReading
+pub mod Limits

@@ -13,14 +13,14 @@ use Rattle.mich_text.specs.Gives.{flaw_view}
 use Rattle.mich_text.specs.declared.fault.LexError.{LexError}
 use Rattle.mich_text.specs.declared.fault.LexError.TheVariants as errors
 use Rattle.rules_text.specs.declared.TextKind.TheVariants.{Unclosed}
-use Rattle.mich_text.specs.declared.reader.Found.{Found}
-use Rattle.mich_text.specs.declared.reader.Step.TheVariants.{Taken, Statement}
+use Rattle.mich_text.specs.declared.plain.Found.{Found}
+use Rattle.mich_text.specs.declared.plain.Step.TheVariants.{Taken, Statement}
 use Rattle.rules_text.specs.Fault.{depth_limit}
 use Rattle.mich_text.proofs.Complete.{run_none}
 use Rattle.mich_text.proofs.Places.{gap_le, token_shorter}
 use Rattle.mich_text.proofs.Whole.{NoStatement, still_none}
 use Rattle.mich_text.proofs.Reading.{At}
-use Rattle.mich_text.proofs.Verdict.{flawed_first, unexpected_here, deep_here, flawed_later, open_at_end, node_at_end, nothing_here, at_next, node_at_sign, comment_behind, holds_within, node_within}
+use Rattle.mich_text.proofs.Verdict.{flawed_first, unexpected_here, deep_here, flawed_later, open_at_end, unclosed_node, nothing_here, at_next, closed_node, comment_behind, holds_within, stands_within}
 
 none_yet : NoStatement []
 none_yet e more h = none (element_tokens e) h where
@@ -54,12 +54,12 @@ module _ (text here : List ℕ) (s : Stack) (at : (ts : List Token) × At text t
   pub comment : (r : Stack) (behind : _) → IsStep here s r (Ok (Taken behind)) → None ≡ after_gap behind.now → IsFault text Unclosed 0
   comment r behind p g = comment_behind text at.0 here s r behind.now p.0 at.1 p.1 p.2 (sym g) (lacks_more r behind p)
 
-  pub ends : (r : Stack) (behind : _) (first : List ℕ) (tree : Tree) → 0 < length here → IsStep here s r (Ok (Statement behind)) → Some first ≡ after_gap text → ((d : Tree) → tree ≡ ended_tree r d) → IsNode text tree (length first) (length behind.now)
-  ends r behind first tree some p g t = rw (t tree ∙ ap (λ (x : Stack). ended_tree x tree) p.4) (node_at_sign text at.0 here s p.0 first behind.now tree at.1 some (sym g) p.1 p.2 p.3)
+  pub ends : (r : Stack) (behind : _) (first : List ℕ) (tree : Tree) → 0 < length here → IsStep here s r (Ok (Statement behind)) → Some first ≡ after_gap text → ((d : Tree) → tree ≡ ended_tree r d) → (n : IsNode text tree (length first) (length behind.now)) × (0 < length n.stands.rest)
+  ends r behind first tree some p g t = rw (t tree ∙ ap (λ (x : Stack). ended_tree x tree) p.4) (closed_node text at.0 here s p.0 first behind.now tree at.1 some (sym g) p.1 p.2 p.3)
 
 module _ (text : List ℕ) (s r : Stack) (at : (ts : List Token) × At text ts [] s) (e : r ≡ finish s) where
-  pub last_node : (first : List ℕ) (tree : Tree) → has_statement r ≡ true → Some first ≡ after_gap text → ((d : Tree) → tree ≡ ended_tree r d) → IsNode text tree (length first) 0
-  last_node first tree h g t = rw (t tree ∙ ap (λ (x : Stack). ended_tree x tree) e) (node_at_end text at.0 s at.1 first tree (sym g) (ap has_statement (sym e) ∙ h))
+  pub last_node : (first : List ℕ) (tree : Tree) → has_statement r ≡ true → Some first ≡ after_gap text → ((d : Tree) → tree ≡ ended_tree r d) → (n : IsNode text tree (length first) 0) × (n.stands.rest ≡ [])
+  last_node first tree h g t = rw (t tree ∙ ap (λ (x : Stack). ended_tree x tree) e) (unclosed_node text at.0 s at.1 first tree (sym g) (ap has_statement (sym e) ∙ h))
 
   pub none_left : has_statement r ≡ false → is_root r ≡ true → IsEnd text
   none_left h i = nothing_here text at.0 s at.1 (ap is_root (sym e) ∙ i) (ap has_statement (sym e) ∙ h)
@@ -69,6 +69,6 @@ module _ (text : List ℕ) (s r : Stack) (at : (ts : List Token) × At text ts [
 
 pub read_within : (text : List ℕ) (r : Result (Option Found) LexError) → IsRead text r → IsWithinText (length text) r
 read_within text (Ok None) p = tt
-read_within text (Ok (Some found)) p = node_within text (tree found.node) found.start found.end p
+read_within text (Ok (Some found)) p = stands_within text (tree found.node) found.start found.end p.0.stands
 read_within text (Err errors.Memory) p = tt
 read_within text (Err (errors.Flaw f)) p = holds_within text f.kind f.left p.holds

@@ -10,7 +10,7 @@ use Rattle.rules_base.specs.Tree.{Tree, int, str, prim, seq, Trees, none, more}
 use Rattle.rules_text.specs.Token.{Token}
 use Rattle.rules_text.specs.Lexical.{is_word, is_noted}
 use Rattle.rules_text.specs.Printed.{spelling, string_text, bytes_text, annotations_text, in_parens, is_wrapped, printed, arguments_text, elements_text}
-use Rattle.mich_text.specs.Plain.{IsNode}
+use Rattle.rules_text.specs.Text.{IsNode}
 use Rattle.mich_text.specs.Line.{is_printing}
 use Rattle.mich_text.proofs.Printing.{IsAll, IsName, is_spelt, hexes, digits_pass}
 use Rattle.mich_text.proofs.Again.{IsToken, IsPrintable, ArePrintable}
@@ -115,5 +115,5 @@ all_of : (xs : List ℕ) → InLine xs → list_all is_printing xs ≡ true
 all_of [] h = refl
 all_of (x ∷ xs) h = both_true (is_printing x) (list_all is_printing xs) h.0 (all_of xs h.1)
 
-pub one_line : (text : List ℕ) (tree : Tree) (from end : ℕ) → IsNode text tree from end → list_all is_printing (printed tree) ≡ true
-one_line text tree from end n = all_of (printed tree) (line_in tree (node_printable text tree from end n))
+pub one_line : (before : ℕ) (text : List ℕ) (tree : Tree) (from end : ℕ) → IsNode before text tree from end → list_all is_printing (printed tree) ≡ true
+one_line before text tree from end n = all_of (printed tree) (line_in tree (node_printable before text tree from end n))

@@ -2,15 +2,14 @@
 use Rattle.std.proofs.Common.{◌≡◌, ℕ, ◌≤◌, ◌<◌, ◌⊎◌, inl, inr, List, [], ◌∷◌, ◌++◌, length, Option, Some, None, Result, Ok, Err, refl, sym, ap, subst, ◌∙◌, append_assoc, arith}
 use Rattle.std.specs.List.{AllByRecursion}
 use Rattle.rules_base.specs.Tree.{Tree, depth}
-use Rattle.rules_text.specs.Fault.{depth_limit}
+use Rattle.rules_text.specs.Fault.{depth_limit, statement_limit}
 use Rattle.rules_text.specs.Token.{Token, token_shape}
 use Rattle.rules_text.specs.Syntax.{Element, element_tokens, element_tree, element_depth, nothing, unended, IsFront}
 use Rattle.rules_text.specs.Lexical.{token_at}
 use Rattle.rules_text.specs.declared.Shape.{Shape}
 use Rattle.rules_text.specs.declared.TextKind.TheVariants.{TooDeep}
-use Rattle.rules_text.specs.Text.{Leads}
+use Rattle.rules_text.specs.Text.{Leads, IsNode, too_deep}
 use Rattle.rules_text.specs.Printed.{printed}
-use Rattle.mich_text.specs.Plain.{IsNode, too_deep}
 use Rattle.mich_text.specs.Machine.{Stack, Refusal, unexpected, ready_for, refused, put, step, run, start}
 use Rattle.mich_text.specs.Canonical.{element_of}
 use Rattle.mich_text.proofs.Complete.{run_none, run_front}
@@ -20,6 +19,7 @@ use Rattle.mich_text.proofs.Places.{token_shorter, token_shape_is}
 use Rattle.mich_text.proofs.Reading.{leads_le}
 use Rattle.mich_text.proofs.Verdict.{ends_le}
 use Rattle.mich_text.proofs.Unique.{one_tree}
+use Rattle.mich_text.proofs.Unlimited.{node_same, short_unlimited}
 use Rattle.mich_text.proofs.Again.{IsPrintable}
 use Rattle.mich_text.proofs.Good.{IsGood, leads_good}
 use Rattle.mich_text.proofs.Depths.{element_tree_depth, element_of_depth}
@@ -52,14 +52,14 @@ runs limit s [] = inl (s, run_none limit s)
 runs limit s (t ∷ ts) = one_step limit s t ts (step limit s t) refl (λ n. runs limit n ts)
 
 -- the place of one of the tokens that lead on
-record Passes (text : List ℕ) (before : List Token) (t : Token) (rest : List ℕ) : Type 0 where
-  here : List ℕ
-  behind : List ℕ
-  leads : Leads text before (Some here)
-  read : token_at here ≡ Ok (t, behind)
-  further : length rest < length here
+pub record Passes (text : List ℕ) (before : List Token) (t : Token) (rest : List ℕ) : Type 0 where
+  pub here : List ℕ
+  pub behind : List ℕ
+  pub leads : Leads text before (Some here)
+  pub read : token_at here ≡ Ok (t, behind)
+  pub further : length rest < length here
 
-passes : (text : List ℕ) (before behind : List Token) (t : Token) (rest : List ℕ) → Leads text (before ++ t ∷ behind) (Some rest) → Passes text before t rest
+pub passes : (text : List ℕ) (before behind : List Token) (t : Token) (rest : List ℕ) → Leads text (before ++ t ∷ behind) (Some rest) → Passes text before t rest
 passes text [] behind t rest p = record { here = p.0; behind = p.1; leads = p.2; read = p.3; further = omega (arith, token_shorter p.0 p.1 t p.3, leads_le p.1 behind rest p.4) }
 passes text (u ∷ before) behind t rest p =
     let q = passes p.1 before behind t rest p.4 in
@@ -79,11 +79,11 @@ refused_at limit s t r e = refusal_is (refused limit (ready_for (token_shape t) 
 statement_front : (e : Element) (before behind : List Token) (t : Token) → element_tokens e ≡ before ++ t ∷ behind → IsFront (before ++ t ∷ [])
 statement_front e before behind t f = record { whole = unended nothing e; more = behind; tokens = append_assoc before (t ∷ []) behind ∙ sym f }
 
-stopped : (text : List ℕ) (tree : Tree) (from end : ℕ) → (n : IsNode text tree from end) → (r : Refusal) → (q : Stops depth_limit start (element_tokens n.stands.statement.element)) → q.refusal ≡ r → ⊥
-stopped text tree from end n unexpected q e =
+stopped : (before : ℕ) (text : List ℕ) (tree : Tree) (from end : ℕ) → (n : IsNode before text tree from end) → (r : Refusal) → (q : Stops depth_limit start (element_tokens n.stands.statement.element)) → q.refusal ≡ r → ⊥
+stopped before text tree from end n unexpected q e =
     no_front depth_limit q.stack q.before q.token q.runs (refused_at depth_limit q.stack q.token unexpected (q.refuses ∙ ap (λ (x : Refusal). Err x) e))
     (statement_front n.stands.statement.element q.before q.behind q.token q.tokens)
-stopped text tree from end n Rattle.mich_text.specs.Machine.too_deep q e =
+stopped before text tree from end n Rattle.mich_text.specs.Machine.too_deep q e =
     let p = n.stands in
     let leads : Leads text (q.before ++ q.token ∷ q.behind) (Some p.rest) = subst (λ (l : List Token). Leads text l (Some p.rest)) (p.statement.tokens ∙ q.tokens) p.leads in
     let at = passes text q.before q.behind q.token p.rest leads in
@@ -105,30 +105,30 @@ stopped text tree from end n Rattle.mich_text.specs.Machine.too_deep q e =
     omega (arith, deep, at.further, ends_le p.rest end p.ends)
 
 -- the parser takes the tokens of a node that a text gives
-node_runs : (text : List ℕ) (tree : Tree) (from end : ℕ) → (n : IsNode text tree from end) → (r : Stack) × (run depth_limit start (element_tokens n.stands.statement.element) ≡ Ok r)
-node_runs text tree from end n = elim (runs depth_limit start (element_tokens n.stands.statement.element)) [
+node_runs : (before : ℕ) (text : List ℕ) (tree : Tree) (from end : ℕ) → (n : IsNode before text tree from end) → (r : Stack) × (run depth_limit start (element_tokens n.stands.statement.element) ≡ Ok r)
+node_runs before text tree from end n = elim (runs depth_limit start (element_tokens n.stands.statement.element)) [
   | inl p ↦ p
-  | inr q ↦ absurd (stopped text tree from end n q.refusal q refl)
+  | inr q ↦ absurd (stopped before text tree from end n q.refusal q refl)
 ]
 
-node_depth_within : (text : List ℕ) (tree : Tree) (from end : ℕ) → IsNode text tree from end → element_depth (element_of tree) ≤ depth_limit
-node_depth_within text tree from end n =
+node_depth_within : (before : ℕ) (text : List ℕ) (tree : Tree) (from end : ℕ) → IsNode before text tree from end → element_depth (element_of tree) ≤ depth_limit
+node_depth_within before text tree from end n =
     let s = n.stands.statement in
-    let r = node_runs text tree from end n in
+    let r = node_runs before text tree from end n in
     let w = statement_within depth_limit r.0 (element_tokens s.element) r.1 (statement_is depth_limit r.0 s.element r.1) in
     let same : tree ≡ element_tree w.0 = s.stands ∙ one_tree s.element w.0 w.1 in
     let shallow : depth tree ≤ element_depth w.0 = subst (λ (t : Tree). depth t ≤ element_depth w.0) (sym same) (element_tree_depth w.0) in
     omega (arith, element_of_depth tree, shallow, w.2)
 
-pub node_printable : (text : List ℕ) (tree : Tree) (from end : ℕ) → IsNode text tree from end → IsPrintable tree
-node_printable text tree from end n =
+pub node_printable : (before : ℕ) (text : List ℕ) (tree : Tree) (from end : ℕ) → IsNode before text tree from end → IsPrintable tree
+node_printable before text tree from end n =
     let p = n.stands in
     let s = p.statement in
     let good : AllByRecursion IsGood (element_tokens s.element) = subst (AllByRecursion IsGood) s.tokens (leads_good text p.tokens (Some p.rest) p.leads) in
     subst IsPrintable (sym s.stands) (element_printable s.element good)
 
--- the line of a node that a text gives is read as that node
-pub line_again : (text : List ℕ) (tree : Tree) (from end : ℕ) → IsNode text tree from end → IsNode (printed tree) tree (length (printed tree)) 0
-line_again text tree from end n =
-    let h = node_printable text tree from end n in
-    printed_again tree (printed tree) h (node_depth_within text tree from end n) (line_begins tree h)
+-- the line of a node that a text gives is read as that node, where it is no longer than a statement may be
+pub line_again : (before : ℕ) (text : List ℕ) (tree : Tree) (from end : ℕ) → IsNode before text tree from end → length (printed tree) ≤ statement_limit → IsNode 0 (printed tree) tree (length (printed tree)) 0
+line_again before text tree from end n short =
+    let h = node_printable before text tree from end n in
+    node_same 0 (printed tree) (short_unlimited (printed tree) short) tree (length (printed tree)) 0 (printed_again tree (printed tree) h (node_depth_within before text tree from end n) (line_begins tree h))

@@ -10,8 +10,8 @@ use Rattle.rules_text.specs.Fault.{Flaw}
 use Rattle.mich_text.specs.declared.fault.LexError.{LexError}
 use Rattle.mich_text.specs.declared.fault.LexError.TheVariants as errors
 use Rattle.rules_text.specs.declared.TextKind.TheVariants.{BadChar}
-use Rattle.mich_text.specs.declared.reader.Step.{Step as CodeStep}
-use Rattle.mich_text.specs.declared.reader.Step.TheVariants.{Taken, Statement}
+use Rattle.mich_text.specs.declared.plain.Step.{Step as CodeStep}
+use Rattle.mich_text.specs.declared.plain.Step.TheVariants.{Taken, Statement}
 use Rattle.rules_text.specs.Fault.{depth_limit}
 use Rattle.mich_text.proofs.Places.{token_shape_is}
 use Rattle.mich_text.proofs.Fronts.{step_ok}

@@ -8,7 +8,7 @@ use Rattle.mich_text.specs.Machine.{Stack, Refusal, finish, ended_tree, run, sta
 use Rattle.rules_text.specs.Lexical.{token_at, first_shape}
 use Rattle.rules_text.specs.Text.{Leads, IsInComment, IsOpen, EndsAt, Stands}
 use Rattle.rules_text.specs.declared.Shape.{Shape}
-use Rattle.mich_text.specs.Plain.{IsFlawed, Holds, flawed, in_comment, is_open, unexpected, too_deep, rank, IsFault, IsNode, IsEnd}
+use Rattle.mich_text.specs.Plain.{IsFlawed, Holds, flawed, in_comment, is_open, unexpected, too_deep, rank, IsEnd}
 use Rattle.rules_text.specs.Fault.{Flaw}
 use Rattle.rules_text.specs.declared.TextKind.{TextKind}
 use Rattle.rules_text.specs.declared.TextKind.TheVariants.{Unclosed, Unexpected, TooDeep}
@@ -17,18 +17,7 @@ use Rattle.mich_text.proofs.Places.{flaw_le, token_shorter, okay_is}
 use Rattle.mich_text.proofs.Reading.{From, compare}
 use Rattle.mich_text.proofs.Signs.{no_inner}
 
-pub no_fault_at_node : (text : List ℕ) (k : TextKind) (left : ℕ) (tree : Tree) (from end : ℕ) → IsFault text k left → IsNode text tree from end → ⊥
-no_fault_at_node text k left tree from end p q = omega (arith, p.within tree from end q.stands, q.clean k left p.holds)
-
-pub one_place : (text : List ℕ) (k j : TextKind) (left other : ℕ) → IsFault text k left → IsFault text j other → (left ≡ other) × (rank k ≡ rank j)
-one_place text k j left other p q = by (p.first j other q.holds) (q.first k left p.holds) where
-  by : (other < left) ⊎ ((other ≡ left) × (rank k ≤ rank j)) → (left < other) ⊎ ((left ≡ other) × (rank j ≤ rank k)) → (left ≡ other) × (rank k ≡ rank j)
-  by (inl x) (inl y) = (omega arith, omega arith)
-  by (inl x) (inr y) = (omega (arith, y.0), omega (arith, y.0))
-  by (inr x) (inl y) = (omega (arith, x.0), omega (arith, x.0))
-  by (inr x) (inr y) = (y.0, omega (arith, x.1, y.1))
-
-same_rest : (a b : List ℕ) → Some a ≡ Some b → a ≡ b
+pub same_rest : (a b : List ℕ) → Some a ≡ Some b → a ≡ b
 same_rest a b e = cc
 
 okay_stack : Stack → Result Stack Refusal
@@ -48,10 +37,10 @@ one_tree e f h =
     let same : p.0 ≡ q.0 = same_stack p.0 q.0 (sym p.1 ∙ ap (run high start) h ∙ q.1) in
     ap (λ s. ended_tree s (element_tree e)) (sym p.2 ∙ ap finish same ∙ q.2)
 
-no_token : (behind : List ℕ) (t : Token) → token_at [] ≡ Ok (t, behind) → ⊥
+pub no_token : (behind : List ℕ) (t : Token) → token_at [] ≡ Ok (t, behind) → ⊥
 no_token behind t e = omega (arith, token_shorter [] behind t e)
 
-end_token : (rest behind : List ℕ) (end : ℕ) (t : Token) → EndsAt rest end → token_at rest ≡ Ok (t, behind) → t ≡ Token.semicolon
+pub end_token : (rest behind : List ℕ) (end : ℕ) (t : Token) → EndsAt rest end → token_at rest ≡ Ok (t, behind) → t ≡ Token.semicolon
 end_token [] behind end t p e = absurd (no_token behind t e)
 end_token (c ∷ rest) behind end t p e = ap (λ (x : Token × List ℕ). x.0) (okay_is (t, behind) (Token.semicolon, p.0) (sym e ∙ p.1))
 
@@ -90,7 +79,7 @@ same_kind : (k j : TextKind) (a b : ℕ) → wrongly (record { kind = k; left = 
 unfolding wrongly
 same_kind k j a b e = ap (λ (d : Flaw). d.kind) (flaw_is (record { kind = k; left = a }) (record { kind = j; left = b }) e)
 
-clash : (x : List ℕ) {r : Token × List ℕ} {d : Flaw} → token_at x ≡ Err d → token_at x ≡ Ok r → ⊥
+pub clash : (x : List ℕ) {r : Token × List ℕ} {d : Flaw} → token_at x ≡ Err d → token_at x ≡ Ok r → ⊥
 clash x f g = cc (sym f ∙ g)
 
 module _ (text : List ℕ) (k j : TextKind) (left other : ℕ) where
@@ -167,18 +156,17 @@ by_sorts text k j left other e (deep a) (open_still q b) = absurd (omega (arith,
 by_sorts text k j left other e (deep a) (placeless b) = absurd (omega (arith, ranks k j 2 1 e (ap rank a) (ap rank b)))
 by_sorts text k j left other e (deep a) (deep b) = a ∙ sym b
 
-pub one_fault : (text : List ℕ) (k j : TextKind) (left other : ℕ) → IsFault text k left → IsFault text j other → (left ≡ other) × (k ≡ j)
-one_fault text k j left other p q =
-    let same = one_place text k j left other p q in
-    (same.0, by_sorts text k j left other same.1 (sort_of text k left p.holds) (sort_of text j other q.holds))
+-- two conditions of one rank at one place are of one kind
+pub one_kind : (text : List ℕ) (k j : TextKind) (left other : ℕ) → rank k ≡ rank j → Holds text k left → Holds text j other → k ≡ j
+one_kind text k j left other e p q = by_sorts text k j left other e (sort_of text k left p) (sort_of text j other q)
 
 -- ---- the end is neither
 
-end_leads : (text : List ℕ) (ts : List Token) (o : Option (List ℕ)) → IsEnd text → Leads text ts o → (ts ≡ []) × (o ≡ Some [])
+pub end_leads : (text : List ℕ) (ts : List Token) (o : Option (List ℕ)) → IsEnd text → Leads text ts o → (ts ≡ []) × (o ≡ Some [])
 end_leads text [] o e p = (refl, sym p ∙ e)
 end_leads text (t ∷ ts) o e p = absurd (no_token p.1 t (ap token_at (same_rest [] p.0 (sym e ∙ p.2)) ∙ p.3))
 
-no_tokens : (e : Element) → element_tokens e ≡ [] → ⊥
+pub no_tokens : (e : Element) → element_tokens e ≡ [] → ⊥
 no_tokens (alone (number n)) h = omega (arith, ap (λ (l : List Token). length l) h)
 no_tokens (alone (bytes b)) h = omega (arith, ap (λ (l : List Token). length l) h)
 no_tokens (alone (string s)) h = omega (arith, ap (λ (l : List Token). length l) h)
@@ -187,21 +175,16 @@ no_tokens (alone (braces s)) h = omega (arith, ap (λ (l : List Token). length l
 no_tokens (alone (braces_to s e)) h = omega (arith, ap (λ (l : List Token). length l) h)
 no_tokens (application n i) h = omega (arith, ap (λ (l : List Token). length l) h)
 
-pub no_node_at_end : (text : List ℕ) (tree : Tree) (from end : ℕ) → IsEnd text → IsNode text tree from end → ⊥
-no_node_at_end text tree from end e p =
-    let s = p.stands in
-    no_tokens s.statement.element (sym s.statement.tokens ∙ (end_leads text s.tokens (Some s.rest) e s.leads).0)
+pub no_statement_at_end : (text : List ℕ) (tree : Tree) (from end : ℕ) → IsEnd text → Stands text tree from end → ⊥
+no_statement_at_end text tree from end e s = no_tokens s.statement.element (sym s.statement.tokens ∙ (end_leads text s.tokens (Some s.rest) e s.leads).0)
 
 no_shape : (here : List ℕ) (shape : Shape) → Some here ≡ Some [] → first_shape here ≡ Some shape → ⊥
 no_shape [] shape e h = cc h
 no_shape (c ∷ here) shape e h = omega (arith, ap (λ (l : List ℕ). length l) (same_rest (c ∷ here) [] e))
 
-nothing_holds : (text : List ℕ) (k : TextKind) (left : ℕ) → IsEnd text → Holds text k left → ⊥
+pub nothing_holds : (text : List ℕ) (k : TextKind) (left : ℕ) → IsEnd text → Holds text k left → ⊥
 nothing_holds text k left e (flawed p) = omega (arith, p.some, ap (λ (l : List ℕ). length l) (same_rest p.here [] (end_leads text p.before (Some p.here) e p.leads).1))
 nothing_holds text k left e (in_comment p) = cc (end_leads text p.before None e p.leads).1
 nothing_holds text k left e (is_open p) = p.open_still (record { whole = ended nothing; tokens = (end_leads text p.before (Some []) e p.leads).0 })
 nothing_holds text k left e (unexpected p) = no_shape p.here p.shape (end_leads text p.before (Some p.here) e p.leads).1 p.begins
 nothing_holds text k left e (too_deep p) = no_shape p.here p.shape (end_leads text p.before (Some p.here) e p.leads).1 p.begins
-
-pub no_fault_at_end : (text : List ℕ) (k : TextKind) (left : ℕ) → IsEnd text → IsFault text k left → ⊥
-no_fault_at_end text k left e p = nothing_holds text k left e p.holds

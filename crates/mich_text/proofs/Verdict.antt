@@ -253,11 +253,17 @@ module _ (text : List ℕ) (ts : List Token) (s : Stack) (a : At text ts [] s) w
       by (t ∷ more) g e = no_more t more _ g
 
   -- behind a statement without `;`
+  pub unclosed_node : (first : List ℕ) (d : Tree) → after_gap text ≡ Some first → has_statement (finish s) ≡ true → (n : IsNode text (ended_tree (finish s) d) (length first) 0) × (n.stands.rest ≡ [])
+  unclosed_node first d begins h = (
+    record {
+      stands = record { tokens = ts; first = first; rest = []; begins = begins; leads = a.leads; statement = is_statement depth_limit s ts d a.runs h; start_is = refl; ends = refl };
+      clean = λ k left p. omega (arith, ends_here k left (further text ts [] s k left a p));
+    },
+    refl,
+  )
+
   pub node_at_end : (first : List ℕ) (d : Tree) → after_gap text ≡ Some first → has_statement (finish s) ≡ true → IsNode text (ended_tree (finish s) d) (length first) 0
-  node_at_end first d begins h = record {
-    stands = record { tokens = ts; first = first; rest = []; begins = begins; leads = a.leads; statement = is_statement depth_limit s ts d a.runs h; start_is = refl; ends = refl };
-    clean = λ k left p. omega (arith, ends_here k left (further text ts [] s k left a p));
-  }
+  node_at_end first d begins h = (unclosed_node first d begins h).0
 
   -- nothing was read
   pub nothing_here : is_root (finish s) ≡ true → has_statement (finish s) ≡ false → IsEnd text
@@ -295,13 +301,20 @@ module _ (text : List ℕ) (ts : List Token) (here : List ℕ) (s : Stack) (a : 
   at_next next g lacks = record { leads = leads_more text ts here behind t (Some next) a.leads e g; runs = run_more depth_limit start s r ts t a.runs taken; lacks = lacks }
 
 -- a statement with its `;`
+pub closed_node : (text : List ℕ) (ts : List Token) (here : List ℕ) (s r : Stack) (first behind : List ℕ) (d : Tree) → At text ts here s → 0 < length here → after_gap text ≡ Some first → token_at here ≡ Ok (Token.semicolon, behind) → step depth_limit s Token.semicolon ≡ Ok r → has_statement (finish s) ≡ true
+    → (n : IsNode text (ended_tree (finish s) d) (length first) (length behind)) × (0 < length n.stands.rest)
+closed_node text ts [] s r first behind d a some begins e taken h = absurd (omega arith)
+closed_node text ts (c ∷ here) s r first behind d a some begins e taken h = (
+  record {
+    stands = record { tokens = ts; first = first; rest = c ∷ here; begins = begins; leads = a.leads; statement = is_statement depth_limit s ts d a.runs h; start_is = refl; ends = (behind, e, refl) };
+    clean = λ k left p. behind_here text ts (c ∷ here) s a behind Token.semicolon e r taken k left (further text ts (c ∷ here) s k left a p);
+  },
+  some,
+)
+
 pub node_at_sign : (text : List ℕ) (ts : List Token) (here : List ℕ) (s r : Stack) (first behind : List ℕ) (d : Tree) → At text ts here s → 0 < length here → after_gap text ≡ Some first → token_at here ≡ Ok (Token.semicolon, behind) → step depth_limit s Token.semicolon ≡ Ok r → has_statement (finish s) ≡ true
     → IsNode text (ended_tree (finish s) d) (length first) (length behind)
-node_at_sign text ts [] s r first behind d a some begins e taken h = absurd (omega arith)
-node_at_sign text ts (c ∷ here) s r first behind d a some begins e taken h = record {
-  stands = record { tokens = ts; first = first; rest = c ∷ here; begins = begins; leads = a.leads; statement = is_statement depth_limit s ts d a.runs h; start_is = refl; ends = (behind, e, refl) };
-  clean = λ k left p. behind_here text ts (c ∷ here) s a behind Token.semicolon e r taken k left (further text ts (c ∷ here) s k left a p);
-}
+node_at_sign text ts here s r first behind d a some begins e taken h = (closed_node text ts here s r first behind d a some begins e taken h).0
 
 -- ---- block comments that don't end
 
@@ -367,5 +380,5 @@ holds_within text k left (is_open p) = omega (arith, p.left_is)
 holds_within text k left (is_unexpected p) = omega (arith, p.left_is, leads_le text p.before p.here p.leads)
 holds_within text k left (is_too_deep p) = omega (arith, p.left_is, leads_le text p.before p.here p.leads)
 
-pub node_within : (text : List ℕ) (tree : Tree) (start end : ℕ) → IsNode text tree start end → (start ≤ length text) × (end ≤ length text)
-node_within text tree start end p = let s = p.stands in (omega (arith, s.start_is, gap_le text s.first s.begins), omega (arith, ends_le s.rest end s.ends, leads_le text s.tokens s.rest s.leads))
+pub stands_within : (text : List ℕ) (tree : Tree) (start end : ℕ) → Stands text tree start end → (start ≤ length text) × (end ≤ length text)
+stands_within text tree start end s = (omega (arith, s.start_is, gap_le text s.first s.begins), omega (arith, ends_le s.rest end s.ends, leads_le text s.tokens s.rest s.leads))

@@ -7,3 +7,5 @@ pub mod Views
 pub mod Nodes
 pub mod Results
 pub mod Canonical
+pub mod Shown
+pub mod Limited

@@ -1,9 +1,10 @@
 -- What the reader's functions return.
-use Rattle.std.specs.Prelude.{◌≡◌, ℕ, ◌+◌, ◌≤◌, List, length, drop, true, false, nat_eq, Option, Some, None, Result, Ok, Err, if◌then◌else◌}
+use Rattle.std.specs.Prelude.{◌≡◌, ℕ, ◌+◌, ◌≤◌, ◌<◌, List, [], length, drop, Bool, true, false, nat_eq, Option, Some, None, Result, Ok, Err, if◌then◌else◌}
 use Rattle.rules_text.specs.Token.{Token}
 use Rattle.mich_text.specs.Machine.{Stack, Refusal, unexpected, too_deep, finish, has_statement, ready_for, refused, put, step}
 use Rattle.rules_text.specs.Lexical.{token_at, first_shape}
 use Rattle.mich_text.specs.Plain.{IsFault, IsNode, IsEnd}
+use Rattle.rules_text.specs.Text as within
 use Rattle.mich_base.specs.View.{tree}
 use Rattle.mich_text.specs.Gives.{flaw_view}
 use Rattle.rules_text.specs.declared.Shape.{Shape}
@@ -12,12 +13,12 @@ use Rattle.mich_text.specs.declared.fault.LexError.{LexError}
 use Rattle.mich_text.specs.declared.fault.LexError.TheVariants as errors
 use Rattle.rules_text.specs.declared.TextKind.{TextKind}
 use Rattle.rules_text.specs.declared.TextKind.TheVariants.{Unexpected, TooDeep}
-use Rattle.mich_text.specs.declared.reader.Found.{Found}
+use Rattle.mich_text.specs.declared.plain.Found.{Found}
 use Rattle.mich_text.specs.declared.reader.Placed.{Placed}
 use Rattle.mich_text.specs.declared.fault.TextError.{TextError}
 use Rattle.mich_text.specs.declared.fault.TextError.TheVariants as texts
-use Rattle.mich_text.specs.declared.reader.Step.{Step as CodeStep}
-use Rattle.mich_text.specs.declared.reader.Step.TheVariants.{Taken, Statement}
+use Rattle.mich_text.specs.declared.plain.Step.{Step as CodeStep}
+use Rattle.mich_text.specs.declared.plain.Step.TheVariants.{Taken, Statement}
 use Rattle.rules_text.specs.Fault.{depth_limit}
 
 abbrev pub kind_of : Refusal → TextKind
@@ -50,10 +51,15 @@ IsStep here s r (Ok (Statement behind)) = (next : Stack) × (token_at here ≡ O
 IsStep here s r (Err errors.Memory) = Unit {0}
 IsStep here s r (Err (errors.Flaw f)) = Refuses here s (flaw_view f)
 
--- what the text is
+-- whether the statement ends with its `;`, which the rest begins with, or with the input
+abbrev pub EndsClosed : Bool → List ℕ → Type 0
+EndsClosed true rest = 0 < length rest
+EndsClosed false rest = rest ≡ []
+
+-- what the text is, where no limit is looked at
 abbrev pub IsRead : List ℕ → Result (Option Found) LexError → Type 0
 IsRead text (Ok None) = IsEnd text
-IsRead text (Ok (Some found)) = IsNode text (tree found.node) found.start found.end
+IsRead text (Ok (Some found)) = (n : IsNode text (tree found.node) found.start found.end) × EndsClosed found.closed n.stands.rest
 IsRead text (Err errors.Memory) = Unit {0}
 IsRead text (Err (errors.Flaw f)) = IsFault text f.kind f.left
 
@@ -64,9 +70,16 @@ IsWithinText n (Ok (Some found)) = (found.start ≤ n) × (found.end ≤ n)
 IsWithinText n (Err errors.Memory) = Unit {0}
 IsWithinText n (Err (errors.Flaw f)) = f.left ≤ n
 
+-- what the text is, where so many bytes of the file stand before it
+abbrev pub IsLimitedRead : ℕ → List ℕ → Result (Option Found) LexError → Type 0
+IsLimitedRead before text (Ok None) = within.IsEnd before text
+IsLimitedRead before text (Ok (Some found)) = within.IsNode before text (tree found.node) found.start found.end
+IsLimitedRead before text (Err errors.Memory) = Unit {0}
+IsLimitedRead before text (Err (errors.Flaw f)) = within.IsFault before text f.kind f.left
+
 -- What the text of a file is from a place on, where a statement begins.
 abbrev pub IsText : List ℕ → ℕ → Result (Option Placed) TextError → Type 0
-IsText b p (Ok None) = IsEnd (drop p b)
-IsText b p (Ok (Some placed)) = (start : ℕ) × (end : ℕ) × IsNode (drop p b) (tree placed.node) start end × (placed.start + start ≡ length b) × (placed.end + end ≡ length b)
+IsText b p (Ok None) = within.IsEnd p (drop p b)
+IsText b p (Ok (Some placed)) = (start : ℕ) × (end : ℕ) × within.IsNode p (drop p b) (tree placed.node) start end × (placed.start + start ≡ length b) × (placed.end + end ≡ length b)
 IsText b p (Err texts.Memory) = Unit {0}
-IsText b p (Err (texts.Fault kind place)) = (left : ℕ) × IsFault (drop p b) kind left × (place + left ≡ length b)
+IsText b p (Err (texts.Fault kind place)) = (left : ℕ) × within.IsFault p (drop p b) kind left × (place + left ≡ length b)

@@ -1,14 +1,29 @@
 //! Laws of texts and of printed lines.
-ghost use Rattle.std.specs.Prelude.{◌≡◌, ℕ, List, length, true};
+ghost use Rattle.std.specs.Prelude.{◌≡◌, ◌≤◌, ℕ, List, length, true};
 ghost use Rattle.std.specs.List.{list_all};
 ghost use Rattle.rules_base.specs.Tree.{Tree};
+ghost use Rattle.rules_text.specs.Fault.{statement_limit};
 ghost use Rattle.rules_text.specs.Printed.{printed};
+ghost use Rattle.rules_text.specs.Text.{Stands, IsFault, IsNode, IsEnd};
+ghost use Rattle.rules_text.specs.declared.TextKind.{TextKind};
 ghost use Rattle.mich_text.specs.Line.{is_printing};
-ghost use Rattle.mich_text.specs.Plain.{IsNode};
 
-/// The line of a node that a text gives is by itself, from its first byte to its last, a text of that node,
-/// and has only bytes that ASCII prints.
+/// A law, with nothing to run: a text is one thing only, ended, one node at one place, or one fault at one place.
+pub fn one_reading()
+    // one fault
+    ensures faults { (before : ℕ) (text : List ℕ) (k j : TextKind) (left other : ℕ) → IsFault before text k left → IsFault before text j other → (left ≡ other) × (k ≡ j) }
+    // one node, from one place to another
+    ensures nodes { (text : List ℕ) (x y : Tree) (a b c d : ℕ) → Stands text x a b → Stands text y c d → (x ≡ y) × (a ≡ c) × (b ≡ d) }
+    // and not both
+    ensures apart { (before : ℕ) (text : List ℕ) (k : TextKind) (left : ℕ) (tree : Tree) (start end : ℕ) → IsFault before text k left → IsNode before text tree start end → ⊥ }
+    // nor either of them where the text is ended
+    ensures no_node_at_end { (before : ℕ) (text : List ℕ) (tree : Tree) (start end : ℕ) → IsEnd before text → IsNode before text tree start end → ⊥ }
+    ensures no_fault_at_end { (before : ℕ) (text : List ℕ) (k : TextKind) (left : ℕ) → IsEnd before text → IsFault before text k left → ⊥ }
+{}
+
+/// The line of a node that a text gives has only bytes that ASCII prints. By itself it is a text of that node, from its first
+/// byte to its last, where it is no longer than a statement may be.
 pub fn a_line_is_read_again()
-    ensures again { (text : List ℕ) (tree : Tree) (start end : ℕ) → IsNode text tree start end → IsNode (printed tree) tree (length (printed tree)) 0 }
-    ensures one_line { (text : List ℕ) (tree : Tree) (start end : ℕ) → IsNode text tree start end → list_all is_printing (printed tree) ≡ true }
+    ensures again { (before : ℕ) (text : List ℕ) (tree : Tree) (start end : ℕ) → IsNode before text tree start end → length (printed tree) ≤ statement_limit → IsNode 0 (printed tree) tree (length (printed tree)) 0 }
+    ensures one_line { (before : ℕ) (text : List ℕ) (tree : Tree) (start end : ℕ) → IsNode before text tree start end → list_all is_printing (printed tree) ≡ true }
 {}

@@ -280,7 +280,7 @@ fn begins_word(text: &[u8]) -> bool
 }
 
 #[tactic(auto, using(crate::proofs::Strings::prefix_laws))]
-fn hex_len(text: &[u8]) -> usize
+pub(crate) fn hex_len(text: &[u8]) -> usize
     ensures is { result ≡ prefix_len is_ascii_hexdigit text.now }
     ensures within { result ≤ length text.now }
 {

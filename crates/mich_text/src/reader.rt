@@ -1,35 +1,19 @@
-//! Reading one statement.
-ghost use Rattle.std.specs.Prelude.{◌≡◌, ◌+◌, ◌<◌, ◌≤◌, ◌↔◌, option_map, length, IsTrue, OnOk, Ok, None};
-ghost use Rattle.std.specs.Prelude.{ℕ, List};
-ghost use Rattle.rules_base.specs.Tree.{Tree};
-ghost use Rattle.rules_text.specs.Text.{Stands};
-ghost use Rattle.mich_text.specs.Plain.{IsEnd, IsFault, IsNode};
+//! Reading one statement, within the limits of a statement and of a file.
+ghost use Rattle.std.specs.Prelude.{◌≡◌, ℕ, ◌+◌, ◌-◌, ◌^◌, ◌<◌, ◌≤◌, Bool, List, length, take, drop, true, false, MatchBool, Ok, Some, Err};
+ghost use Rattle.rules_text.specs.Text.{IsStatementLimit, IsFileLimit};
 ghost use Rattle.rules_text.specs.declared.TextKind.{TextKind};
-ghost use Rattle.rules_text.specs.Token.{token_shape, semicolon};
-ghost use Rattle.mich_text.specs.Machine.{ready_for};
-ghost use Rattle.mich_base.specs.View.{tree};
-ghost use Rattle.mich_text.specs.Gives.{flaw_view};
-ghost use Rattle.mich_text.specs.Nodes.{stack_view, refusal_view};
-ghost use Rattle.mich_text.specs.Results.{kind_of, first_flaw, IsPlaced, IsStep, IsRead, IsWithinText, IsText};
-ghost use Rattle.mich_text.specs.Views.{token_view};
+ghost use Rattle.mich_text.specs.Plain.{IsFault};
+ghost use Rattle.mich_text.specs.Shown.{IsOpenBytes};
+ghost use Rattle.mich_text.specs.Limited.{IsOnly, IsUpTo};
+ghost use Rattle.mich_text.specs.Results.{IsRead, IsWithinText, IsLimitedRead, IsText};
 
 use super::fault::{Flaw, LexError, TextError};
-use super::lexical::{after_gap, shape_of, token_at};
-use super::parser::{
-    Frame, Refusal, ended_node, finish, has_statement, is_root, put, start, why_not,
-};
-use super::token::Token;
-use mich_base::{Memory, Node};
-use rules_text::{Shape, TextKind};
+use super::lexical::{after_gap, hex_len};
+use super::plain::{Found, statement_at, statement_within};
+use super::{FILE_LIMIT, STATEMENT_LIMIT};
+use mich_base::Node;
+use rules_text::TextKind;
 use std::alloc::Global;
-
-/// A statement, by the bytes that are left at its first byte and behind it.
-#[derive(Debug, Drop)]
-pub struct Found {
-    pub node: Node,
-    pub start: usize,
-    pub end: usize,
-}
 
 /// A statement with its places, in bytes from 0: that of its first byte, and the one behind its `;`, or the length of the
 /// input where it has none.
@@ -40,153 +24,160 @@ pub struct Placed {
     pub node: Node,
 }
 
-/// What one token brought.
-enum Step<'a> {
-    Taken(&'a [u8]),
-    /// It ended the statement.
-    Statement(&'a [u8]),
-}
-
-fn kind_of(refusal: Refusal) -> TextKind
-    ensures { result ≡ kind_of (refusal_view refusal) }
+/// How many bytes are left at the first one past the limit of the statement that begins here, or 0 where it has none.
+fn statement_limit(text: &[u8]) -> usize
+    ensures only { IsOnly (IsStatementLimit text.now) result }
+    ensures within { result ≤ length text.now }
 {
-    match refusal {
-        Refusal::Unexpected => TextKind::Unexpected,
-        Refusal::TooDeep => TextKind::TooDeep,
+    match after_gap(text) {
+        Some(first) => first.len().saturating_sub(STATEMENT_LIMIT),
+        None => 0,
     }
 }
 
-/// Of a token's own flaw and the refusal of its place, the one that comes first.
-fn first_flaw(own: Flaw, refusal: Option<Refusal>, left: usize) -> Flaw
-    ensures { flaw_view result ≡ first_flaw (flaw_view own) (option_map refusal_view refusal) left }
+/// The same of the file, from a place on.
+fn file_limit(bytes: &[u8], place: usize) -> usize
+    requires { place ≤ length bytes.now }
+    ensures only { IsOnly (IsFileLimit place (drop place bytes.now)) result }
+    ensures within { result + place ≤ length bytes.now }
 {
-    match refusal {
-        Some(refusal) if own.left != left => Flaw {
-            kind: kind_of(refusal),
-            left,
-        },
-        _ => own,
+    if place <= FILE_LIMIT {
+        bytes.len().saturating_sub(FILE_LIMIT)
+    } else {
+        0
     }
 }
 
-/// Ends an application that isn't in parentheses before a sign that ends an element.
-fn ready_for(shape: Shape, stack: &mut Vec<Frame>) -> Result<(), Memory>
-    ensures { OnOk result (stack_view stack.new.items ≡ ready_for shape (stack_view stack.old.items)) }
+/// Whether a flaw is one of bytes whose digits go on to the end: one more of them may mend it.
+fn is_open_bytes(here: &[u8], kind: TextKind) -> bool
+    requires { 2 ≤ length here.now }
+    ensures { MatchBool result (IsOpenBytes here.now kind) (IsOpenBytes here.now kind → ⊥) }
 {
-    match shape {
-        Shape::CloseBrace | Shape::Semicolon => finish(stack),
-        _ => Ok(()),
-    }
+    let (_, digits) = here.split_at(2);
+    matches!(kind, TextKind::BadBytes) && hex_len(digits) == digits.len()
 }
 
-fn is_semicolon(token: &Token) -> bool
-    ensures { IsTrue result ↔ (token_view token.now ≡ semicolon) }
-{
-    matches!(token, Token::Semicolon)
-}
-
-/// Takes a token that can stand here, or ends the statement.
-fn place_token<'a>(
-    alloc: Global,
-    stack: &mut Vec<Frame>,
-    token: Token,
-    behind: &'a [u8],
-) -> Result<Step<'a>, LexError>
-    ensures { IsPlaced (token_view token) behind.now (stack_view stack.old.items) (stack_view stack.new.items) result }
-{
-    let ends = is_semicolon(&token);
-    if ends && has_statement(stack) {
-        return Ok(Step::Statement(behind));
-    }
-    put(alloc, stack, token)?;
-    Ok(Step::Taken(behind))
-}
-
-/// Takes the token that the text begins with.
-fn take_token<'a>(
-    alloc: Global,
-    stack: &mut Vec<Frame>,
-    here: &'a [u8],
-) -> Result<Step<'a>, LexError>
-    requires { 0 < length here.now }
-    ensures { IsStep here.now (stack_view stack.old.items) (stack_view stack.new.items) result }
-{
-    let Some(shape) = shape_of(here[0]) else {
-        return Err(LexError::Flaw(Flaw {
-            kind: TextKind::BadChar,
-            left: here.len(),
-        }));
-    };
-    ready_for(shape, stack)?;
-    let refusal = why_not(stack, shape);
-    match token_at(alloc, here) {
-        Err(LexError::Memory) => Err(LexError::Memory),
-        Err(LexError::Flaw(own)) => Err(LexError::Flaw(first_flaw(own, refusal, here.len()))),
-        Ok((token, behind)) => match refusal {
-            Some(refusal) => Err(LexError::Flaw(Flaw {
-                kind: kind_of(refusal),
-                left: here.len(),
-            })),
-            None => place_token(alloc, stack, token, behind),
-        },
-    }
-}
-
-/// Where the input ends in what isn't closed.
-fn unclosed() -> LexError
-    ensures { result ≡ LexError.Flaw (record { kind = TextKind.Unclosed; left = 0 }) }
+/// Where the text goes on past a limit, and so many bytes follow the first one past it.
+fn too_long(behind: usize) -> LexError
+    requires { behind + 1 < 2 ^ 64 }
+    ensures { result ≡ LexError.Flaw (record { kind = TextKind.TooLong; left = 1 + behind }) }
 {
     LexError::Flaw(Flaw {
-        kind: TextKind::Unclosed,
-        left: 0,
+        kind: TextKind::TooLong,
+        left: behind + 1,
     })
 }
 
-/// The statement at the front of the text.
-pub fn statement_at(alloc: Global, text: &[u8]) -> Result<Option<Found>, LexError>
-    ensures { IsRead text.now result }
+/// What the text is, where it has at a place bytes whose digits go on to the limit, and no pair for the last of them.
+/// They are read without it, and so only their place can be wrong.
+fn open_bytes(alloc: Global, front: &[u8], left: usize, behind: usize) -> LexError
+    requires long { 1 < left }
+    requires within { left ≤ length front.now }
+    requires fits { length front.now + behind < 2 ^ 64 }
+    ensures { (before : ℕ) (text : List ℕ) (ends_file : Bool) → IsUpTo before text front.now behind ends_file → IsFault front.now TextKind.BadBytes left → IsOpenBytes (drop (length front.now - left) front.now) TextKind.BadBytes
+        → IsLimitedRead before text (Err result) }
 {
-    let Some(first) = after_gap(text) else {
-        return Err(unclosed());
-    };
-    let mut stack = start(alloc)?;
-    let mut here = first;
-    'tokens: while !here.is_empty() {
-        let behind = match take_token(alloc, &mut stack, here)? {
-            Step::Taken(behind) => behind,
-            Step::Statement(behind) => {
-                return Ok(Some(Found {
-                    node: ended_node(stack),
-                    start: first.len(),
-                    end: behind.len(),
-                }));
+    match statement_within(alloc, &front[..front.len() - 1]) {
+        Ok(_) => too_long(behind),
+        Err(LexError::Memory) => LexError::Memory,
+        Err(LexError::Flaw(flaw)) => {
+            if flaw.left + 1 == left {
+                LexError::Flaw(Flaw {
+                    kind: flaw.kind,
+                    left: left + behind,
+                })
+            } else {
+                too_long(behind)
             }
-        };
-        let Some(next) = after_gap(behind) else {
-            return Err(unclosed());
-        };
-        here = next;
-    }
-    finish(&mut stack)?;
-    if has_statement(&stack) {
-        Ok(Some(Found {
-            node: ended_node(stack),
-            start: first.len(),
-            end: 0,
-        }))
-    } else if is_root(&stack) {
-        Ok(None)
-    } else {
-        Err(unclosed())
+        }
     }
 }
 
-#[tactic(auto, using(crate::proofs::Loop::read_within))]
-fn statement_within(alloc: Global, text: &[u8]) -> Result<Option<Found>, LexError>
-    ensures read { IsRead text.now result }
-    ensures within { IsWithinText (length text.now) result }
+/// What the text is, where its front has a fault.
+fn fault_of(alloc: Global, front: &[u8], flaw: Flaw, behind: usize) -> LexError
+    requires within { flaw.left ≤ length front.now }
+    requires fits { length front.now + behind < 2 ^ 64 }
+    requires room { behind + 1 < 2 ^ 64 }
+    ensures { (before : ℕ) (text : List ℕ) (ends_file : Bool) → IsUpTo before text front.now behind ends_file → IsFault front.now flaw.kind flaw.left → IsLimitedRead before text (Err result) }
 {
-    statement_at(alloc, text)
+    if flaw.left <= 1 {
+        return too_long(behind);
+    }
+    if is_open_bytes(&front[front.len() - flaw.left..], flaw.kind) {
+        return open_bytes(alloc, front, flaw.left, behind);
+    }
+    LexError::Flaw(Flaw {
+        kind: flaw.kind,
+        left: flaw.left + behind,
+    })
+}
+
+/// What the text is, where its front has a statement: it has its `;`, which may stand at a statement's limit and not at the
+/// file's, or it goes on past the limit.
+fn statement_of(found: Found, behind: usize, ends_file: bool) -> Result<Option<Found>, LexError>
+    requires start { found.start + behind < 2 ^ 64 }
+    requires end { found.end + behind < 2 ^ 64 }
+    requires room { behind + 1 < 2 ^ 64 }
+    ensures { (before : ℕ) (text front : List ℕ) → IsUpTo before text front behind ends_file → IsRead front (Ok (Some found)) → IsLimitedRead before text result }
+{
+    if !found.closed {
+        return Err(too_long(behind));
+    }
+    if ends_file && found.end == 0 {
+        return Err(too_long(behind));
+    }
+    Ok(Some(Found {
+        start: found.start + behind,
+        end: found.end + behind,
+        ..found
+    }))
+}
+
+/// The statement at the front of a text with a byte past a limit, behind the first of which so many bytes follow.
+pub(crate) fn statement_up_to(
+    alloc: Global,
+    text: &[u8],
+    behind: usize,
+    ends_file: bool,
+) -> Result<Option<Found>, LexError>
+    requires { behind < length text.now }
+    ensures { (before : ℕ) → IsUpTo before text.now (take (length text.now - behind) text.now) behind ends_file → IsLimitedRead before text.now result }
+{
+    let front = &text[..text.len() - behind];
+    match statement_within(alloc, front) {
+        Ok(None) => Err(too_long(behind)),
+        Ok(Some(found)) => statement_of(found, behind, ends_file),
+        Err(LexError::Memory) => Err(LexError::Memory),
+        Err(LexError::Flaw(flaw)) => Err(fault_of(alloc, front, flaw, behind)),
+    }
+}
+
+/// The statement that begins at a place of a file.
+fn statement_in(alloc: Global, bytes: &[u8], place: usize) -> Result<Option<Found>, LexError>
+    requires { place ≤ length bytes.now }
+    ensures { IsLimitedRead place (drop place bytes.now) result }
+{
+    let text = &bytes[place..];
+    let file = file_limit(bytes, place);
+    let left = statement_limit(text).max(file);
+    if left == 0 {
+        statement_at(alloc, text)
+    } else {
+        statement_up_to(alloc, text, left - 1, file == left)
+    }
+}
+
+/// The same, with its places in the file.
+fn statement_within_file(
+    alloc: Global,
+    bytes: &[u8],
+    place: usize,
+) -> Result<Option<Found>, LexError>
+    requires { place ≤ length bytes.now }
+    ensures read { IsLimitedRead place (drop place bytes.now) result }
+    ensures within { IsWithinText (length bytes.now) result }
+{
+    statement_in(alloc, bytes, place)
 }
 
 // The places of a statement, from the bytes that are left there.
@@ -205,13 +196,13 @@ fn with_places(bytes: &[u8], found: Found) -> Placed
 }
 
 /// Reads the statement that begins at a place, or none where only white space and comments follow it. The fault of the
-/// text with its place, or Memory, where no statement is there (Octez "Micheline").
+/// text with its place, or Memory, where no statement is there (Octez "Micheline"). A statement has at most 16,777,216
+/// bytes up to its `;`, and a file 1,073,741,824; the first byte past a limit is TooLong.
 pub fn read_statement(alloc: Global, bytes: &[u8], place: u64) -> Result<Option<Placed>, TextError>
     requires { place ≤ length bytes.now }
     ensures { IsText bytes.now place result }
 {
-    let (_, text) = bytes.split_at(place as usize);
-    match statement_within(alloc, text) {
+    match statement_within_file(alloc, bytes, place as usize) {
         Ok(None) => Ok(None),
         Ok(Some(found)) => Ok(Some(with_places(bytes, found))),
         Err(LexError::Memory) => Err(TextError::Memory),
@@ -221,16 +212,3 @@ pub fn read_statement(alloc: Global, bytes: &[u8], place: u64) -> Result<Option<
         )),
     }
 }
-
-/// A law, with nothing to run: a text is one thing only, ended, one node at one place, or one fault at one place.
-pub fn one_reading()
-    // one fault
-    ensures faults { (text : List ℕ) (k j : TextKind) (left other : ℕ) → IsFault text k left → IsFault text j other → (left ≡ other) × (k ≡ j) }
-    // one node, from one place to another
-    ensures nodes { (text : List ℕ) (x y : Tree) (a b c d : ℕ) → Stands text x a b → Stands text y c d → (x ≡ y) × (a ≡ c) × (b ≡ d) }
-    // and not both
-    ensures apart { (text : List ℕ) (k : TextKind) (left : ℕ) (tree : Tree) (start end : ℕ) → IsFault text k left → IsNode text tree start end → ⊥ }
-    // nor either of them where the text is ended
-    ensures no_node_at_end { (text : List ℕ) (tree : Tree) (start end : ℕ) → IsEnd text → IsNode text tree start end → ⊥ }
-    ensures no_fault_at_end { (text : List ℕ) (k : TextKind) (left : ℕ) → IsEnd text → IsFault text k left → ⊥ }
-{}

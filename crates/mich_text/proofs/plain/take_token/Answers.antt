@@ -6,7 +6,7 @@ use Rattle.mich_text.specs.Gives.{flaw_view}
 use Rattle.mich_text.specs.Results.{IsPlaced}
 use Rattle.rules_text.specs.Fault.{depth_limit}
 use Rattle.mich_text.proofs.Steps.{bad_char, shape_read, own_flaw, refused_place, placed}
-use Rattle.mich_text.proofs.reader.take_token.Goals as goal
+use Rattle.mich_text.proofs.plain.take_token.Goals as goal
 
 pub returns-in_default : goal.returns-in_default
 returns-in_default c = bad_char c.args.here.now (stack_view c.args.stack.now.items) c.requires (sym c.in_default.ensures)

@@ -9,7 +9,7 @@ use Rattle.mich_text.specs.Nodes.{stack_view}
 use Rattle.mich_text.proofs.Reading.{At}
 use Rattle.mich_text.proofs.Verdict.{comment_first}
 use Rattle.mich_text.proofs.Loop.{begun, failed, smaller, goes_on, comment, ends, last_node, none_left, open_left}
-use Rattle.mich_text.proofs.reader.statement_at.Goals as goal
+use Rattle.mich_text.proofs.plain.statement_at.Goals as goal
 
 some_left : (here : List ℕ) → false ≡ eqb (length here) 0 → 0 < length here
 some_left here e = omega (arith, eqb-false (length here) 0 (sym e))
