@@ -67,22 +67,22 @@ module _ (p : CodePlaced) where
   kept-more (s ∷ r ∷ rs) f at k = record { first_is = k.first_is; second_is = k.second_is }
 
   module _ (file : List ℕ) (place : ℕ) (node : IsNodeAt file place (tree p.node) p.start p.end) where
-    pub passed-first : (second : Option ℕ) → Passed file place None second → Passed file p.end (Some p) second
-    passed-first second h = record {
+    pub passed_first : (second : Option ℕ) → Passed file place None second → Passed file p.end (Some p) second
+    passed_first second h = record {
       statements = h.statements ++ placed_seen p ∷ [];
       stand = statements-more file 0 place p.end h.statements (placed_seen p) h.stand node;
       kept = kept-first h.statements second h.kept;
     }
 
-    pub passed-second : (f : CodePlaced) → Passed file place (Some f) None → Passed file p.end (Some f) (Some p.start)
-    passed-second f h = record {
+    pub passed_second : (f : CodePlaced) → Passed file place (Some f) None → Passed file p.end (Some f) (Some p.start)
+    passed_second f h = record {
       statements = h.statements ++ placed_seen p ∷ [];
       stand = statements-more file 0 place p.end h.statements (placed_seen p) h.stand node;
       kept = kept-second h.statements f h.kept;
     }
 
-    pub passed-more : (f : CodePlaced) (at : ℕ) → Passed file place (Some f) (Some at) → Passed file p.end (Some f) (Some at)
-    passed-more f at h = record {
+    pub passed_more : (f : CodePlaced) (at : ℕ) → Passed file place (Some f) (Some at) → Passed file p.end (Some f) (Some at)
+    passed_more f at h = record {
       statements = h.statements ++ placed_seen p ∷ [];
       stand = statements-more file 0 place p.end h.statements (placed_seen p) h.stand node;
       kept = kept-more h.statements f at h.kept;

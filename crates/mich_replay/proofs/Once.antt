@@ -2,13 +2,14 @@
 use Rattle.std.proofs.Common.{◌≡◌, ◌⊎◌, inl, inr, ℕ, ◌+◌, List, [], ◌∷◌, length, drop, Option, Some, None, refl, sym, ap, ◌∙◌, subst, arith}
 use Rattle.rules_base.specs.Tree.{Tree}
 use Rattle.rules_text.specs.declared.TextKind.{TextKind}
-use Rattle.mich_text.proofs.Unique.{one_statement, one_fault, no_fault_at_node, no_node_at_end, no_fault_at_end}
+use Rattle.mich_text.proofs.Unique.{one_statement}
+use Rattle.mich_text.proofs.OneReading.{one_fault, no_fault_at_node, no_node_at_end, no_fault_at_end}
 use Rattle.rules_replay.specs.Places.{Placed, IsNodeAt, IsFaultAt, IsEndAt, AreStatements, Listing, EndsIn, IsListing}
 use Rattle.rules_replay.specs.Receipts.{Receipt}
 use Rattle.rules_replay.specs.World.{World}
 use Rattle.rules_replay.specs.Replay.{Replay, IsReplay, Closes, FileFault, TextFault, RefusedAt, ending_of, Run, going, stopped, run_one, run_all}
 use Rattle.rules_replay.specs.Answers.{Answer, replay_answer}
-use Rattle.rules_replay.specs.Codec.{IsCodecAnswer, of_listing}
+use Rattle.rules_replay.specs.Codec.{IsCodecAnswer, of_listing, encode_node, decode_node}
 use Rattle.rules_replay.specs.Commands.{Command, OnFile, NoCommand, Verb, Replaying, Encoding, Decoding, IsVerbAnswer, IsAnswer}
 
 -- ---- what stands at a place
@@ -28,17 +29,17 @@ one-node file p s t b c m n =
 
 fault-at : (file : List ℕ) (p : ℕ) (k j : TextKind) (a b : ℕ) → IsFaultAt file p k a → IsFaultAt file p j b → (k ≡ j) × (a ≡ b)
 fault-at file p k j a b m n =
-    let one = one_fault (drop p file) k j m.0 n.0 m.1 n.1 in
+    let one = one_fault p (drop p file) k j m.0 n.0 m.1 n.1 in
     (one.1, omega (arith, one.0, m.2, n.2))
 
 node-and-fault : (file : List ℕ) (p : ℕ) (t : Tree) (a b : ℕ) (k : TextKind) (c : ℕ) → IsNodeAt file p t a b → IsFaultAt file p k c → ⊥
-node-and-fault file p t a b k c m n = no_fault_at_node (drop p file) k n.0 t m.0 m.1 n.1 m.2
+node-and-fault file p t a b k c m n = no_fault_at_node p (drop p file) k n.0 t m.0 m.1 n.1 m.2
 
 node-and-end : (file : List ℕ) (p : ℕ) (t : Tree) (a b : ℕ) → IsNodeAt file p t a b → IsEndAt file p → ⊥
-node-and-end file p t a b m e = no_node_at_end (drop p file) t m.0 m.1 e m.2
+node-and-end file p t a b m e = no_node_at_end p (drop p file) t m.0 m.1 e m.2
 
 fault-and-end : (file : List ℕ) (p : ℕ) (k : TextKind) (c : ℕ) → IsFaultAt file p k c → IsEndAt file p → ⊥
-fault-and-end file p k c n e = no_fault_at_end (drop p file) k n.0 e n.1
+fault-and-end file p k c n e = no_fault_at_end p (drop p file) k n.0 e n.1
 
 -- ---- replays
 
@@ -117,8 +118,8 @@ codec-one command file a b m n =
 verbs-one : (verb : Verb) (file : List ℕ) (a b : Answer) → IsVerbAnswer verb file a → IsVerbAnswer verb file b → a ≡ b
 verbs-one Replaying file a b m n =
     m.2 ∙ ap replay_answer (replays-one file 0 (going [] None) m.0 n.0 m.1.statements n.1.statements m.1.to n.1.to m.1.stand n.1.stand m.1.closes n.1.closes) ∙ sym n.2
-verbs-one Encoding file a b m n = codec-one _ file a b m n
-verbs-one Decoding file a b m n = codec-one _ file a b m n
+verbs-one Encoding file a b m n = codec-one encode_node file a b m n
+verbs-one Decoding file a b m n = codec-one decode_node file a b m n
 
 some_is : (x y : List ℕ) → Some x ≡ Some y → x ≡ y
 some_is x y e = cc

@@ -1,7 +1,8 @@
 -- What is promised, where the whole text was written.
-use Rattle.std.proofs.Common.{◌≡◌, ◌≤◌, ℕ, List, [], Some, IsSome, inl, inr, refl, sym, ap, subst, append-nil, arith}
+use Rattle.std.proofs.Common.{◌≡◌, ◌≢◌, ◌≤◌, ℕ, List, [], Some, IsSome, inl, inr, refl, sym, ap, subst, append-nil, arith}
 use Rattle.std.specs.declared.option.Option.{Option}
 use Rattle.std.specs.Io.KnownBytes.{Appends, IsAtEnd}
+use Rattle.rules_io.specs.Causes.{Rose}
 use Rattle.rules_io.specs.Known.{AppendsFront}
 use Rattle.rules_replay.specs.Lines.{text_of}
 use Rattle.rules_replay.specs.Answers.{Answer}
@@ -51,3 +52,21 @@ module _ (words : List (List ℕ)) (content : List ℕ → Option (List ℕ)) (a
         complete = λ _ _. inl small;
         end = end;
       }
+
+  -- the text was cut short, for want of memory, or where the count of the sink rose
+  pub cut_short : (r0 r1 w0 w1 : ℕ) (left : Option (List ℕ)) (status : ℕ) → 4 ≤ status → status ≤ 5 → (status ≡ 4 → Rose w0 w1) → AppendsFront a b (text_of answer.lines)
+      → Meets words content r0 r1 w0 w1 left a b status
+  cut_short r0 r1 w0 w1 left status low high rose p = record {
+    known = high;
+    whole = λ t small. absurd (omega (arith, low, small));
+    front = λ other h. front other h p;
+    usage = λ e. absurd (omega (arith, low, e));
+    refused = λ e. absurd (omega (arith, low, e));
+    read_fault = λ e. absurd (omega (arith, low, e));
+    write_fault = rose;
+    complete = λ _ quiet. inr (five quiet);
+    end = λ e. absurd (omega (arith, low, e));
+  }
+    where
+      five : ¬ Rose w0 w1 → status ≡ 5
+      five quiet = let other : status ≢ 4 = λ e. quiet (rose e) in omega (arith, low, high, other)

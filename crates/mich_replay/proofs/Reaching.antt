@@ -1,5 +1,5 @@
 -- How a file is replayed, statement by statement.
-use Rattle.std.proofs.Common.{◌≡◌, ℕ, ◌+◌, List, [], ◌∷◌, ◌++◌, length, Option, Some, None, Ok, refl, sym, ap, ◌∙◌, subst, inl, inr, arith}
+use Rattle.std.proofs.Common.{◌≡◌, ℕ, ◌+◌, List, [], ◌∷◌, ◌++◌, length, Option, Some, None, Result, Ok, Err, IfOk, refl, sym, ap, ◌∙◌, subst, inl, inr, arith}
 use Rattle.rules_base.specs.Tree.{Tree}
 use Rattle.rules_text.specs.declared.TextKind.{TextKind}
 use Rattle.rules_replay.specs.Places.{Placed, IsNodeAt, IsEndAt, IsFaultAt, AreStatements}
@@ -10,6 +10,10 @@ use Rattle.rules_replay.specs.Replay.{Replay, IsReplay, Closes, Ending, RefusedA
 use Rattle.rules_replay.specs.Lines.{group_line, group_lines, ending_lines}
 use Rattle.rules_replay.specs.Answers.{Answer, status_of}
 use Rattle.rules_replay.specs.Commands.{Replaying, IsVerbAnswer}
+use Rattle.mich_base.specs.declared.memory.Memory.{Memory}
+use Rattle.mich_replay.specs.declared.outcome.FileFault.{FileFault as CodeFault}
+use Rattle.mich_replay.specs.declared.answer.Answer.{Answer as Reply}
+use Rattle.mich_replay.specs.View.{file_fault_seen, answer_seen}
 use Rattle.mich_replay.specs.Steps.{IsTaken, Reached, closing}
 
 -- one more statement
@@ -26,7 +30,7 @@ lines-length n [] = refl
 lines-length n (r ∷ rs) = omega (arith, lines-length (n + 1) rs)
 
 lines-more : (n : ℕ) (rs more : List Receipt) → group_lines n (rs ++ more) ≡ group_lines n rs ++ group_lines (length rs + n) more
-lines-more n [] more = refl
+lines-more n [] more = ap (λ (k : ℕ). group_lines k more) (omega arith)
 lines-more n (r ∷ rs) more =
     let next : length rs + (n + 1) ≡ length (r ∷ rs) + n = omega arith in
     ap (λ (ls : List (List ℕ)). group_line n r ∷ ls) (lines-more (n + 1) rs more ∙ ap (λ (k : ℕ). group_lines (n + 1) rs ++ group_lines k more) next)
@@ -75,3 +79,18 @@ module _ (file : List ℕ) (place : ℕ) (world : Option World) (lines : List (L
     stand = statements-more file 0 place end r.statements (record { place = start; node = t }) r.stand node;
     closes = subst (λ (x : Run). Closes file end x (record { receipts = r.receipts; ending = RefusedAt f start })) (sym (behind t start (stops f) e)) refl;
   })
+
+  pub reached-refused : (t : Tree) (start end : ℕ) (fault : CodeFault) (now : Option World) (after : List (List ℕ)) → IsNodeAt file place t start end
+      → IsTaken (step_by world (form t)) lines now after (Ok (Some fault)) → IsVerbAnswer Replaying file (closing after (RefusedAt (file_fault_seen fault) start))
+  reached-refused t start end fault now after node taken =
+      subst (λ (ls : List (List ℕ)). IsVerbAnswer Replaying file (closing ls (RefusedAt (file_fault_seen fault) start))) (sym taken.1)
+      (reached-refusal t start end (file_fault_seen fault) node taken.0)
+
+-- nothing is reached yet
+pub reached-start : (file : List ℕ) → Reached file 0 None []
+reached-start file = record { statements = []; receipts = []; stand = refl; run = refl; told = refl }
+
+-- what holds of an answer holds of its reply
+pub ok_answer : (r : Result Reply Memory) (x : Answer) (Q : Answer → Type 0) → IfOk r (λ a. answer_seen a ≡ x) → Q x → IfOk r (λ a. Q (answer_seen a))
+ok_answer (Ok a) x Q e q = subst Q (sym e) q
+ok_answer (Err e) x Q p q = tt

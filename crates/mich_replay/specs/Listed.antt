@@ -1,12 +1,14 @@
 -- What is kept of the statements of a file: the first, the place of the second, and the fault behind them.
-use Rattle.std.specs.Prelude.{◌≡◌, ℕ, List, [], ◌∷◌, Option, Some, None, option_map}
+use Rattle.std.specs.Prelude.{◌≡◌, ◌<◌, ◌≤◌, ℕ, List, [], length, ◌∷◌, Option, Some, None, option_map}
 use Rattle.rules_base.specs.Tree.{Tree}
 use Rattle.rules_text.specs.declared.TextKind.{TextKind}
 use Rattle.rules_replay.specs.Answers.{Answer, misplaced}
-use Rattle.rules_replay.specs.Places.{Placed, Listing, IsListing, AreStatements}
+use Rattle.rules_replay.specs.Places.{Placed, Listing, IsListing, IsNodeAt, IsFaultAt, IsEndAt, AreStatements}
 use Rattle.mich_base.specs.View.{tree}
 use Rattle.mich_text.specs.declared.reader.Placed.{Placed as CodePlaced}
 use Rattle.mich_replay.specs.declared.statements.Listed.{Listed}
+use Rattle.mich_replay.specs.declared.statements.Next.{Next}
+use Rattle.mich_replay.specs.declared.statements.Next.TheVariants as next
 
 abbrev pub first_of : List Placed → Option Placed
 first_of [] = None
@@ -47,3 +49,9 @@ beside (Some answer) start (Some at) = misplaced at
 abbrev pub of_kept : (Tree → Option Answer) → ℕ → Option CodePlaced → Option ℕ → Answer
 of_kept command size None second = misplaced size
 of_kept command size (Some p) second = beside (command (tree p.node)) p.start second
+
+-- this stands in a file from a place on; a statement takes at least a byte
+abbrev pub IsNext : List ℕ → ℕ → Next → Type 0
+IsNext file place next.End = IsEndAt file place
+IsNext file place (next.Statement p) = IsNodeAt file place (tree p.node) p.start p.end × (place < p.end) × (p.end ≤ length file)
+IsNext file place (next.Fault kind at) = IsFaultAt file place kind at

@@ -1,13 +1,14 @@
 // The lines that are written.
-ghost use Rattle.std.specs.Prelude.{◌≡◌, ◌<◌, ◌≤◌, ◌+◌, ◌^◌, ℕ, IfOk, string_bytes, map, ◌++◌, ◌∷◌, [], codes};
+ghost use Rattle.std.specs.Prelude.{◌≡◌, ◌<◌, ◌≤◌, ◌+◌, ◌^◌, ℕ, List, IfOk, string_bytes, map, ◌++◌, ◌∷◌, [], codes};
 ghost use Rattle.std.specs.Fmt.{decimal};
 ghost use Rattle.hex.specs.Hex.{encode_lower};
+ghost use Rattle.rules_forms.specs.Spelling.{implicit_place};
 ghost use Rattle.rules_replay.specs.Receipts as receipts;
-ghost use Rattle.rules_replay.specs.World.{receipt_by};
+ghost use Rattle.rules_replay.specs.World.{transfer_receipt, receipt_by};
 ghost use Rattle.rules_replay.specs.Lines.{transfer_text, failure_text, group_fault_name, text_kind_name, file_fault_name, group_line, account_line, fees_line, supply_line, refusal_line, usage_line};
 ghost use Rattle.rules_replay.specs.Codec.{decode_kind_name, bytes_line, node_line};
 ghost use Rattle.mich_base.specs.View.{tree};
-ghost use Rattle.mich_scenario.specs.View.{content_said};
+ghost use Rattle.mich_scenario.specs.View.{action_said, content_said};
 ghost use Rattle.mich_forms.specs.Spelled.{place_bytes};
 ghost use Rattle.mich_replay.specs.View.{group_fault_seen, failure_seen, verdict_seen, file_fault_seen};
 
@@ -103,6 +104,29 @@ fn transfer_line(
     applied_line(alloc, number, 1, effect.as_str())
 }
 
+// What an action moves, and where to.
+fn target(action: &Action) -> (u64, &Place)
+    ensures { (source : List ℕ) → transfer_receipt source (action_said action.now)
+        ≡ receipts.Done (receipts.Applied 1 (receipts.Transfer (implicit_place source) (place_bytes result.1.now) result.0 ∷ []) ∷ []) }
+{
+    match action {
+        Action::Call { amount, to, .. } => (*amount, to),
+    }
+}
+
+// The line of a group whose action was applied.
+fn action_line(
+    alloc: Global,
+    number: u64,
+    source: &KeyHash,
+    action: &Action,
+) -> Result<String, AllocError>
+    ensures { IfOk result (λ s. string_bytes s ≡ group_line number (transfer_receipt source.now (action_said action.now))) }
+{
+    let (amount, to) = target(action);
+    transfer_line(alloc, number, &Place::Implicit(*source), to, amount)
+}
+
 /// A group's line.
 pub(crate) fn group_line(
     alloc: Global,
@@ -118,11 +142,7 @@ pub(crate) fn group_line(
             let text = failure_text(alloc, failure)?;
             failed_line(alloc, number, 0, text.as_str())
         }
-        Verdict::Applied => match &group.content.action {
-            Action::Call { amount, to, .. } => {
-                transfer_line(alloc, number, &Place::Implicit(group.source), to, *amount)
-            }
-        },
+        Verdict::Applied => action_line(alloc, number, &group.source, &group.content.action),
     }
 }
 

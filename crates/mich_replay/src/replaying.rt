@@ -8,10 +8,10 @@ ghost use Rattle.mich_replay.specs.View.{answer_seen, file_fault_seen};
 use crate::answer::Answer;
 use crate::lines::{as_text, file_fault_name, refusal_line};
 use crate::outcome::FileFault;
+use crate::statements::{Next, read_next};
 use crate::steps::take;
 use crate::world::World;
 use mich_base::{Memory, Texts};
-use mich_text::{TextError, read_statement};
 use std::alloc::Global;
 
 // The answer behind all statements of a file of so many bytes.
@@ -53,18 +53,15 @@ pub(crate) fn replay(alloc: Global, file: &[u8]) -> Result<Answer, Memory>
     let mut lines = Texts::new(alloc);
     let mut place = 0u64;
     'statements: loop {
-        match read_statement(alloc, file, place) {
-            Ok(None) => return ended(alloc, world, lines, file.len() as u64),
-            Ok(Some(placed)) => {
-                if let Some(fault) = take(alloc, &mut world, &mut lines, &placed.node)? {
-                    return stopped(alloc, lines, fault, placed.start);
+        match read_next(alloc, file, place)? {
+            Next::Statement(placed) => {
+                match take(alloc, &mut world, &mut lines, &placed.node)? {
+                    Some(fault) => return stopped(alloc, lines, fault, placed.start),
+                    None => place = placed.end,
                 }
-                place = placed.end;
             }
-            Err(TextError::Fault(kind, at)) => {
-                return stopped(alloc, lines, FileFault::Text(kind), at);
-            }
-            Err(TextError::Memory) => return Err(Memory),
+            Next::End => return ended(alloc, world, lines, file.len() as u64),
+            Next::Fault(kind, at) => return stopped(alloc, lines, FileFault::Text(kind), at),
         }
     }
 }

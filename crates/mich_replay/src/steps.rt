@@ -1,5 +1,5 @@
 // One statement of a file, in the world so far.
-ghost use Rattle.std.specs.Prelude.{◌≡◌, ◌<◌, ◌≤◌, ◌+◌, ◌++◌, ◌∷◌, [], ℕ, length, map, Some, None, IfOk, OnOk, IfSome};
+ghost use Rattle.std.specs.Prelude.{◌≡◌, ◌<◌, ◌≤◌, ◌+◌, ◌-◌, ◌^◌, ◌++◌, ◌∷◌, [], ℕ, length, map, Some, None, IfOk, OnOk, IfSome};
 ghost use Rattle.mich_base.specs.View.{tree};
 ghost use Rattle.rules_replay.specs.Statements.{form};
 ghost use Rattle.rules_replay.specs.World.{receipt_of, world_after, granted_to};
@@ -30,6 +30,8 @@ fn grant(world: &mut World, who: KeyHash, mutez: u64) -> Result<Option<FileFault
 
 // Applies a group, and adds its line.
 fn apply(alloc: Global, world: &mut World, group: &Group, lines: &mut Texts) -> Result<(), Memory>
+    requires { length lines.old < 2 ^ 64 - 1 }
+    ensures count { OnOk result (length lines.new ≤ length lines.old + 1) }
     ensures line { OnOk result (lines.new ≡ lines.old ++ group_line (length lines.old + 1) (receipt_of world.old group.now.source (content_said group.now.content)) ∷ []) }
     ensures world { OnOk result (world.new ≡ world_after world.old group.now.source (content_said group.now.content)) }
 {
@@ -45,7 +47,9 @@ fn step(
     lines: &mut Texts,
     statement: &Statement,
 ) -> Result<Option<FileFault>, Memory>
-    ensures { IsTaken (step world.old (said statement.now)) lines.old world.new lines.new result }
+    requires { length lines.old < 2 ^ 64 - 1 }
+    ensures taken { IsTaken (step world.old (said statement.now)) lines.old world.new lines.new result }
+    ensures count { OnOk result (length lines.new ≤ length lines.old + 1) }
 {
     match world {
         None => match statement {
@@ -74,7 +78,9 @@ pub(crate) fn take(
     lines: &mut Texts,
     node: &Node,
 ) -> Result<Option<FileFault>, Memory>
-    ensures { IsTaken (step_by world.old (form (tree node.now))) lines.old world.new lines.new result }
+    requires { length lines.old < 2 ^ 64 - 1 }
+    ensures taken { IsTaken (step_by world.old (form (tree node.now))) lines.old world.new lines.new result }
+    ensures count { OnOk result (length lines.new ≤ length lines.old + 1) }
 {
     match read_form(alloc, node) {
         Ok(statement) => step(alloc, world, lines, &statement),

@@ -1,0 +1,321 @@
+// Whole calls: transfers, groups that come to nothing, files that are refused, nodes that are encoded and decoded, words that
+// are no command, and calls that fail.
+ghost use Rattle.std.specs.Prelude.{◌≡◌, IfOk, ◌∷◌, [], Some};
+
+use crate::{mich, replay_bytes};
+use mich_base::{Bytes, Memory, Rows, Text, Texts};
+use mich_io::{MemFiles, MemSink, Sink, SinkFault};
+use std::alloc::Global;
+use std::test::Fail;
+
+fn one(alloc: Global, word: &str) -> Result<Texts, Memory>
+    ensures { IfOk result (λ t. t ≡ word.now ∷ []) }
+{
+    let mut texts = Texts::new(alloc);
+    texts.push(Text::from_slice(alloc, word.as_bytes())?)?;
+    Ok(texts)
+}
+
+fn two(alloc: Global, verb: &str, word: &str) -> Result<Texts, Memory>
+    ensures { IfOk result (λ t. t ≡ verb.now ∷ word.now ∷ []) }
+{
+    let mut texts = one(alloc, verb)?;
+    texts.push(Text::from_slice(alloc, word.as_bytes())?)?;
+    Ok(texts)
+}
+
+fn numbers(alloc: Global, numbers: &[u64]) -> Result<Rows<u64>, Memory> {
+    let mut rows = Rows::new(alloc);
+    for number in numbers {
+        rows.push(*number)?;
+    }
+    Ok(rows)
+}
+
+// Runs a command over a file of this text, in which these calls fail, into a sink.
+fn run_into<K: Sink>(
+    alloc: Global,
+    verb: &str,
+    text: &str,
+    reads_fail: &[u64],
+    out: &mut K,
+) -> Result<u8, Memory> {
+    let words = two(alloc, verb, "f")?;
+    let mut files = Rows::new(alloc);
+    let content = Bytes::from_slice(alloc, text.as_bytes())?;
+    files.push((Text::from_slice(alloc, b"f")?, content))?;
+    let mut files = MemFiles::new(one(alloc, "f")?, files, numbers(alloc, reads_fail)?);
+    Ok(mich(alloc, &words, &mut files, out))
+}
+
+// The same, into a sink in memory, in which these calls fail.
+fn run(
+    alloc: Global,
+    verb: &str,
+    text: &str,
+    reads_fail: &[u64],
+    writes_fail: &[u64],
+) -> Result<(u8, MemSink), Memory> {
+    let mut out = MemSink::new(alloc, numbers(alloc, writes_fail)?);
+    let status = run_into(alloc, verb, text, reads_fail, &mut out)?;
+    Ok((status, out))
+}
+
+// A command over a file of this text ends with this status, and writes this.
+fn answers(
+    rt: &HostRuntime,
+    verb: &str,
+    text: &str,
+    status: u8,
+    written: &str,
+) -> Result<(), Fail> {
+    let (found, out) = run(rt.alloc(), verb, text, &[], &[])?;
+    assert_eq!(rt; found, status, "{text}");
+    assert_eq!(rt; out.as_slice(), written.as_bytes(), "{text}");
+    Ok(())
+}
+
+// A file of two accounts and one call with this fee and amount.
+fn call(alloc: Global, fee: u64, amount: u64) -> Result<String, Memory> {
+    Ok(format!(in alloc;
+        "Chain 0x7a06a770 1 0; Account 0x000000000000000000000000000000000000000001 1000; Account 0x000000000000000000000000000000000000000002 0; Group 0x000000000000000000000000000000000000000001 {{ Call {fee} 100 {amount} 0x00000000000000000000000000000000000000000002 \"default\" Unit }};"
+    )?)
+}
+
+const TRANSFER: [&str; 5] = [
+    "Group 1 { Applied 1 { Transfer 0x00000000000000000000000000000000000000000001 0x00000000000000000000000000000000000000000002 1 Unit {} } }\n",
+    "Account 0x000000000000000000000000000000000000000001 989 {}\n",
+    "Account 0x000000000000000000000000000000000000000002 1 {}\n",
+    "Fees 10\n",
+    "Supply 1000\n",
+];
+
+const NOTHING_IS_MOVED: [&str; 5] = [
+    "Group 1 { Failed 0 EmptyTransaction }\n",
+    "Account 0x000000000000000000000000000000000000000001 990 {}\n",
+    "Account 0x000000000000000000000000000000000000000002 0 {}\n",
+    "Fees 10\n",
+    "Supply 1000\n",
+];
+
+const TOO_MUCH_IS_MOVED: [&str; 5] = [
+    "Group 1 { Failed 0 BalanceTooLow }\n",
+    "Account 0x000000000000000000000000000000000000000001 990 {}\n",
+    "Account 0x000000000000000000000000000000000000000002 0 {}\n",
+    "Fees 10\n",
+    "Supply 1000\n",
+];
+
+const A_FEE_TOO_HIGH: [&str; 5] = [
+    "Group 1 (Refused FeeTooHigh)\n",
+    "Account 0x000000000000000000000000000000000000000001 1000 {}\n",
+    "Account 0x000000000000000000000000000000000000000002 0 {}\n",
+    "Fees 0\n",
+    "Supply 1000\n",
+];
+
+// The first lines, one after another.
+fn text(alloc: Global, lines: &[&str], count: usize) -> Result<String, Memory> {
+    let mut text = String::new(alloc);
+    for line in lines.iter().take(count) {
+        text.push_str(line)?;
+    }
+    Ok(text)
+}
+
+#[test]
+fn transfers(rt: HostRuntime) -> Result<(), Fail> {
+    for (fee, amount, lines) in [
+        (10, 1, TRANSFER),
+        (10, 0, NOTHING_IS_MOVED),
+        (10, 991, TOO_MUCH_IS_MOVED),
+        (1001, 1, A_FEE_TOO_HIGH),
+    ] {
+        let file = call(rt.alloc(), fee, amount)?;
+        let (status, out) = run(rt.alloc(), "replay", file.as_str(), &[], &[])?;
+        assert_eq!(rt; status, 0, "the fee {fee}");
+        let expected = text(rt.alloc(), &lines, 5)?;
+        assert_eq!(rt; out.as_slice(), expected.as_bytes(), "the fee {fee}");
+    }
+    Ok(())
+}
+
+#[test]
+fn reads_that_fail(rt: HostRuntime) -> Result<(), Fail> {
+    let file = call(rt.alloc(), 10, 1)?;
+    for number in 0..3u64 {
+        let (status, out) = run(rt.alloc(), "replay", file.as_str(), &[number], &[])?;
+        assert_eq!(rt; status, 3, "call {number}");
+        assert_eq!(rt; out.as_slice(), b"".as_slice(), "call {number}");
+    }
+    Ok(())
+}
+
+#[test]
+fn writes_that_fail(rt: HostRuntime) -> Result<(), Fail> {
+    let file = call(rt.alloc(), 10, 1)?;
+    for number in 0..5u64 {
+        let (status, out) = run(rt.alloc(), "replay", file.as_str(), &[], &[number])?;
+        assert_eq!(rt; status, 4, "call {number}");
+        let expected = text(rt.alloc(), &TRANSFER, number as usize)?;
+        assert_eq!(rt; out.as_slice(), expected.as_bytes(), "call {number}");
+    }
+    Ok(())
+}
+
+// Takes one byte a write.
+#[derive(Drop)]
+struct SlowSink {
+    inner: MemSink,
+}
+
+impl Sink for SlowSink {
+    ghost written = { λ s. Some s.inner.bytes };
+
+    ghost faults = { λ s. s.inner.faults };
+
+    fn write(&mut self, bytes: &[u8]) -> Result<usize, SinkFault> {
+        let count = bytes.len().min(1);
+        self.inner.write(bytes.split_at(count).0)
+    }
+}
+
+#[test]
+fn one_byte_a_write(rt: HostRuntime) -> Result<(), Fail> {
+    let file = call(rt.alloc(), 10, 1)?;
+    let inner = MemSink::new(rt.alloc(), Rows::new(rt.alloc()));
+    let mut out = SlowSink { inner };
+    let status = run_into(rt.alloc(), "replay", file.as_str(), &[], &mut out)?;
+    assert_eq!(rt; status, 0);
+    let expected = text(rt.alloc(), &TRANSFER, 5)?;
+    assert_eq!(rt; out.inner.as_slice(), expected.as_bytes());
+    Ok(())
+}
+
+// A file that is refused, and the line that it writes.
+static REFUSED: [(&str, &str); 20] = [
+    ("", "Refused BadOrder 0\n"),
+    (" # none\n/* here */ ", "Refused BadOrder 19\n"),
+    ("Chain 0x7a06a770 1 0 ; \"ab", "Refused Unclosed 26\n"),
+    ("Chain 0x7a06a770 1 0 ; 12a ; Foo", "Refused BadNumber 23\n"),
+    ("Chain 0x7a06a770 1 0 ;;", "Refused Unexpected 22\n"),
+    ("Foo", "Refused BadStatement 0\n"),
+    ("Foo ; 12a", "Refused BadStatement 0\n"),
+    ("  Chain 0x7a06a770 1 0 0", "Refused BadStatement 2\n"),
+    ("Chain 0x7a06a770 1 0 ; Block 2 0", "Refused BadStatement 23\n"),
+    ("Chain 0x7a06a770 1 0 ; Chain 0x7a06a770 1 0", "Refused BadOrder 23\n"),
+    ("Account 0x000000000000000000000000000000000000000001 5", "Refused BadOrder 0\n"),
+    ("Account 0x040000000000000000000000000000000000000001 5", "Refused BadStatement 0\n"),
+    ("Group 0x000000000000000000000000000000000000000001 { Call 0 1 0 0x00000000000000000000000000000000000000000002 \"default\" Unit }", "Refused BadOrder 0\n"),
+    ("Chain 0x7a06a770 1 0;Account 0x000000000000000000000000000000000000000001 5;Account 0x000000000000000000000000000000000000000001 5", "Refused RepeatedAccount 76\n"),
+    ("Chain 0x7a06a770 1 0;Account 0x000000000000000000000000000000000000000001 9223372036854775807;Account 0x000000000000000000000000000000000000000001 1", "Refused RepeatedAccount 94\n"),
+    ("Chain 0x7a06a770 1 0;Account 0x000000000000000000000000000000000000000001 9223372036854775807;Account 0x000000000000000000000000000000000000000002 1", "Refused SupplyLimit 94\n"),
+    ("Chain 0x7a06a770 1 0;Account 0x000000000000000000000000000000000000000001 9223372036854775807;Account 0x000000000000000000000000000000000000000002 1 1", "Refused BadStatement 94\n"),
+    ("Chain 0x7a06a770 1 0;Account 0x000000000000000000000000000000000000000001 9223372036854775807;Chain 0x7a06a770 1 0;Foo", "Refused BadOrder 94\n"),
+    ("Chain 0x7a06a770 1 0;Group 0x000000000000000000000000000000000000000001 {}", "Refused BadStatement 21\n"),
+    ("Chain 0x7a06a770 1 0;Group 0x000000000000000000000000000000000000000001 { Call 0 1 0 0x00000000000000000000000000000000000000000002 \"default\" Unit };Foo", "Group 1 (Refused UnknownSource)\nRefused BadStatement 152\n"),
+];
+
+#[test]
+fn files_are_refused(rt: HostRuntime) -> Result<(), Fail> {
+    for (file, line) in REFUSED {
+        answers(&rt, "replay", file, 2, line)?;
+    }
+    let (status, out) = replay_bytes(rt.alloc(), Bytes::from_slice(rt.alloc(), b"Foo")?)?;
+    assert_eq!(rt; status, 2);
+    assert_eq!(rt; out.as_slice(), b"Refused BadStatement 0\n".as_slice());
+    Ok(())
+}
+
+// The source, fee, gas, amount, destination, entrypoint and argument of a call, and what becomes of its group.
+static GROUPS: [(&str, &str, &str); 12] = [
+    ("02", "5 1 1 0x00000000000000000000000000000000000000000002 \"default\" Unit", "(Refused UnknownSource)"),
+    ("02", "5 10000000001 1 0x00000000000000000000000000000000000000000002 \"default\" Unit", "(Refused UnknownSource)"),
+    ("01", "5 10000000001 1 0x00000000000000000000000000000000000000000002 \"default\" Unit", "(Refused GasTooHigh)"),
+    ("01", "1001 10000000001 1 0x00000000000000000000000000000000000000000002 \"default\" Unit", "(Refused GasTooHigh)"),
+    ("01", "1001 0 1 0x00000000000000000000000000000000000000000002 \"default\" Unit", "(Refused FeeTooHigh)"),
+    ("01", "0 0 1 0x01000000000000000100000000000000000000000000 \"a\" 5", "{ Failed 0 OutOfGas }"),
+    ("01", "0 1 1 0x01000000000000000100000000000000000000000000 \"a\" 5", "{ Failed 0 NoContract }"),
+    ("01", "0 1 0 0x00000000000000000000000000000000000000000002 \"a\" 5", "{ Failed 0 NoEntrypoint }"),
+    ("01", "0 1 0 0x00000000000000000000000000000000000000000002 \"default\" 5", "{ Failed 0 (BadParameter 0) }"),
+    ("01", "0 1 0 0x00000000000000000000000000000000000000000002 \"default\" (Unit 5)", "{ Failed 0 (BadParameter 0) }"),
+    ("01", "0 1 0 0x00000000000000000000000000000000000000000002 \"default\" (Unit %a)", "{ Failed 0 EmptyTransaction }"),
+    ("01", "0 10000000000 1001 0x00000000000000000000000000000000000000000002 \"default\" Unit", "{ Failed 0 BalanceTooLow }"),
+];
+
+#[test]
+fn groups_that_come_to_nothing(rt: HostRuntime) -> Result<(), Fail> {
+    for (source, fields, receipt) in GROUPS {
+        let file = format!(in rt.alloc(); "Chain 0x7a06a770 1 0;Account 0x000000000000000000000000000000000000000001 1000;Group 0x0000000000000000000000000000000000000000{source} {{ Call {fields} }}")?;
+        let written = format!(in rt.alloc(); "Group 1 {receipt}\nAccount 0x000000000000000000000000000000000000000001 1000 {{}}\nFees 0\nSupply 1000\n")?;
+        answers(&rt, "replay", file.as_str(), 0, written.as_str())?;
+    }
+    Ok(())
+}
+
+// A file that is encoded, the status, and what is written.
+static ENCODED: [(&str, u8, &str); 14] = [
+    ("parameter %x nat", 0, "0x06000362000000022578\n"),
+    ("LAMBDA int int {} ;", 0, "0x093100000009035b035b020000000000000000\n"),
+    ("0xABcd", 0, "0x0a00000002abcd\n"),
+    ("{ 1 ", 2, "Refused Unclosed 4\n"),
+    ("0x123", 2, "Refused BadBytes 0\n"),
+    ("12a", 2, "Refused BadNumber 0\n"),
+    ("(1)", 2, "Refused Unexpected 1\n"),
+    ("\"a\\q\"", 2, "Refused BadString 2\n"),
+    ("Foo", 2, "Refused NoCode 0\n"),
+    ("Pair (Foo 1) Bar", 2, "Refused NoCode 1\n"),
+    ("", 2, "Refused BadStatement 0\n"),
+    ("# none", 2, "Refused BadStatement 6\n"),
+    ("Foo ; Bar", 2, "Refused BadStatement 6\n"),
+    ("Foo ; Bar ; 1a", 2, "Refused BadNumber 12\n"),
+];
+
+// A file that is decoded, the status, and what is written.
+static DECODED: [(&str, u8, &str); 14] = [
+    ("0x06000362000000022578", 0, "parameter %x nat\n"),
+    ("0x093100000009035b035b020000000000000000 ;", 0, "LAMBDA int int {}\n"),
+    ("0x000000", 2, "Refused Trailing 2\n"),
+    ("0x008000", 2, "Refused BadInteger 1\n"),
+    ("0x0040", 2, "Refused BadInteger 1\n"),
+    ("0x0b", 2, "Refused BadTag 0\n"),
+    ("0x039d", 2, "Refused BadPrim 1\n"),
+    ("0x010000000261", 2, "Refused BadLength 1\n"),
+    ("0x010000000107", 2, "Refused BadString 5\n"),
+    ("0x", 2, "Refused BadLength 0\n"),
+    ("0x0b0", 2, "Refused BadBytes 0\n"),
+    (" 5 ; 0x0b", 2, "Refused BadStatement 1\n"),
+    ("0x0b ; 0x0b", 2, "Refused BadStatement 7\n"),
+    ("", 2, "Refused BadStatement 0\n"),
+];
+
+#[test]
+fn nodes_are_encoded(rt: HostRuntime) -> Result<(), Fail> {
+    for (file, status, written) in ENCODED {
+        answers(&rt, "encode", file, status, written)?;
+    }
+    Ok(())
+}
+
+#[test]
+fn bytes_are_decoded(rt: HostRuntime) -> Result<(), Fail> {
+    for (file, status, written) in DECODED {
+        answers(&rt, "decode", file, status, written)?;
+    }
+    Ok(())
+}
+
+#[test]
+fn no_command(rt: HostRuntime) -> Result<(), Fail> {
+    let alloc = rt.alloc();
+    let words = one(alloc, "replay")?;
+    let mut files = MemFiles::new(Texts::new(alloc), Rows::new(alloc), Rows::new(alloc));
+    let mut out = MemSink::new(alloc, Rows::new(alloc));
+    let status = mich(alloc, &words, &mut files, &mut out);
+    assert_eq!(rt; status, 1);
+    assert_eq!(rt;
+        out.as_slice(),
+        b"usage: mich replay|check|encode|decode|pack FILE, or mich generate N\n".as_slice()
+    );
+    Ok(())
+}

@@ -5,6 +5,7 @@ use Rattle.mich_replay.proofs.replaying.replay.Given as goal
 abbrev pub invariant-statements : goal.invariant-statements
 invariant-statements l = record {
   within : l.place ≤ length l.file;
+  count : length l.lines ≤ l.place;
   reached : Reached l.file l.place l.world l.lines;
 }
 

@@ -1,0 +1,48 @@
+use Rattle.std.proofs.Common.{◌≡◌, ◌≤◌, List, ℕ, Option, Ok, Some, None, length, subst, sym, refl, arith}
+use Rattle.mich_base.specs.View.{tree}
+use Rattle.rules_replay.specs.Commands.{Replaying, IsVerbAnswer}
+use Rattle.rules_replay.specs.Replay.{step_by}
+use Rattle.rules_replay.specs.Statements.{form}
+use Rattle.mich_replay.specs.declared.outcome.FileFault.{FileFault}
+use Rattle.mich_replay.specs.Listed.{IsNext}
+use Rattle.mich_replay.specs.Steps.{IsTaken, Reached}
+use Rattle.mich_replay.proofs.Reaching.{ok_answer, reached-start, reached-more, reached-refused, reached-end, reached-fault}
+use Rattle.mich_replay.proofs.replaying.replay.Goals as goal
+
+pub statements-init : goal.statements-init
+statements-init c = record {
+  within = omega arith;
+  count = omega (arith, subst (λ (ls : List (List ℕ)). length ls ≤ 0) (sym c.new-lines.ensures) (omega arith));
+  reached = subst (λ (ls : List (List ℕ)). Reached c.args.file.now 0 None ls) (sym c.new-lines.ensures) (reached-start c.args.file.now);
+}
+
+pub returns-in-Some : goal.returns-in-Some
+returns-in-Some c =
+    let placed = c.in-Statement.placed in
+    let node = subst (IsNext c.args.file.now c.statements.place) c.in-Statement.is c.in_ok-placed.ensures in
+    let taken = subst (λ (f : Option FileFault). IsTaken (step_by c.statements.world (form (tree placed.node))) c.statements.lines c.take.new.world c.take.new.lines (Ok f)) c.in-Some.is c.in_ok-fault-in-Statement.ensures.taken in
+    ok_answer c.stopped.result _ (IsVerbAnswer Replaying c.args.file.now) c.stopped.ensures
+    (reached-refused c.args.file.now c.statements.place c.statements.world c.statements.lines c.statements.invariant.reached (tree placed.node) placed.start placed.end c.in-Some.fault c.take.new.world c.take.new.lines node.0 taken)
+
+pub statements-preserved-in-None-3 : goal.statements-preserved-in-None-3
+statements-preserved-in-None-3 c =
+    let placed = c.in-Statement.placed in
+    let node = subst (IsNext c.args.file.now c.statements.place) c.in-Statement.is c.in_ok-placed.ensures in
+    let taken = subst (λ (f : Option FileFault). IsTaken (step_by c.statements.world (form (tree placed.node))) c.statements.lines c.take.new.world c.take.new.lines (Ok f)) c.in-None.is c.in_ok-fault-in-Statement.ensures.taken in
+    record {
+      within = node.2;
+      count = omega (arith, c.in_ok-fault-in-Statement.ensures.count, c.statements.invariant.count, node.1);
+      reached = reached-more c.args.file.now c.statements.place c.statements.world c.statements.lines c.statements.invariant.reached (tree placed.node) placed.start placed.end c.take.new.world c.take.new.lines node.0 taken;
+    }
+
+pub returns-in-End : goal.returns-in-End
+returns-in-End c =
+    ok_answer c.ended.result _ (IsVerbAnswer Replaying c.args.file.now) c.ended.ensures
+    (reached-end c.args.file.now c.statements.place c.statements.world c.statements.lines c.statements.invariant.reached
+    (subst (IsNext c.args.file.now c.statements.place) c.in-End.is c.in_ok-placed.ensures))
+
+pub returns-in-Fault : goal.returns-in-Fault
+returns-in-Fault c =
+    ok_answer c.stopped-in-Fault.result _ (IsVerbAnswer Replaying c.args.file.now) c.stopped-in-Fault.ensures
+    (reached-fault c.args.file.now c.statements.place c.statements.world c.statements.lines c.statements.invariant.reached c.in-Fault.kind c.in-Fault.at
+    (subst (IsNext c.args.file.now c.statements.place) c.in-Fault.is c.in_ok-placed.ensures))
