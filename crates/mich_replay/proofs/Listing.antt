@@ -42,9 +42,12 @@ kept_answer command size (s ∷ ss) (Some p) second k =
 -- the answer to what is kept is the answer to the file
 pub listed_answer : (file : List ℕ) (l : Listed) (command : Tree → Option Answer) (answer : Answer) → IsListed file l
     → answer ≡ of_text l.fault (of_kept command (length file) l.first l.second) → IsCodecAnswer command file answer
-listed_answer file l command answer h e =
-    (h.found, h.listing, e ∙ ap (λ (a : Answer). of_text l.fault a) (kept_answer command (length file) h.found.statements l.first l.second h.kept)
-    ∙ ap (λ (f : Option (TextKind × ℕ)). of_text f (of_statements command (length file) h.found.statements)) h.fault_is)
+listed_answer file l command answer h e = (
+  h.found,
+  h.listing,
+  e ∙ ap (λ (a : Answer). of_text l.fault a) (kept_answer command (length file) h.found.statements l.first l.second h.kept)
+      ∙ ap (λ (f : Option (TextKind × ℕ)). of_text f (of_statements command (length file) h.found.statements)) h.fault_is,
+)
 
 -- ---- one more statement
 

@@ -15,12 +15,7 @@ use mich_base::{Memory, Texts};
 use std::alloc::Global;
 
 // The answer behind all statements of a file of so many bytes.
-fn ended(
-    alloc: Global,
-    world: Option<World>,
-    mut lines: Texts,
-    size: u64,
-) -> Result<Answer, Memory>
+fn ended(alloc: Global, world: Option<World>, mut lines: Texts, size: u64) -> Result<Answer, Memory>
     ensures { IfOk result (λ a. answer_seen a ≡ closing lines (ending_of size world)) }
 {
     match world {
@@ -33,12 +28,7 @@ fn ended(
 }
 
 // The answer where a file is refused at a place.
-fn stopped(
-    alloc: Global,
-    mut lines: Texts,
-    fault: FileFault,
-    place: u64,
-) -> Result<Answer, Memory>
+fn stopped(alloc: Global, mut lines: Texts, fault: FileFault, place: u64) -> Result<Answer, Memory>
     ensures { IfOk result (λ a. answer_seen a ≡ closing lines (RefusedAt (file_fault_seen fault) place)) }
 {
     lines.push(as_text(refusal_line(alloc, file_fault_name(fault), place)?))?;

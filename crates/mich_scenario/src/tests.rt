@@ -5,7 +5,8 @@ use mich_forms::Place;
 use mich_text::read_statement;
 use std::test::Fail;
 
-static CALL: &str = "Group 0x000000000000000000000000000000000000000001 { Call 1 2 3 0x00020000000000000000000000000000000000000002 \"a%b\" (Pair 4 5) ; }";
+static CALL: &str =
+    "Group 0x000000000000000000000000000000000000000001 { Call 1 2 3 0x00020000000000000000000000000000000000000002 \"a%b\" (Pair 4 5) ; }";
 
 // Each is no statement: another name, fields that are missing or too many, of another kind or out of range, annotations.
 static OTHERS: [&str; 33] = [
@@ -54,7 +55,10 @@ fn chains_and_accounts(rt: HostRuntime) -> Result<(), Fail> {
     let node = node_of(&rt, "(Chain 0x7a06a770 2147483647 -9223372036854775808)")?;
     let found = read_form(rt.alloc(), &node)?;
     assert!(rt; matches!(found, Statement::Chain(_, 2_147_483_647, i64::MIN)));
-    let node = node_of(&rt, "Account 0x030000000000000000000000000000000000000001 9223372036854775807")?;
+    let node = node_of(
+        &rt,
+        "Account 0x030000000000000000000000000000000000000001 9223372036854775807",
+    )?;
     let found = read_form(rt.alloc(), &node)?;
     assert!(rt; matches!(found, Statement::Account(_, 9_223_372_036_854_775_807)));
     Ok(())
@@ -66,7 +70,10 @@ fn groups_of_one_call(rt: HostRuntime) -> Result<(), Fail> {
     let Statement::Group(group) = read_form(rt.alloc(), &node)? else {
         return Err("a group".into());
     };
-    assert_eq!(rt; (group.source.tag, group.content.fee, group.content.gas), (0, 1, 2));
+    assert_eq!(rt;
+        (group.source.tag, group.content.fee, group.content.gas),
+        (0, 1, 2)
+    );
     let Action::Call {
         amount,
         to,
