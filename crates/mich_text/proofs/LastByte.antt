@@ -14,10 +14,10 @@ use Rattle.mich_text.specs.Machine.{Stack, Refusal, run, start, refused, ready_f
 use Rattle.mich_text.specs.Machine as machine
 use Rattle.mich_text.specs.Plain.{IsFlawed, Holds, flawed, in_comment, is_open, unexpected, too_deep, IsFault}
 use Rattle.mich_text.proofs.Places.{token_shape_is, token_shorter}
-use Rattle.mich_text.proofs.Reading.{From, compare, leads_le}
+use Rattle.mich_text.proofs.Reading.{same_rest, From, compare, leads_le}
 use Rattle.mich_text.proofs.Complete.{statements_run}
 use Rattle.mich_text.proofs.Fronts.{run_split, run_more, step_ok, is_front_within, no_front}
-use Rattle.mich_text.proofs.Unique.{clash, same_rest}
+use Rattle.mich_text.proofs.Verdict.{clash}
 use Rattle.mich_text.proofs.Runs.{passes}
 use Rattle.mich_text.proofs.Closed.{sign_rest}
 use Rattle.mich_text.proofs.Past.{NoneClosed}

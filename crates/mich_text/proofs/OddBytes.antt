@@ -11,9 +11,9 @@ use Rattle.rules_text.specs.Text.{Leads, IsLimit, Shows, IsUnexpected, IsTooDeep
 use Rattle.rules_text.specs.Text as within
 use Rattle.mich_text.specs.Plain as plain
 use Rattle.mich_text.proofs.Places.{flaw_le, token_shorter}
-use Rattle.mich_text.proofs.Reading.{From, compare, leads_le}
-use Rattle.mich_text.proofs.Verdict.{err_is}
-use Rattle.mich_text.proofs.Unique.{clash, same_rest, nothing_holds}
+use Rattle.mich_text.proofs.Reading.{same_rest, From, compare, leads_le}
+use Rattle.mich_text.proofs.Verdict.{clash, err_is}
+use Rattle.mich_text.proofs.Unique.{nothing_holds}
 use Rattle.mich_text.proofs.Runs.{passes}
 use Rattle.mich_text.proofs.Cut.{leads_cut}
 use Rattle.mich_text.proofs.Odd.{IsOdd, bytes_left, odd_not_shown, odd_front}

@@ -9,9 +9,10 @@ use Rattle.rules_text.specs.declared.TextKind.TheVariants.{TooLong}
 use Rattle.rules_text.specs.Text.{Leads, IsLimit, IsFileLimit, IsStatementLimit, IsLongStatement, EndsAt, Stands, IsFault, rank}
 use Rattle.rules_text.specs.Text as within
 use Rattle.mich_text.specs.Plain as plain
-use Rattle.mich_text.proofs.Reading.{From, compare}
+use Rattle.mich_text.proofs.Places.{no_token}
+use Rattle.mich_text.proofs.Reading.{same_rest, From, compare}
 use Rattle.mich_text.proofs.Signs.{no_inner}
-use Rattle.mich_text.proofs.Unique.{end_token, end_leads, no_tokens, nothing_holds, no_token, same_rest}
+use Rattle.mich_text.proofs.Unique.{end_token, end_leads, no_tokens, nothing_holds}
 use Rattle.mich_text.proofs.Closed.{stands_cut, cut_rest}
 use Rattle.mich_text.proofs.Limited.{holds_cut, closed_rest, split}
 
