@@ -1,5 +1,5 @@
 -- A statement with its `;`, in a text and in its front.
-use Rattle.std.proofs.Common.{◌≡◌, ℕ, suc, ◌+◌, ◌-◌, ◌≤◌, ◌<◌, ◌⊎◌, inl, inr, List, [], ◌∷◌, ◌++◌, length, drop, Option, Some, Ok, refl, sym, ap, subst, ◌∙◌, arith}
+use Rattle.std.proofs.Common.{◌≡◌, ℕ, ◌+◌, ◌-◌, ◌≤◌, ◌<◌, inr, List, [], ◌∷◌, ◌++◌, length, drop, Option, Some, Ok, refl, sym, ap, ◌∙◌, arith}
 use Rattle.std.proofs.lemmas.List.{length-append}
 use Rattle.rules_base.specs.Tree.{Tree}
 use Rattle.rules_text.specs.Token.{Token, token_shape}
@@ -9,7 +9,7 @@ use Rattle.rules_text.specs.declared.Shape.TheVariants.{Semicolon}
 use Rattle.rules_text.specs.Text.{Leads, EndsAt, Stands}
 use Rattle.mich_text.proofs.Places.{token_shape_is, token_shorter, okay_is}
 use Rattle.mich_text.proofs.Cut.{gap_cut, leads_cut}
-use Rattle.mich_text.proofs.Reading.{leads_le}
+use Rattle.mich_text.proofs.Reading.{same_rest, leads_le}
 use Rattle.mich_text.proofs.Fed.{leads_on}
 use Rattle.mich_text.proofs.Unique.{no_tokens}
 
@@ -19,9 +19,6 @@ head_is c d r s e = (ap (λ (l : List ℕ). first l) e, ap (λ (l : List ℕ). d
     first : List ℕ → ℕ
     first [] = 0
     first (x ∷ l) = x
-
-some_is : (a b : List ℕ) → Some a ≡ Some b → a ≡ b
-some_is a b e = cc
 
 -- a byte of this shape is the whole token
 sign_again : (c : ℕ) (rest : List ℕ) → shape_of c ≡ Some Semicolon → token_at (c ∷ rest) ≡ Ok (Token.semicolon, rest)
@@ -47,16 +44,16 @@ ends_kept more c rest end p =
 
 -- tokens come behind the first byte
 first_le : (text first rest : List ℕ) (ts : List Token) → after_gap text ≡ Some first → Leads text ts (Some rest) → length rest ≤ length first
-first_le text first rest [] e p = omega (arith, ap (λ (l : List ℕ). length l) (some_is first rest (sym e ∙ p)))
+first_le text first rest [] e p = omega (arith, ap (λ (l : List ℕ). length l) (same_rest first rest (sym e ∙ p)))
 first_le text first rest (t ∷ ts) e p =
-    let same : length p.0 ≡ length first = ap (λ (l : List ℕ). length l) (some_is p.0 first (sym p.2 ∙ e)) in
+    let same : length p.0 ≡ length first = ap (λ (l : List ℕ). length l) (same_rest p.0 first (sym p.2 ∙ e)) in
     omega (arith, same, token_shorter p.0 p.1 t p.3, leads_le p.1 ts rest p.4)
 
 -- where tokens are read one begins
 first_begins : (text first rest : List ℕ) (ts : List Token) → (ts ≡ [] → ⊥) → after_gap text ≡ Some first → Leads text ts (Some rest) → (shape : Shape) × (first_shape first ≡ Some shape)
 first_begins text first rest [] some e p = absurd (some refl)
 first_begins text first rest (t ∷ ts) some e p =
-    let same : p.0 ≡ first = some_is p.0 first (sym p.2 ∙ e) in
+    let same : p.0 ≡ first = same_rest p.0 first (sym p.2 ∙ e) in
     (token_shape t, ap first_shape (sym same) ∙ token_shape_is p.0 t p.1 p.3)
 
 module _ (front more : List ℕ) (tree : Tree) (start end : ℕ) where

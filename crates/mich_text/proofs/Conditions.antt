@@ -1,12 +1,10 @@
 -- The conditions of faults in a text, and in its front up to a limit.
-use Rattle.std.proofs.Common.{◌≡◌, ℕ, zero, suc, ◌+◌, ◌-◌, ◌≤◌, ◌<◌, ◌⊎◌, inl, inr, List, [], ◌∷◌, ◌++◌, length, take, drop, Some, Result, Ok, Err, refl, sym, ap, subst, ◌∙◌, append_assoc, arith}
-use Rattle.std.proofs.lemmas.List.{length-append, append-nil, take-append-le, length-take}
-use Rattle.rules_text.specs.Token.{Token, token_shape}
+use Rattle.std.proofs.Common.{◌≡◌, ℕ, zero, suc, ◌+◌, ◌-◌, ◌≤◌, ◌<◌, inl, inr, List, [], ◌∷◌, ◌++◌, length, take, Some, Err, refl, sym, ap, subst, ◌∙◌, append_assoc, arith}
+use Rattle.std.proofs.lemmas.List.{length-append, append-nil}
 use Rattle.rules_text.specs.Lexical.{token_at, first_shape}
-use Rattle.rules_text.specs.Fault.{Flaw}
 use Rattle.rules_text.specs.declared.Shape.{Shape}
 use Rattle.rules_text.specs.declared.TextKind.{TextKind}
-use Rattle.rules_text.specs.Text.{Leads, IsLimit, Shows, IsFlawed as IsFlawedWithin, IsUnexpected, IsTooDeep}
+use Rattle.rules_text.specs.Text.{IsLimit, Shows, IsFlawed as IsFlawedWithin, IsUnexpected, IsTooDeep}
 use Rattle.mich_text.specs.Plain.{IsFlawed}
 use Rattle.mich_text.specs.Shown.{Counts}
 use Rattle.mich_text.proofs.Places.{flaw_le}

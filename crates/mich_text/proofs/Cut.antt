@@ -13,6 +13,7 @@ use Rattle.rules_text.specs.Fault.{Flaw, name_limit, string_limit}
 use Rattle.rules_text.specs.Lexical.{flaw, is_word, is_noted, begins_word, is_white, opens, closes, after_gap, after_slash, after_line, after_block, name_at, annotation_at, Spelt, spelt, spelt_escape, with_byte, with_escape, escaped, string_at, ◌>>=◌, bytes_at, paired, number_at, signed, made, digits_at, begins_bytes, shape_at, shape_of, token_at}
 use Rattle.rules_text.specs.Text.{Leads}
 use Rattle.mich_text.proofs.Places.{IsAhead, IsWithin, EndsWithin, gap_within, line_within, block_within, spelt_within, digits_ahead, token_shorter}
+use Rattle.mich_text.proofs.Stable.{prefix_stable, prefix_grows}
 use Rattle.mich_text.proofs.Reading.{leads_le}
 
 -- ---- tokens
@@ -30,14 +31,9 @@ either_cut false more x y v w p q = q
 short_cut : {A : Type 0} (more : List ℕ) (front : Result (A × List ℕ) Flaw) (r : A × List ℕ) → length r.1 ≤ length more → IsCut more front (Ok r)
 short_cut more front r h = λ g. absurd (omega (arith, h, g))
 
-prefix_by : (b : Bool) (n m l : ℕ) → (m < l → n ≡ m) → cond b (1 + m) 0 < suc l → cond b (1 + n) 0 ≡ cond b (1 + m) 0
-prefix_by true n m l ih h = ap (λ k. 1 + k) (ih (omega arith))
-prefix_by false n m l ih h = refl
-
 -- a run that ends in the front
 prefix_cut : (p : ℕ → Bool) (xs more : List ℕ) → prefix_len p (xs ++ more) < length xs → prefix_len p xs ≡ prefix_len p (xs ++ more)
-prefix_cut p [] more h = absurd (omega (arith, h))
-prefix_cut p (x ∷ xs) more h = prefix_by (p x) (prefix_len p xs) (prefix_len p (xs ++ more)) (length xs) (prefix_cut p xs more) h
+prefix_cut p xs more h = sym (prefix_stable p xs more (omega (arith, h, prefix_grows p xs more)))
 
 -- what is made of a run of bytes that pass, and of what follows it
 run_cut : {A : Type 0} (f g : ℕ → List ℕ → List ℕ → Result (A × List ℕ) Flaw) (p : ℕ → Bool) (xs more : List ℕ)

@@ -9,7 +9,7 @@ use Rattle.rules_text.specs.declared.Shape.{Shape}
 use Rattle.rules_text.specs.Text.{Leads}
 use Rattle.mich_text.specs.Plain.{IsNode}
 use Rattle.rules_text.specs.Fault.{depth_limit}
-use Rattle.mich_text.proofs.Places.{token_shorter}
+use Rattle.mich_text.proofs.Places.{no_token}
 use Rattle.mich_text.proofs.Reading.{At}
 use Rattle.mich_text.proofs.Stable.{token_stable}
 use Rattle.mich_text.proofs.Verdict.{node_at_sign}
@@ -67,9 +67,6 @@ unfolding token_at
 no_slash c rest behind t e h =
     let same : token_at (47 ∷ rest) ≡ Ok (t, behind) = subst (λ (x : ℕ). token_at (x ∷ rest) ≡ Ok (t, behind)) h e in
     cc same
-
-no_token : (behind : List ℕ) (t : Token) → token_at [] ≡ Ok (t, behind) → ⊥
-no_token behind t e = omega (arith, token_shorter [] behind t e)
 
 -- nothing leads on from the end
 from_nothing : (ts : List Token) (c : ℕ) (rest : List ℕ) → Leads [] ts (Some (c ∷ rest)) → ⊥

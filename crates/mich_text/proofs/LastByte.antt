@@ -1,11 +1,11 @@
 -- A `;` that ends a statement has no fault.
-use Rattle.std.proofs.Common.{◌≡◌, ℕ, true, false, ◌+◌, ◌-◌, ◌≤◌, ◌<◌, ◌⊎◌, inl, inr, List, [], ◌∷◌, ◌++◌, length, Option, Some, None, Ok, Err, refl, sym, ap, subst, ◌∙◌, arith}
+use Rattle.std.proofs.Common.{◌≡◌, ℕ, true, false, ◌≤◌, ◌<◌, inl, inr, List, [], ◌∷◌, ◌++◌, length, Option, Some, None, Ok, refl, sym, ap, subst, ◌∙◌, arith}
 use Rattle.std.proofs.lemmas.List.{append-nil, length-append}
 use Rattle.rules_base.specs.Tree.{Tree}
-use Rattle.rules_text.specs.Token.{Token, token_shape}
+use Rattle.rules_text.specs.Token.{Token}
 use Rattle.rules_text.specs.Syntax.{Element, nothing, followed, ended, element_tokens, IsFront, IsFrontWithin}
 use Rattle.rules_text.specs.Lexical.{token_at, first_shape}
-use Rattle.rules_text.specs.Fault.{Flaw, depth_limit}
+use Rattle.rules_text.specs.Fault.{depth_limit}
 use Rattle.rules_text.specs.declared.Shape.{Shape}
 use Rattle.rules_text.specs.declared.Shape.TheVariants.{Semicolon}
 use Rattle.rules_text.specs.declared.TextKind.{TextKind}
@@ -14,11 +14,11 @@ use Rattle.mich_text.specs.Machine.{Stack, Refusal, run, start, refused, ready_f
 use Rattle.mich_text.specs.Machine as machine
 use Rattle.mich_text.specs.Plain.{IsFlawed, Holds, flawed, in_comment, is_open, unexpected, too_deep, IsFault}
 use Rattle.mich_text.proofs.Places.{token_shape_is, token_shorter}
-use Rattle.mich_text.proofs.Reading.{From, compare, leads_le}
+use Rattle.mich_text.proofs.Reading.{same_rest, From, compare, leads_le}
 use Rattle.mich_text.proofs.Complete.{statements_run}
 use Rattle.mich_text.proofs.Fronts.{run_split, run_more, step_ok, is_front_within, no_front}
-use Rattle.mich_text.proofs.Unique.{clash, same_rest}
-use Rattle.mich_text.proofs.Runs.{Passes, passes}
+use Rattle.mich_text.proofs.Verdict.{clash}
+use Rattle.mich_text.proofs.Runs.{passes}
 use Rattle.mich_text.proofs.Closed.{sign_rest}
 use Rattle.mich_text.proofs.Past.{NoneClosed}
 

@@ -22,6 +22,7 @@ pub mod Depths
 pub mod Printable
 pub mod Runs
 pub mod OneLine
+pub mod Sorts
 pub mod Cut
 pub mod Shown
 pub mod Suffix

@@ -1,11 +1,10 @@
 -- What the front of a text up to a limit is tells what the text is.
-use Rattle.std.proofs.Common.{◌≡◌, ℕ, ◌+◌, ◌-◌, ◌≤◌, ◌<◌, ◌⊎◌, inl, inr, Bool, true, false, ltb, List, [], ◌∷◌, ◌++◌, length, Some, Ok, Err, refl, sym, ap, subst, ◌∙◌, arith}
+use Rattle.std.proofs.Common.{◌≡◌, ℕ, ◌+◌, ◌-◌, ◌≤◌, ◌<◌, ◌⊎◌, inl, inr, Bool, true, false, ltb, List, [], ◌∷◌, ◌++◌, length, Some, Ok, refl, subst, arith}
 use Rattle.std.proofs.lemmas.Bool.{ltb-true, ltb-false}
 use Rattle.std.proofs.lemmas.List.{length-append}
 use Rattle.rules_base.specs.Tree.{Tree}
 use Rattle.rules_text.specs.Token.{Token}
 use Rattle.rules_text.specs.Lexical.{token_at, first_shape}
-use Rattle.rules_text.specs.Fault.{Flaw}
 use Rattle.rules_text.specs.declared.TextKind.{TextKind}
 use Rattle.rules_text.specs.Syntax.{element_tokens}
 use Rattle.rules_text.specs.declared.Shape.{Shape}
@@ -14,7 +13,8 @@ use Rattle.rules_text.specs.Text.{Leads, IsLimit, IsFileLimit, EndsAt, Stands, I
 use Rattle.rules_text.specs.Text as within
 use Rattle.mich_text.specs.Plain as plain
 use Rattle.mich_text.specs.Shown.{Counts}
-use Rattle.mich_text.proofs.Places.{flaw_le, token_shorter, token_shape_is}
+use Rattle.mich_text.proofs.Places.{token_shorter, token_shape_is}
+use Rattle.mich_text.proofs.Sorts.{Sort, of_limit, own, sort_of}
 use Rattle.mich_text.proofs.Fed.{leads_on}
 use Rattle.mich_text.proofs.Conditions.{flawed_cut, unexpected_cut, too_deep_cut, flawed_kept, unexpected_kept, too_deep_kept}
 use Rattle.mich_text.proofs.Closed.{stands_cut, stands_kept, ends_kept}
@@ -26,21 +26,6 @@ Counted (plain.in_comment p) = ⊥
 Counted (plain.is_open p) = ⊥
 Counted (plain.unexpected p) = Unit {0}
 Counted (plain.too_deep p) = Unit {0}
-
--- the text before its first limit byte has this condition
-data IsOwn (before : ℕ) (text : List ℕ) (kind : TextKind) (left : ℕ) (h : within.Holds before text kind left) : Type 0 where
-  own : rank h ≡ 1 + plain.rank kind → IsOwn before text kind left h
-  limit : IsLimit before text left → IsOwn before text kind left h
-  nowhere : left ≡ 0 → IsOwn before text kind left h
-
-own_is : (before : ℕ) (text : List ℕ) (kind : TextKind) (left : ℕ) (h : within.Holds before text kind left) → IsOwn before text kind left h
-own_is before text kind left (within.past_limit (k, inl l)) = limit (inl l.limit)
-own_is before text kind left (within.past_limit (k, inr f)) = limit (inr f)
-own_is before text kind left (within.flawed p) = own (omega (arith, (flaw_le p.here (record { kind = kind; left = left }) p.wrong).1))
-own_is before text kind left (within.in_comment p) = nowhere p.left_is
-own_is before text kind left (within.is_open p) = nowhere p.left_is
-own_is before text kind left (within.unexpected p) = own (omega (arith, ap plain.rank p.kind_is))
-own_is before text kind left (within.too_deep p) = own (omega (arith, ap plain.rank p.kind_is))
 
 pub split : (a b : ℕ) → (a ≤ b) ⊎ (b < a)
 split a b = by (ltb b a) refl
@@ -78,26 +63,24 @@ module _ (before : ℕ) (front more : List ℕ) (at : ℕ) (is_limit : IsLimit b
       let h = holds_kept k left far p.holds c in
       record {
         holds = h;
-        first = λ j other q. later h (own_is before (front ++ more) k (left + length more) h) j other q;
+        first = λ j other q. later h (sort_of before (front ++ more) k (left + length more) h) j other q;
         within = λ tree start end s. closed tree start end s;
       } where
-        ranks : (h : within.Holds before (front ++ more) k (left + length more)) → IsOwn before (front ++ more) k (left + length more) h → rank h ≡ 1 + plain.rank k
-        ranks h (own e) = e
-        ranks h (limit l) = absurd (omega (arith, last (left + length more) l, cuts, far))
-        ranks h (nowhere e) = absurd (omega (arith, e, far))
+        ranks : (h : within.Holds before (front ++ more) k (left + length more)) → Sort before (front ++ more) k (left + length more) h → rank h ≡ 1 + plain.rank k
+        ranks h (own p e) = e
+        ranks h (of_limit e k l) = absurd (omega (arith, last (left + length more) l, cuts, far))
 
         by : (h : within.Holds before (front ++ more) k (left + length more)) → rank h ≡ 1 + plain.rank k → (j : TextKind) (other : ℕ) (q : within.Holds before (front ++ more) j other) → at < other
-            → IsOwn before (front ++ more) j other q → (other - length more < left) ⊎ ((other - length more ≡ left) × (plain.rank k ≤ plain.rank j)) → (other < left + length more) ⊎ ((other ≡ left + length more) × (rank h ≤ rank q))
-        by h r j other q far_off (own e) (inl less) = inl (omega (arith, less, far_off, cuts))
-        by h r j other q far_off (own e) (inr same) = inr (omega (arith, same.0, far_off, cuts), omega (arith, same.1, r, e))
-        by h r j other q far_off (limit l) d = absurd (omega (arith, last other l, far_off))
-        by h r j other q far_off (nowhere e) d = absurd (omega (arith, e, far_off))
+            → Sort before (front ++ more) j other q → (other - length more < left) ⊎ ((other - length more ≡ left) × (plain.rank k ≤ plain.rank j)) → (other < left + length more) ⊎ ((other ≡ left + length more) × (rank h ≤ rank q))
+        by h r j other q far_off (own p e) (inl less) = inl (omega (arith, less, far_off, cuts))
+        by h r j other q far_off (own p e) (inr same) = inr (omega (arith, same.0, far_off, cuts), omega (arith, same.1, r, e))
+        by h r j other q far_off (of_limit e k l) d = absurd (omega (arith, last other l, far_off))
 
-        later : (h : within.Holds before (front ++ more) k (left + length more)) → IsOwn before (front ++ more) k (left + length more) h → (j : TextKind) (other : ℕ) (q : within.Holds before (front ++ more) j other)
+        later : (h : within.Holds before (front ++ more) k (left + length more)) → Sort before (front ++ more) k (left + length more) h → (j : TextKind) (other : ℕ) (q : within.Holds before (front ++ more) j other)
             → (other < left + length more) ⊎ ((other ≡ left + length more) × (rank h ≤ rank q))
         later h o j other q = elim (split other at) [
           | inl near ↦ inl (omega (arith, near, cuts, far))
-          | inr off ↦ by h (ranks h o) j other q off (own_is before (front ++ more) j other q) (p.first j (other - length more) (holds_cut j other off q))
+          | inr off ↦ by h (ranks h o) j other q off (sort_of before (front ++ more) j other q) (p.first j (other - length more) (holds_cut j other off q))
         ]
 
         closed : (tree : Tree) (start end : ℕ) → Stands (front ++ more) tree start end → end < left + length more

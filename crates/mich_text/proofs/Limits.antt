@@ -1,6 +1,6 @@
 -- What a text is, by what its front is up to the first byte past a limit.
-use Rattle.std.proofs.Common.{◌≡◌, ℕ, zero, suc, ◌+◌, ◌-◌, ◌≤◌, ◌<◌, ◌⊎◌, inl, inr, max, Bool, true, false, eqb, ltb, List, [], ◌∷◌, ◌++◌, length, take, drop, take-append-drop, Option, Some, None, Result, Ok, Err, refl, sym, ap, subst, ◌∙◌, arith}
-use Rattle.std.proofs.lemmas.Bool.{eqb-true, eqb-false, ltb-true, ltb-false, eq-eqb}
+use Rattle.std.proofs.Common.{◌≡◌, ℕ, ◌+◌, ◌-◌, ◌≤◌, ◌<◌, ◌⊎◌, inl, inr, max, Bool, true, false, eqb, ltb, List, [], ◌∷◌, ◌++◌, length, take, drop, take-append-drop, Option, Some, None, Result, Ok, Err, refl, sym, ap, subst, ◌∙◌, arith}
+use Rattle.std.proofs.lemmas.Bool.{eqb-true, eqb-false, ltb-true, ltb-false}
 use Rattle.std.proofs.lemmas.List.{length-append, length-drop, take_all}
 use Rattle.std.proofs.lemmas.List.Sums.{prefix_len-le-length}
 use Rattle.std.proofs.Math.Seq.{drop-append_seam}
@@ -10,7 +10,7 @@ use Rattle.rules_base.specs.Tree.{Tree}
 use Rattle.mich_base.specs.View.{tree}
 use Rattle.rules_text.specs.declared.TextKind.{TextKind}
 use Rattle.rules_text.specs.declared.TextKind.TheVariants.{BadChar, BadString, BadBytes, BadNumber, Unclosed, Unexpected, TooDeep, TooLong}
-use Rattle.rules_text.specs.Text.{IsLimit, IsStatementLimit, IsFileLimit, EndsAt, Stands, Holds, past_limit, flawed, in_comment, is_open, unexpected, too_deep, IsFault, IsNode, IsEnd}
+use Rattle.rules_text.specs.Text.{IsLimit, IsStatementLimit, IsFileLimit, EndsAt, Holds, IsFault, IsNode}
 use Rattle.mich_text.specs.Plain as plain
 use Rattle.mich_text.specs.Shown.{Counts, IsOpenBytes}
 use Rattle.mich_text.specs.Limited.{IsOnly, IsUpTo}
@@ -21,6 +21,7 @@ use Rattle.mich_text.specs.declared.fault.LexError.TheVariants as errors
 use Rattle.mich_text.proofs.Places.{gap_le}
 use Rattle.mich_text.proofs.Verdict.{holds_within, stands_within}
 use Rattle.mich_text.proofs.Unique.{one_statement}
+use Rattle.mich_text.proofs.Sorts.{Sort, of_limit, own, sort_of}
 use Rattle.mich_text.proofs.Suffix.{leads_end}
 use Rattle.mich_text.proofs.Flaws.{unclosed_left}
 use Rattle.mich_text.proofs.Odd.{IsOdd, is_odd, bytes_left}
@@ -255,13 +256,10 @@ limit_within before text left (inl s) = omega (arith, s.left_is, gap_le text s.f
 limit_within before text left (inr f) = f.here
 
 fault_within : (before : ℕ) (text : List ℕ) (k : TextKind) (left : ℕ) → Holds before text k left → left ≤ length text
-fault_within before text k left (past_limit (e, inl l)) = limit_within before text left (inl l.limit)
-fault_within before text k left (past_limit (e, inr f)) = f.here
-fault_within before text k left (flawed p) = holds_within text k left (plain.flawed (record { before = p.tokens; here = p.here; leads = p.leads; some = p.some; wrong = p.wrong }))
-fault_within before text k left (in_comment p) = holds_within text k left (plain.in_comment p)
-fault_within before text k left (is_open p) = holds_within text k left (plain.is_open p)
-fault_within before text k left (unexpected p) = holds_within text k left (plain.unexpected p)
-fault_within before text k left (too_deep p) = holds_within text k left (plain.too_deep p)
+fault_within before text k left h = by (sort_of before text k left h) where
+  by : Sort before text k left h → left ≤ length text
+  by (of_limit e r l) = limit_within before text left l
+  by (own p r) = holds_within text k left p
 
 read_within : (before : ℕ) (text : List ℕ) (n : ℕ) → length text ≤ n → (r : Result (Option Found) LexError) → IsLimitedRead before text r → IsWithinText n r
 read_within before text n h (Ok None) p = tt

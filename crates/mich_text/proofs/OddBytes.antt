@@ -1,20 +1,20 @@
 -- Bytes whose digits go on to a limit, and have no pair for the last of them: what the text is. They are read without it.
-use Rattle.std.proofs.Common.{◌≡◌, ℕ, ◌+◌, ◌-◌, ◌≤◌, ◌<◌, ◌⊎◌, inl, inr, List, [], ◌∷◌, ◌++◌, length, Some, Ok, Err, refl, sym, ap, subst, ◌∙◌, arith}
+use Rattle.std.proofs.Common.{◌≡◌, ℕ, ◌+◌, ◌-◌, ◌≤◌, ◌<◌, ◌⊎◌, inl, inr, List, [], ◌∷◌, ◌++◌, length, Some, Ok, Err, sym, ap, subst, ◌∙◌, arith}
 use Rattle.std.proofs.lemmas.List.{length-append}
 use Rattle.rules_base.specs.Tree.{Tree}
 use Rattle.rules_text.specs.Token.{Token}
 use Rattle.rules_text.specs.Lexical.{token_at}
 use Rattle.rules_text.specs.Fault.{Flaw}
 use Rattle.rules_text.specs.declared.TextKind.{TextKind}
-use Rattle.rules_text.specs.declared.TextKind.TheVariants.{BadBytes, Unexpected, TooDeep, TooLong}
+use Rattle.rules_text.specs.declared.TextKind.TheVariants.{BadBytes, TooDeep, TooLong}
 use Rattle.rules_text.specs.Text.{Leads, IsLimit, Shows, IsUnexpected, IsTooDeep, EndsAt, Stands, IsFault, rank}
 use Rattle.rules_text.specs.Text as within
 use Rattle.mich_text.specs.Plain as plain
 use Rattle.mich_text.proofs.Places.{flaw_le, token_shorter}
-use Rattle.mich_text.proofs.Reading.{From, IsPassed, compare, leads_le}
-use Rattle.mich_text.proofs.Verdict.{err_is}
-use Rattle.mich_text.proofs.Unique.{clash, same_rest, nothing_holds}
-use Rattle.mich_text.proofs.Runs.{Passes, passes}
+use Rattle.mich_text.proofs.Reading.{same_rest, From, compare, leads_le}
+use Rattle.mich_text.proofs.Verdict.{clash, err_is}
+use Rattle.mich_text.proofs.Unique.{nothing_holds}
+use Rattle.mich_text.proofs.Runs.{passes}
 use Rattle.mich_text.proofs.Cut.{leads_cut}
 use Rattle.mich_text.proofs.Odd.{IsOdd, bytes_left, odd_not_shown, odd_front}
 use Rattle.mich_text.proofs.Conditions.{shown_cut, unexpected_cut, too_deep_cut, unexpected_kept, too_deep_kept}

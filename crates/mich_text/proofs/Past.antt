@@ -1,19 +1,18 @@
 -- A text that is too long at its first limit byte.
-use Rattle.std.proofs.Common.{◌≡◌, ℕ, ◌+◌, ◌-◌, ◌≤◌, ◌<◌, ◌⊎◌, inl, inr, List, [], ◌∷◌, ◌++◌, length, Option, Some, Ok, refl, sym, ap, subst, ◌∙◌, arith}
-use Rattle.std.proofs.lemmas.List.{append-nil}
+use Rattle.std.proofs.Common.{◌≡◌, ℕ, ◌+◌, ◌-◌, ◌≤◌, ◌<◌, ◌⊎◌, inl, inr, List, [], ◌∷◌, ◌++◌, length, Some, Ok, refl, sym, ap, ◌∙◌, arith}
 use Rattle.rules_base.specs.Tree.{Tree}
 use Rattle.rules_text.specs.Token.{Token}
 use Rattle.rules_text.specs.Syntax.{Element, element_tokens, element_tree}
-use Rattle.rules_text.specs.Lexical.{token_at, after_gap}
+use Rattle.rules_text.specs.Lexical.{token_at}
 use Rattle.rules_text.specs.declared.TextKind.{TextKind}
 use Rattle.rules_text.specs.declared.TextKind.TheVariants.{TooLong}
 use Rattle.rules_text.specs.Text.{Leads, IsLimit, IsFileLimit, IsStatementLimit, IsLongStatement, EndsAt, Stands, IsFault, rank}
 use Rattle.rules_text.specs.Text as within
 use Rattle.mich_text.specs.Plain as plain
-use Rattle.mich_text.proofs.Places.{token_shorter}
-use Rattle.mich_text.proofs.Reading.{From, compare}
+use Rattle.mich_text.proofs.Places.{no_token}
+use Rattle.mich_text.proofs.Reading.{same_rest, From, compare}
 use Rattle.mich_text.proofs.Signs.{no_inner}
-use Rattle.mich_text.proofs.Unique.{one_statement, end_token, end_leads, no_tokens, nothing_holds, no_token, same_rest}
+use Rattle.mich_text.proofs.Unique.{end_token, end_leads, no_tokens, nothing_holds}
 use Rattle.mich_text.proofs.Closed.{stands_cut, cut_rest}
 use Rattle.mich_text.proofs.Limited.{holds_cut, closed_rest, split}
 

@@ -187,6 +187,10 @@ token_ahead (c ∷ rest) = shape_ahead c rest (shape_of c) refl
 pub token_shorter : (text behind : List ℕ) (t : Token) → token_at text ≡ Ok (t, behind) → length behind < length text
 token_shorter text behind t e = subst (IsAhead (length text)) e (token_ahead text)
 
+-- no token stands at the end of the input
+pub no_token : (behind : List ℕ) (t : Token) → token_at [] ≡ Ok (t, behind) → ⊥
+no_token behind t e = omega (arith, token_shorter [] behind t e)
+
 pub flaw_le : (text : List ℕ) (f : Flaw) → token_at text ≡ Err f → (f.left ≤ length text) × (rank f.kind ≡ 0)
 flaw_le text f e = subst (IsAhead (length text)) e (token_ahead text)
 

@@ -11,7 +11,7 @@ use Rattle.rules_text.specs.Fault.{Flaw}
 use Rattle.rules_text.specs.declared.TextKind.{TextKind}
 use Rattle.rules_text.specs.declared.TextKind.TheVariants.{Unclosed, Unexpected, TooDeep}
 use Rattle.rules_text.specs.Fault.{depth_limit}
-use Rattle.mich_text.proofs.Places.{gap_le, token_shorter, token_shape_is, okay_is}
+use Rattle.mich_text.proofs.Places.{no_token, gap_le, token_shorter, token_shape_is, okay_is}
 use Rattle.mich_text.proofs.Fronts.{run_split, is_front_within, is_front}
 use Rattle.mich_text.proofs.Whole.{NoStatement}
 
@@ -38,17 +38,17 @@ pub record IsPassed (ts others : List Token) (rest : Option (List ℕ)) : Type 0
   pub rest_is : rest ≡ Some at
   pub read : token_at at ≡ Ok (token, behind)
 
-some_is : (a b : List ℕ) → Some a ≡ Some b → a ≡ b
-some_is a b e = cc
+pub same_rest : (a b : List ℕ) → Some a ≡ Some b → a ≡ b
+same_rest a b e = cc
 
 pub compare : (text : List ℕ) (ts : List Token) (here : List ℕ) (others : List Token) (rest : Option (List ℕ)) → Leads text ts (Some here) → Leads text others rest → IsFurther ts here others rest ⊎ IsPassed ts others rest
 compare text [] here [] rest p q = inl (record { more = []; tokens = refl; from = sym q ∙ p })
 compare text [] here (t ∷ others) rest p q =
-    let same : q.0 ≡ here = some_is q.0 here (sym q.2 ∙ p) in
+    let same : q.0 ≡ here = same_rest q.0 here (sym q.2 ∙ p) in
     inl (record { more = t ∷ others; tokens = refl; from = (q.1, subst (λ (x : List ℕ). token_at x ≡ Ok (t, q.1)) same q.3, q.4) })
 compare text (t ∷ ts) here [] rest p q = inr (record { at = p.0; token = t; more = ts; behind = p.1; tokens = refl; rest_is = sym q ∙ p.2; read = p.3 })
 compare text (t ∷ ts) here (u ∷ others) rest p q =
-    let same : p.0 ≡ q.0 = some_is p.0 q.0 (sym p.2 ∙ q.2) in
+    let same : p.0 ≡ q.0 = same_rest p.0 q.0 (sym p.2 ∙ q.2) in
     let read : (t, p.1) ≡ (u, q.1) = okay_is (t, p.1) (u, q.1) (sym p.3 ∙ ap token_at same ∙ q.3) in
     let token : t ≡ u = ap (λ (x : Token × List ℕ). x.0) read in
     let tail : Leads p.1 others rest = subst (λ (x : List ℕ). Leads x others rest) (sym (ap (λ (x : Token × List ℕ). x.1) read)) q.4 in
@@ -64,10 +64,6 @@ leads_more text (u ∷ ts) here behind t rest p read gap = (p.0, p.1, p.2, p.3, 
 pub leads_le : (text : List ℕ) (ts : List Token) (rest : List ℕ) → Leads text ts (Some rest) → length rest ≤ length text
 leads_le text [] rest p = gap_le text rest p
 leads_le text (t ∷ ts) rest p = omega (arith, gap_le text p.0 p.2, token_shorter p.0 p.1 t p.3, leads_le p.1 ts rest p.4)
-
--- nothing is left of an empty rest
-no_token : (behind : List ℕ) (t : Token) → token_at [] ≡ Ok (t, behind) → ⊥
-no_token behind t e = omega (arith, token_shorter [] behind t e)
 
 -- ---- how far the parser is
 
@@ -100,7 +96,7 @@ shape_of_passed at behind t shape e f = same (token_shape t) shape (sym (token_s
 pub further : (text : List ℕ) (ts : List Token) (here : List ℕ) (s : Stack) (kind : TextKind) (left : ℕ) → At text ts here s → Holds text kind left → Further ts here kind left
 further text ts here s kind left a (flawed p) = elim (compare text ts here p.before (Some p.here) a.leads p.leads) [
   | inl f ↦ flaw_there f.more p.here f.from p.some p.wrong
-  | inr g ↦ absurd (clash (some_is p.here g.at g.rest_is) p.wrong g.read)
+  | inr g ↦ absurd (clash (same_rest p.here g.at g.rest_is) p.wrong g.read)
 ] where
   clash : {x y : List ℕ} {r : Token × List ℕ} {d : Flaw} → x ≡ y → token_at x ≡ Err d → token_at y ≡ Ok r → ⊥
   clash e f g = cc (sym f ∙ ap token_at e ∙ g)
@@ -110,13 +106,13 @@ further text ts here s kind left a (in_comment p) = elim (compare text ts here p
 ]
 further text ts here s kind left a (is_open p) = elim (compare text ts here p.before (Some []) a.leads p.leads) [
   | inl f ↦ end_there f.more f.from p.kind_is p.left_is
-  | inr g ↦ absurd (no_token g.behind g.token (ap token_at (some_is [] g.at g.rest_is) ∙ g.read))
+  | inr g ↦ absurd (no_token g.behind g.token (ap token_at (same_rest [] g.at g.rest_is) ∙ g.read))
 ]
 further text ts here s kind left a (is_unexpected p) = elim (compare text ts here p.before (Some p.here) a.leads p.leads) [
   | inl f ↦ unexpected_there f.more p.here p.shape f.from p.begins (λ t e h. p.ends t e (subst (λ (l : List Token). IsFront (l ++ t ∷ [])) (sym f.tokens) h)) p.kind_is p.left_is
-  | inr g ↦ absurd (p.ends g.token (shape_of_passed p.here g.behind g.token p.shape (ap token_at (some_is p.here g.at g.rest_is) ∙ g.read) p.begins) (is_front depth_limit (p.before ++ g.token ∷ []) (passed_front s ts p.before g.more g.token a.runs g.tokens)))
+  | inr g ↦ absurd (p.ends g.token (shape_of_passed p.here g.behind g.token p.shape (ap token_at (same_rest p.here g.at g.rest_is) ∙ g.read) p.begins) (is_front depth_limit (p.before ++ g.token ∷ []) (passed_front s ts p.before g.more g.token a.runs g.tokens)))
 ]
 further text ts here s kind left a (is_too_deep p) = elim (compare text ts here p.before (Some p.here) a.leads p.leads) [
   | inl f ↦ deep_there f.more p.here p.shape f.from p.begins (λ t e h. p.deep t e (subst (λ (l : List Token). IsFrontWithin depth_limit (l ++ t ∷ [])) (sym f.tokens) h)) p.kind_is p.left_is
-  | inr g ↦ absurd (p.deep g.token (shape_of_passed p.here g.behind g.token p.shape (ap token_at (some_is p.here g.at g.rest_is) ∙ g.read) p.begins) (passed_front s ts p.before g.more g.token a.runs g.tokens))
+  | inr g ↦ absurd (p.deep g.token (shape_of_passed p.here g.behind g.token p.shape (ap token_at (same_rest p.here g.at g.rest_is) ∙ g.read) p.begins) (passed_front s ts p.before g.more g.token a.runs g.tokens))
 ]

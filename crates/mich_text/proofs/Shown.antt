@@ -1,5 +1,5 @@
 -- A flaw that some bytes show, whatever follows them.
-use Rattle.std.proofs.Common.{◌≡◌, ℕ, suc, ◌+◌, ◌-◌, ◌≤◌, ◌<◌, ◌/◌, ◌%◌, ◌^◌, Bool, true, false, cond, ◌||◌, ◌&&◌, eqb, ltb, leb, List, [], ◌∷◌, ◌++◌, length, take, drop, Option, Some, None, ℤ, Result, Ok, Err, refl, sym, ap, subst, ◌∙◌, arith}
+use Rattle.std.proofs.Common.{◌≡◌, ℕ, ◌+◌, ◌-◌, ◌≤◌, ◌<◌, ◌/◌, ◌%◌, ◌^◌, Bool, true, false, cond, ◌||◌, ◌&&◌, eqb, ltb, leb, List, [], ◌∷◌, ◌++◌, length, take, drop, Option, Some, None, ℤ, Result, Ok, Err, refl, sym, ap, subst, ◌∙◌, arith}
 use Rattle.std.proofs.lemmas.Bool.{ltb-true, ltb-false, lt-ltb, eqb-true}
 use Rattle.std.proofs.lemmas.List.{take-append-le, drop-append-le, length-drop, length-append, take-append-drop, take-take}
 use Rattle.std.proofs.lemmas.List.Sums.{prefix_len-le-length}
@@ -14,6 +14,7 @@ use Rattle.rules_text.specs.declared.Shape.TheVariants.{Digits, Quoted, Word, No
 use Rattle.rules_text.specs.Fault.{Flaw, name_limit, string_limit}
 use Rattle.rules_text.specs.Lexical.{flaw, is_word, is_noted, begins_word, name_at, annotation_at, Spelt, spelt, spelt_escape, with_byte, with_escape, escaped, string_at, ◌>>=◌, bytes_at, paired, number_at, signed, made, begins_bytes, shape_at, shape_of, token_at}
 use Rattle.mich_text.specs.Shown.{Counts}
+use Rattle.mich_text.proofs.Stable.{prefix_stable, prefix_grows}
 use Rattle.mich_text.proofs.Numbers.{after_ge, after_append}
 
 -- with so many bytes more behind its place
@@ -27,24 +28,6 @@ IsShown text more (Err f) again = Counts text f.kind → again ≡ Err (moved (l
 -- a flaw at the first byte
 at_first : {A : Type 0} (kind : TextKind) (text more : List ℕ) → ◌≡◌ {A = Result (A × List ℕ) Flaw} (flaw kind (text ++ more)) (Err (moved (length more) (record { kind = kind; left = length text })))
 at_first kind text more = ap (λ (n : ℕ). Err (record { kind = kind; left = n })) (length-append text more)
-
--- ---- runs
-
-grows_by : (b : Bool) (n m : ℕ) → n ≤ m → cond b (1 + n) 0 ≤ cond b (1 + m) 0
-grows_by true n m h = omega (arith, h)
-grows_by false n m h = omega arith
-
-prefix_grows : (p : ℕ → Bool) (xs more : List ℕ) → prefix_len p xs ≤ prefix_len p (xs ++ more)
-prefix_grows p [] more = omega arith
-prefix_grows p (x ∷ xs) more = grows_by (p x) (prefix_len p xs) (prefix_len p (xs ++ more)) (prefix_grows p xs more)
-
-keeps_by : (b : Bool) (n m l : ℕ) → (n < l → m ≡ n) → cond b (1 + n) 0 < suc l → cond b (1 + m) 0 ≡ cond b (1 + n) 0
-keeps_by true n m l ih h = ap (λ k. 1 + k) (ih (omega (arith, h)))
-keeps_by false n m l ih h = refl
-
-prefix_keeps : (p : ℕ → Bool) (xs more : List ℕ) → prefix_len p xs < length xs → prefix_len p (xs ++ more) ≡ prefix_len p xs
-prefix_keeps p [] more h = absurd (omega (arith, h))
-prefix_keeps p (x ∷ xs) more h = keeps_by (p x) (prefix_len p xs) (prefix_len p (xs ++ more)) (length xs) (prefix_keeps p xs more) h
 
 -- ---- names and annotations
 
@@ -174,7 +157,7 @@ bytes_shown c d xs more = by (ltb n (length xs)) refl where
   m = prefix_len is_ascii_hexdigit (xs ++ more)
 
   by : (b : Bool) → ltb n (length xs) ≡ b → IsShown (c ∷ d ∷ xs) more (bytes_of (c ∷ d ∷ xs) n (take n xs) (drop n xs)) (bytes_of (c ∷ d ∷ (xs ++ more)) m (take m (xs ++ more)) (drop m (xs ++ more)))
-  by true e = bytes_inside c d xs more n (ltb-true n (length xs) e) (drop n xs) refl m (prefix_keeps is_ascii_hexdigit xs more (ltb-true n (length xs) e))
+  by true e = bytes_inside c d xs more n (ltb-true n (length xs) e) (drop n xs) refl m (prefix_stable is_ascii_hexdigit xs more (ltb-true n (length xs) e))
   by false e = bytes_end (ltb string_limit (n / 2)) (eqb (n % 2) 1 || begins_word (drop n xs)) c d xs more n m (paired (take n xs), drop n xs) (take m (xs ++ more)) (drop m (xs ++ more)) refl refl (prefix_grows is_ascii_hexdigit xs more) (ltb-false n (length xs) e)
 
 -- ---- numbers
@@ -246,13 +229,13 @@ number_run minus text ds more some =
     none : eqb n 0 ≡ true → Wrong
     none e =
         let zero_n : n ≡ 0 = eqb-true n 0 e in
-        let same : m ≡ n = prefix_keeps is_ascii_digit ds more (omega (arith, zero_n, some)) in
+        let same : m ≡ n = prefix_stable is_ascii_digit ds more (omega (arith, zero_n, some)) in
         or_left (eqb m 0 || begins_word (drop m (ds ++ more))) (ltb most (digits_value 10 (take m (ds ++ more)))) (or_left (eqb m 0) (begins_word (drop m (ds ++ more))) (ap (λ (k : ℕ). eqb k 0) same ∙ e))
 
     word : begins_word (drop n ds) ≡ true → Wrong
     word e =
         let lt : n < length ds = omega (arith, length-drop n ds, begins_some (drop n ds) e) in
-        let same : m ≡ n = prefix_keeps is_ascii_digit ds more lt in
+        let same : m ≡ n = prefix_stable is_ascii_digit ds more lt in
         let back : drop m (ds ++ more) ≡ drop n ds ++ more = ap (λ (k : ℕ). drop k (ds ++ more)) same ∙ drop-append-le n ds more (omega (arith, lt)) in
         or_left (eqb m 0 || begins_word (drop m (ds ++ more))) (ltb most (digits_value 10 (take m (ds ++ more))))
         (or_right (eqb m 0) (begins_word (drop m (ds ++ more))) (ap begins_word back ∙ begins_more (drop n ds) more (begins_some (drop n ds) e) ∙ e))

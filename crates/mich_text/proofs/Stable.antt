@@ -1,5 +1,5 @@
 -- A token with a byte behind it is the same whatever bytes follow.
-use Rattle.std.proofs.Common.{◌≡◌, ℕ, suc, ◌+◌, ◌-◌, ◌<◌, ◌/◌, ◌%◌, ◌^◌, Bool, true, false, cond, ◌||◌, ◌&&◌, eqb, ltb, leb, List, [], ◌∷◌, ◌++◌, length, take, drop, Option, Some, None, ℤ, Result, Ok, Err, refl, ap, subst, ◌∙◌, add-one, arith}
+use Rattle.std.proofs.Common.{◌≡◌, ℕ, suc, ◌+◌, ◌-◌, ◌≤◌, ◌<◌, ◌/◌, ◌%◌, ◌^◌, Bool, true, false, cond, ◌||◌, ◌&&◌, eqb, ltb, leb, List, [], ◌∷◌, ◌++◌, length, take, drop, Option, Some, None, ℤ, Result, Ok, Err, refl, ap, subst, ◌∙◌, add-one, arith}
 use Rattle.std.proofs.lemmas.List.{take-append-le, drop-append-le, length-drop}
 use Rattle.std.specs.List.{prefix_len}
 use Rattle.std.specs.Char.{is_ascii_digit, is_ascii_hexdigit}
@@ -23,9 +23,17 @@ prefix_by : (b : Bool) (n m l : ℕ) → (n < l → m ≡ n) → cond b (1 + n) 
 prefix_by true n m l ih h = ap (λ k. 1 + k) (ih (omega arith))
 prefix_by false n m l ih h = refl
 
-prefix_stable : (p : ℕ → Bool) (xs more : List ℕ) → prefix_len p xs < length xs → prefix_len p (xs ++ more) ≡ prefix_len p xs
+pub prefix_stable : (p : ℕ → Bool) (xs more : List ℕ) → prefix_len p xs < length xs → prefix_len p (xs ++ more) ≡ prefix_len p xs
 prefix_stable p [] more h = absurd (omega arith)
 prefix_stable p (x ∷ xs) more h = prefix_by (p x) (prefix_len p xs) (prefix_len p (xs ++ more)) (length xs) (prefix_stable p xs more) h
+
+grows_by : (b : Bool) (n m : ℕ) → n ≤ m → cond b (1 + n) 0 ≤ cond b (1 + m) 0
+grows_by true n m h = omega (arith, h)
+grows_by false n m h = omega arith
+
+pub prefix_grows : (p : ℕ → Bool) (xs more : List ℕ) → prefix_len p xs ≤ prefix_len p (xs ++ more)
+prefix_grows p [] more = omega arith
+prefix_grows p (x ∷ xs) more = grows_by (p x) (prefix_len p xs) (prefix_len p (xs ++ more)) (prefix_grows p xs more)
 
 -- what is made of a run of bytes that pass, and of what follows it
 run_stable : {A : Type 0} (f g : ℕ → List ℕ → List ℕ → Result (A × List ℕ) Flaw) (p : ℕ → Bool) (xs more : List ℕ)

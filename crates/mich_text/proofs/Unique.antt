@@ -1,5 +1,5 @@
 -- A text is one thing only.
-use Rattle.std.proofs.Common.{◌≡◌, ℕ, ◌≤◌, ◌<◌, ◌⊎◌, max, false, List, [], ◌∷◌, ◌++◌, length, Option, Some, None, Result, Ok, Err, refl, sym, ap, subst, ◌∙◌, arith, inl, inr}
+use Rattle.std.proofs.Common.{◌≡◌, ℕ, max, false, List, [], ◌∷◌, ◌++◌, length, Option, Some, None, Result, Ok, refl, sym, ap, subst, ◌∙◌, arith, inl, inr}
 use Rattle.std.proofs.lemmas.List.{append-nil}
 use Rattle.rules_base.specs.Tree.{Tree}
 use Rattle.rules_text.specs.Token.{Token}
@@ -13,12 +13,10 @@ use Rattle.rules_text.specs.Fault.{Flaw}
 use Rattle.rules_text.specs.declared.TextKind.{TextKind}
 use Rattle.rules_text.specs.declared.TextKind.TheVariants.{Unclosed, Unexpected, TooDeep}
 use Rattle.mich_text.proofs.Complete.{element_runs}
-use Rattle.mich_text.proofs.Places.{flaw_le, token_shorter, okay_is}
-use Rattle.mich_text.proofs.Reading.{From, compare}
+use Rattle.mich_text.proofs.Places.{no_token, flaw_le, okay_is}
+use Rattle.mich_text.proofs.Reading.{same_rest, From, compare}
+use Rattle.mich_text.proofs.Verdict.{clash, wrongly, err_is}
 use Rattle.mich_text.proofs.Signs.{no_inner}
-
-pub same_rest : (a b : List ℕ) → Some a ≡ Some b → a ≡ b
-same_rest a b e = cc
 
 okay_stack : Stack → Result Stack Refusal
 okay_stack s = Ok s
@@ -36,9 +34,6 @@ one_tree e f h =
     let q = element_runs high false [] [] f (omega arith) in
     let same : p.0 ≡ q.0 = same_stack p.0 q.0 (sym p.1 ∙ ap (run high start) h ∙ q.1) in
     ap (λ s. ended_tree s (element_tree e)) (sym p.2 ∙ ap finish same ∙ q.2)
-
-pub no_token : (behind : List ℕ) (t : Token) → token_at [] ≡ Ok (t, behind) → ⊥
-no_token behind t e = omega (arith, token_shorter [] behind t e)
 
 pub end_token : (rest behind : List ℕ) (end : ℕ) (t : Token) → EndsAt rest end → token_at rest ≡ Ok (t, behind) → t ≡ Token.semicolon
 end_token [] behind end t p e = absurd (no_token behind t e)
@@ -68,23 +63,11 @@ one_statement text x y a b c d p q = elim (compare text p.tokens p.rest q.tokens
 
 -- ---- one kind
 
-wrongly : Flaw → Result (Token × List ℕ) Flaw
-wrongly d = Err d
-
-flaw_is : (d e : Flaw) → wrongly d ≡ wrongly e → d ≡ e
-unfolding wrongly
-flaw_is d e h = cc
-
 same_kind : (k j : TextKind) (a b : ℕ) → wrongly (record { kind = k; left = a }) ≡ wrongly (record { kind = j; left = b }) → k ≡ j
-unfolding wrongly
-same_kind k j a b e = ap (λ (d : Flaw). d.kind) (flaw_is (record { kind = k; left = a }) (record { kind = j; left = b }) e)
-
-pub clash : (x : List ℕ) {r : Token × List ℕ} {d : Flaw} → token_at x ≡ Err d → token_at x ≡ Ok r → ⊥
-clash x f g = cc (sym f ∙ g)
+same_kind k j a b e = ap (λ (d : Flaw). d.kind) (err_is (record { kind = k; left = a }) (record { kind = j; left = b }) e)
 
 module _ (text : List ℕ) (k j : TextKind) (left other : ℕ) where
   two_flaws : IsFlawed text k left → IsFlawed text j other → k ≡ j
-  unfolding wrongly
   two_flaws p q = elim (compare text p.before p.here q.before (Some q.here) p.leads q.leads) [
     | inl f ↦ by f.more f.from
     | inr g ↦ absurd (clash q.here q.wrong (ap token_at (same_rest q.here g.at g.rest_is) ∙ g.read))

@@ -1,24 +1,22 @@
 -- A text without a limit byte.
-use Rattle.std.proofs.Common.{◌≡◌, ℕ, ◌+◌, ◌≤◌, ◌<◌, ◌⊎◌, inl, inr, List, length, ap, arith}
+use Rattle.std.proofs.Common.{◌≡◌, ℕ, ◌+◌, ◌≤◌, ◌<◌, ◌⊎◌, inl, inr, List, length, arith}
 use Rattle.rules_base.specs.Tree.{Tree}
-use Rattle.rules_text.specs.Fault.{Flaw, statement_limit, file_limit}
+use Rattle.rules_text.specs.Fault.{statement_limit}
 use Rattle.rules_text.specs.declared.TextKind.{TextKind}
 use Rattle.rules_text.specs.Text.{IsLimit, IsFault, IsNode, IsEnd, rank}
 use Rattle.rules_text.specs.Text as within
 use Rattle.mich_text.specs.Plain as plain
-use Rattle.mich_text.proofs.Places.{flaw_le, gap_le}
+use Rattle.mich_text.proofs.Places.{gap_le}
+use Rattle.mich_text.proofs.Sorts.{Sort, of_limit, own, sort_of}
 use Rattle.mich_text.proofs.Unique.{nothing_holds}
 
 module _ (before : ℕ) (text : List ℕ) (none : (limit : ℕ) → IsLimit before text limit → ⊥) where
   -- the same conditions hold
-  holds_plain : (k : TextKind) (left : ℕ) → within.Holds before text k left → plain.Holds text k left
-  holds_plain k left (within.past_limit (e, inl l)) = absurd (none left (inl l.limit))
-  holds_plain k left (within.past_limit (e, inr f)) = absurd (none left (inr f))
-  holds_plain k left (within.flawed p) = plain.flawed (record { before = p.tokens; here = p.here; leads = p.leads; some = p.some; wrong = p.wrong })
-  holds_plain k left (within.in_comment p) = plain.in_comment p
-  holds_plain k left (within.is_open p) = plain.is_open p
-  holds_plain k left (within.unexpected p) = plain.unexpected p
-  holds_plain k left (within.too_deep p) = plain.too_deep p
+  plainly : (k : TextKind) (left : ℕ) (h : within.Holds before text k left) → plain.Holds text k left × (rank h ≡ 1 + plain.rank k)
+  plainly k left h = by (sort_of before text k left h) where
+    by : Sort before text k left h → plain.Holds text k left × (rank h ≡ 1 + plain.rank k)
+    by (of_limit e r l) = absurd (none left l)
+    by (own p r) = (p, r)
 
   holds_within : (k : TextKind) (left : ℕ) → plain.Holds text k left → within.Holds before text k left
   holds_within k left (plain.flawed p) = within.flawed (record { tokens = p.before; here = p.here; leads = p.leads; some = p.some; wrong = p.wrong; shown = λ limit is_limit near. absurd (none limit is_limit) })
@@ -27,28 +25,19 @@ module _ (before : ℕ) (text : List ℕ) (none : (limit : ℕ) → IsLimit befo
   holds_within k left (plain.unexpected p) = within.unexpected p
   holds_within k left (plain.too_deep p) = within.too_deep p
 
-  ranks : (k : TextKind) (left : ℕ) (h : within.Holds before text k left) → rank h ≡ 1 + plain.rank k
-  ranks k left (within.past_limit (e, inl l)) = absurd (none left (inl l.limit))
-  ranks k left (within.past_limit (e, inr f)) = absurd (none left (inr f))
-  ranks k left (within.flawed p) = omega (arith, (flaw_le p.here (record { kind = k; left = left }) p.wrong).1)
-  ranks k left (within.in_comment p) = omega (arith, ap plain.rank p.kind_is)
-  ranks k left (within.is_open p) = omega (arith, ap plain.rank p.kind_is)
-  ranks k left (within.unexpected p) = omega (arith, ap plain.rank p.kind_is)
-  ranks k left (within.too_deep p) = omega (arith, ap plain.rank p.kind_is)
-
   pub fault_same : (k : TextKind) (left : ℕ) → plain.IsFault text k left → IsFault before text k left
   fault_same k left p =
       let h = holds_within k left p.holds in
-      record { holds = h; first = λ j other q. by h j other q (p.first j other (holds_plain j other q)); within = p.within } where
+      record { holds = h; first = λ j other q. by h j other q (p.first j other (plainly j other q).0); within = p.within } where
         by : (h : within.Holds before text k left) (j : TextKind) (other : ℕ) (q : within.Holds before text j other) → (other < left) ⊎ ((other ≡ left) × (plain.rank k ≤ plain.rank j)) → (other < left) ⊎ ((other ≡ left) × (rank h ≤ rank q))
         by h j other q (inl less) = inl less
-        by h j other q (inr same) = inr (same.0, omega (arith, same.1, ranks k left h, ranks j other q))
+        by h j other q (inr same) = inr (same.0, omega (arith, same.1, (plainly k left h).1, (plainly j other q).1))
 
   pub node_same : (tree : Tree) (start end : ℕ) → plain.IsNode text tree start end → IsNode before text tree start end
-  node_same tree start end n = record { stands = n.stands; clean = λ k left h. n.clean k left (holds_plain k left h) }
+  node_same tree start end n = record { stands = n.stands; clean = λ k left h. n.clean k left (plainly k left h).0 }
 
   pub end_same : plain.IsEnd text → IsEnd before text
-  end_same e = record { gap = e; clean = λ k left h. nothing_holds text k left e (holds_plain k left h) }
+  end_same e = record { gap = e; clean = λ k left h. nothing_holds text k left e (plainly k left h).0 }
 
 -- in front of a file there is no limit byte in a text that is no longer than a statement may be
 pub short_unlimited : (text : List ℕ) → length text ≤ statement_limit → (limit : ℕ) → IsLimit 0 text limit → ⊥

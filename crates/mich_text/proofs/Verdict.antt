@@ -17,13 +17,10 @@ use Rattle.rules_text.specs.Fault.{depth_limit}
 use Rattle.mich_text.proofs.Places.{gap_le, token_shorter, flaw_le, token_shape_is, okay_is}
 use Rattle.mich_text.proofs.Fronts.{step_ok, run_more, is_front_within, is_front, no_front, no_front_within, deeper_front}
 use Rattle.mich_text.proofs.Whole.{NoStatement, is_statement, whole_is_root, is_nothing}
-use Rattle.mich_text.proofs.Reading.{From, IsPassed, compare, leads_more, leads_le, At, Further, flaw_there, comment_there, end_there, unexpected_there, deep_there, further}
+use Rattle.mich_text.proofs.Reading.{same_rest, From, IsPassed, compare, leads_more, leads_le, At, Further, flaw_there, comment_there, end_there, unexpected_there, deep_there, further}
 
 pub clash : (x : List ℕ) {r : Token × List ℕ} {d : Flaw} → token_at x ≡ Err d → token_at x ≡ Ok r → ⊥
 clash x f g = cc (sym f ∙ g)
-
-same_rest : (a b : List ℕ) → Some a ≡ Some b → a ≡ b
-same_rest a b e = cc
 
 abbrev pub wrongly : Flaw → Result (Token × List ℕ) Flaw
 wrongly d = Err d

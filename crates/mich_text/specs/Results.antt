@@ -7,6 +7,7 @@ use Rattle.mich_text.specs.Plain.{IsFault, IsNode, IsEnd}
 use Rattle.rules_text.specs.Text as within
 use Rattle.mich_base.specs.View.{tree}
 use Rattle.mich_text.specs.Gives.{flaw_view}
+use Rattle.mich_text.specs.Limited.{IsUpTo}
 use Rattle.rules_text.specs.declared.Shape.{Shape}
 use Rattle.rules_text.specs.Fault.{Flaw}
 use Rattle.mich_text.specs.declared.fault.LexError.{LexError}
@@ -76,6 +77,10 @@ IsLimitedRead before text (Ok None) = within.IsEnd before text
 IsLimitedRead before text (Ok (Some found)) = within.IsNode before text (tree found.node) found.start found.end
 IsLimitedRead before text (Err errors.Memory) = Unit {0}
 IsLimitedRead before text (Err (errors.Flaw f)) = within.IsFault before text f.kind f.left
+
+-- what a text is, told by its front up to the first byte past a limit, whatever else the text is
+abbrev pub FrontTells : List ℕ → ℕ → Bool → Result (Option Found) LexError → Type 0
+FrontTells front behind ends_file r = (before : ℕ) (text : List ℕ) → IsUpTo before text front behind ends_file → IsLimitedRead before text r
 
 -- What the text of a file is from a place on, where a statement begins.
 abbrev pub IsText : List ℕ → ℕ → Result (Option Placed) TextError → Type 0

@@ -4,8 +4,8 @@ ghost use Rattle.rules_text.specs.Text.{IsStatementLimit, IsFileLimit};
 ghost use Rattle.rules_text.specs.declared.TextKind.{TextKind};
 ghost use Rattle.mich_text.specs.Plain.{IsFault};
 ghost use Rattle.mich_text.specs.Shown.{IsOpenBytes};
-ghost use Rattle.mich_text.specs.Limited.{IsOnly, IsUpTo};
-ghost use Rattle.mich_text.specs.Results.{IsRead, IsWithinText, IsLimitedRead, IsText};
+ghost use Rattle.mich_text.specs.Limited.{IsOnly};
+ghost use Rattle.mich_text.specs.Results.{IsRead, IsWithinText, IsLimitedRead, FrontTells, IsText};
 
 use super::fault::{Flaw, LexError, TextError};
 use super::lexical::{after_gap, hex_len};
@@ -74,8 +74,7 @@ fn open_bytes(alloc: Global, front: &[u8], left: usize, behind: usize) -> LexErr
     requires long { 1 < left }
     requires within { left ≤ length front.now }
     requires fits { length front.now + behind < 2 ^ 64 }
-    ensures { (before : ℕ) (text : List ℕ) (ends_file : Bool) → IsUpTo before text front.now behind ends_file → IsFault front.now TextKind.BadBytes left → IsOpenBytes (drop (length front.now - left) front.now) TextKind.BadBytes
-        → IsLimitedRead before text (Err result) }
+    ensures { IsFault front.now TextKind.BadBytes left → IsOpenBytes (drop (length front.now - left) front.now) TextKind.BadBytes → (ends_file : Bool) → FrontTells front.now behind ends_file (Err result) }
 {
     match statement_within(alloc, &front[..front.len() - 1]) {
         Ok(_) => too_long(behind),
@@ -98,7 +97,7 @@ fn fault_of(alloc: Global, front: &[u8], flaw: Flaw, behind: usize) -> LexError
     requires within { flaw.left ≤ length front.now }
     requires fits { length front.now + behind < 2 ^ 64 }
     requires room { behind + 1 < 2 ^ 64 }
-    ensures { (before : ℕ) (text : List ℕ) (ends_file : Bool) → IsUpTo before text front.now behind ends_file → IsFault front.now flaw.kind flaw.left → IsLimitedRead before text (Err result) }
+    ensures { IsFault front.now flaw.kind flaw.left → (ends_file : Bool) → FrontTells front.now behind ends_file (Err result) }
 {
     if flaw.left <= 1 {
         return too_long(behind);
@@ -118,7 +117,7 @@ fn statement_of(found: Found, behind: usize, ends_file: bool) -> Result<Option<F
     requires start { found.start + behind < 2 ^ 64 }
     requires end { found.end + behind < 2 ^ 64 }
     requires room { behind + 1 < 2 ^ 64 }
-    ensures { (before : ℕ) (text front : List ℕ) → IsUpTo before text front behind ends_file → IsRead front (Ok (Some found)) → IsLimitedRead before text result }
+    ensures { (front : List ℕ) → IsRead front (Ok (Some found)) → FrontTells front behind ends_file result }
 {
     if !found.closed {
         return Err(too_long(behind));
@@ -141,7 +140,7 @@ pub(crate) fn statement_up_to(
     ends_file: bool,
 ) -> Result<Option<Found>, LexError>
     requires { behind < length text.now }
-    ensures { (before : ℕ) → IsUpTo before text.now (take (length text.now - behind) text.now) behind ends_file → IsLimitedRead before text.now result }
+    ensures { FrontTells (take (length text.now - behind) text.now) behind ends_file result }
 {
     let front = &text[..text.len() - behind];
     match statement_within(alloc, front) {

@@ -1,4 +1,4 @@
-use Rattle.std.proofs.Common.{◌≡◌, ℕ, List, Err, sym, subst, ◌∙◌, arith}
+use Rattle.std.proofs.Common.{◌≡◌, ℕ, List, Err, sym, subst, ◌∙◌}
 use Rattle.mich_text.specs.Results.{IsLimitedRead}
 use Rattle.mich_text.specs.declared.fault.LexError.{LexError}
 use Rattle.mich_text.proofs.Limits.{open_tells}
@@ -9,7 +9,7 @@ said : (before : ℕ) (text : List ℕ) (r e : LexError) → r ≡ e → IsLimit
 said before text r e h p = subst (λ (x : LexError). IsLimitedRead before text (Err x)) (sym h) p
 
 pub returns : goal.returns
-returns c = λ before text ends_file u p o.
+returns c = λ p o ends_file before text u.
     let tells = open_tells before text c.args.front.now c.args.behind ends_file u c.args.left c.requires.long c.requires.within p o in
     elim c.match-statement_within.branch [
       | in-Ok w ↦ said before text _ _ (w.result-is ∙ w.too_long.ensures) (tells.2 w.in-Ok.field-0 w.in-Ok.ensures.read)
