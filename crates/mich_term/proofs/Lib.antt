@@ -1,0 +1,4 @@
+pub mod Ends
+pub mod OrderLaws
+pub mod Overlays
+pub mod Pairing
