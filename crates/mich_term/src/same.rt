@@ -1,14 +1,18 @@
 // Equality of comparable values and identities.
 ghost use Rattle.std.specs.Prelude.{◌≡◌, ◌↔◌, IsTrue};
+ghost use Rattle.mich_base.specs.TypeView.{kind};
+ghost use Rattle.mich_forms.specs.Spelled.{place_bytes};
+ghost use Rattle.mich_term.specs.TicketView.{identity};
+ghost use Rattle.mich_term.specs.View.{datum};
 
 use crate::datum::Datum;
 use crate::ticket::TicketId;
-use mich_base::same_type;
+use mich_base::{Ty, same_type};
 use mich_forms::Place;
 
 /// Whether two comparable values are equal; takes no memory.
 pub fn same_datum(a: &Datum, b: &Datum) -> bool
-    ensures { IsTrue result ↔ a.now ≡ b.now }
+    ensures { IsTrue result ↔ (datum a.now ≡ datum b.now) }
 {
     match a {
         Datum::Unit => matches!(b, Datum::Unit),
@@ -50,25 +54,22 @@ pub fn same_datum(a: &Datum, b: &Datum) -> bool
 
 // Whether two places are equal.
 fn same_place(a: &Place, b: &Place) -> bool
-    ensures { IsTrue result ↔ a.now ≡ b.now }
+    ensures { IsTrue result ↔ (place_bytes a.now ≡ place_bytes b.now) }
 {
-    match a {
-        Place::Implicit(x) => match b {
-            Place::Implicit(y) => x == y,
-            _ => false,
-        },
-        Place::Contract(x) => match b {
-            Place::Contract(y) => x == y,
-            _ => false,
-        },
-    }
+    a == b
+}
+
+// Whether two types are equal.
+#[tactic(auto, using(crate::proofs::Faithful::kind_faithful))]
+fn same_kind(a: &Ty, b: &Ty) -> bool
+    ensures { IsTrue result ↔ (kind a.now ≡ kind b.now) }
+{
+    same_type(a, b)
 }
 
 /// Whether two identities of tickets are equal; takes no memory (Octez "Tickets", "JOIN_TICKETS").
 pub fn same_id(a: &TicketId, b: &TicketId) -> bool
-    ensures { IsTrue result ↔ a.now ≡ b.now }
+    ensures { IsTrue result ↔ (identity a.now ≡ identity b.now) }
 {
-    same_place(&a.issuer, &b.issuer)
-        && same_type(&a.ty, &b.ty)
-        && same_datum(&a.content, &b.content)
+    same_place(&a.issuer, &b.issuer) && same_kind(&a.ty, &b.ty) && same_datum(&a.content, &b.content)
 }

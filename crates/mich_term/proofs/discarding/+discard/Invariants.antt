@@ -25,12 +25,12 @@ invariant-discard_table-loop-value g l =
       place : l.yielded ++ l.value-iterator ≡ l.fn.table;
     }
 
-abbrev pub invariant-discard_big-loop-change : goal.invariant-discard_big-loop-change
-invariant-discard_big-loop-change g l =
-    let left = pair_tickets (put_pairs (into_iter_items l.change-iterator)) in
+abbrev pub invariant-discard_big-loop-key : goal.invariant-discard_big-loop-key
+invariant-discard_big-loop-key g l =
+    let left = pair_tickets (put_pairs (into_iter_items l.key-iterator)) in
     record {
       told : g.B.Burner.told l.burner ++ left ≡ g.B.Burner.told l.fn.burner ++ pair_tickets (big_pairs l.fn.big);
       ready : g.B.Burner.ready l.burner left;
       stays : (m : List Held) → g.B.Burner.ready l.fn.burner (pair_tickets (big_pairs l.fn.big) ++ m) → g.B.Burner.ready l.burner (left ++ m);
-      place : l.yielded ++ into_iter_items l.change-iterator ≡ (out-BigMap l.fn.big).overlay;
+      place : l.yielded ++ into_iter_items l.key-iterator ≡ (out-BigMap l.fn.big).overlay;
     }
