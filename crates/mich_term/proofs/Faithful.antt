@@ -118,4 +118,3 @@ datum_back = ind-Datum DatumBack (λ x y is. subst (λ z. DatumBack (roll-Datum 
 
 pub datum_faithful : (a b : Datum) → datum a ≡ datum b → a ≡ b
 datum_faithful a b e = sym (datum_back a) ∙ ap datum_of e ∙ datum_back b
-

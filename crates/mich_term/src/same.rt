@@ -71,5 +71,7 @@ fn same_kind(a: &Ty, b: &Ty) -> bool
 pub fn same_id(a: &TicketId, b: &TicketId) -> bool
     ensures { IsTrue result ↔ (identity a.now ≡ identity b.now) }
 {
-    same_place(&a.issuer, &b.issuer) && same_kind(&a.ty, &b.ty) && same_datum(&a.content, &b.content)
+    same_place(&a.issuer, &b.issuer)
+        && same_kind(&a.ty, &b.ty)
+        && same_datum(&a.content, &b.content)
 }

@@ -3,8 +3,8 @@ ghost use Rattle.std.specs.Prelude.{◌≡◌, [], map};
 ghost use Rattle.mich_term.specs.TicketView.{held};
 
 use crate::{
-    BigMap, Burner, Datum, Elements, Table, Ticket, TicketId, Value, abandon, compare, datum_weight,
-    discard, dup, maps, same_datum, same_id, shadow, weight,
+    BigMap, Burner, Datum, Elements, Table, Ticket, TicketId, Value, abandon, compare,
+    datum_weight, discard, dup, maps, same_datum, same_id, shadow, weight,
 };
 use mich_base::{Bytes, Link, Memory, Node, Rows, Shared, Text, Ty};
 use mich_forms::Place;

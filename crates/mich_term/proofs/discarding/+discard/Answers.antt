@@ -16,7 +16,7 @@ discard_big-loop-key-preserved g t c =
     let behind = pair_tickets (put_pairs rest) in
     let first : iter ≡ (c.in-Some.key, c.in-Some.change) ∷ rest = search rules in
     let split : pair_tickets (put_pairs iter) ≡ here ++ behind =
-        put_tickets iter rest c.in-Some.key c.in-Some.change c.in-Some-change.value first c.in-Some-change.is in
+    put_tickets iter rest c.in-Some.key c.in-Some.change c.in-Some-change.value first c.in-Some-change.is in
     record {
       told = ap (λ (x : List Held). x ++ behind) c.in_ok-discard.ensures.tells ∙ append_assoc (told c.loop-key.burner) here behind
           ∙ ap (λ (x : List Held). told c.loop-key.burner ++ x) (sym split) ∙ c.loop-key.invariant.told;
