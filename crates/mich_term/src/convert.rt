@@ -1,5 +1,5 @@
 // Comparable values as values, and back.
-ghost use Rattle.std.specs.Prelude.{◌≡◌, IfOk, MatchOption, false, true};
+ghost use Rattle.std.specs.Prelude.{◌≡◌, IfOk, IfSome, is_some};
 ghost use Rattle.rules_values.specs.Val.{is_comparable};
 ghost use Rattle.mich_term.specs.View.{datum as seen};
 ghost use Rattle.mich_term.specs.ValueView.{val};
@@ -48,7 +48,8 @@ impl Value {
     /// The same value among the comparable ones. None exactly where it is of no comparable type; Memory where there is no
     /// room for it (Michelson reference, "Comparable types").
     pub fn datum(&self, alloc: Global) -> Result<Option<Datum>, Memory>
-        ensures { IfOk result (λ o. MatchOption o (is_comparable (val self.now) ≡ false) (λ d. seen d ≡ val self.now)) }
+        ensures comparable { IfOk result (λ o. is_some o ≡ is_comparable (val self.now)) }
+        ensures value { IfOk result (λ o. IfSome o (λ d. seen d ≡ val self.now)) }
     {
         match self {
             Value::Unit => Ok(Some(Datum::Unit)),
