@@ -1,10 +1,10 @@
 -- Two types, comparable values or places that are seen as one are equal.
-use Rattle.std.proofs.Common.{◌≡◌, refl, sym, ap, ◌∙◌, subst, true, ◌&&◌}
+use Rattle.std.proofs.Common.{◌≡◌, sym, ap, ◌∙◌, subst}
 use Rattle.rules_types.specs.Kind.{Kind}
 use Rattle.rules_types.specs.Kind as k
 use Rattle.rules_types.specs.declared.Simple.{Simple}
 use Rattle.rules_types.specs.declared.Simple.TheVariants as s
-use Rattle.rules_values.specs.Val.{Val, unit, truth, number, text, bytes, nothing, some, left, right, both, is_comparable}
+use Rattle.rules_values.specs.Val.{Val, truth, number, text, bytes, nothing, some, left, right, both}
 use Rattle.mich_base.specs.TypeView.{kind, kind_step}
 use Rattle.mich_base.specs.declared.ty.Ty.{Ty, ind-Ty, fold-roll-Ty, roll-Ty, map-Ty}
 use Rattle.mich_base.specs.declared.ty.Ty.TheOpen.{Ty-F}

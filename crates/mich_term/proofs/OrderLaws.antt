@@ -2,10 +2,10 @@
 use Rattle.std.proofs.Common.{◌≡◌, refl, ap, true, false, ◌&&◌, Bool}
 use Rattle.std.specs.declared.cmp.Ordering.{Ordering}
 use Rattle.std.specs.declared.cmp.Ordering.TheVariants.{Less, Equal, Greater}
-use Rattle.rules_values.specs.Val.{Val, unit, truth, number, text, bytes, nothing, some, left, right, both, list, set, table, big_table, lambda, operation, ticket, is_comparable}
+use Rattle.rules_values.specs.Val.{unit, truth, number, text, bytes, nothing, some, left, right, both, list, set, table, big_table, lambda, operation, ticket}
 use Rattle.std.specs.Ordering.{ordering_then}
 use Rattle.std.proofs.lemmas.Map.Lookups.{exact_signed, exact_bytes}
-use Rattle.rules_values.specs.Order.{order, truth_order}
+use Rattle.rules_values.specs.Order.{truth_order}
 use Rattle.mich_term.specs.Laws.{OrderIsLawful, EqualOrderMeansEqual}
 use Rattle.mich_term.specs.Lawful.{order_lawful}
 

@@ -1,8 +1,8 @@
 -- Lists of entries with increasing keys.
-use Rattle.std.specs.Prelude.{◌≡◌, Bool, List, Option}
+use Rattle.std.specs.Prelude.{Bool, List, Option}
 use Rattle.std.specs.declared.cmp.Ordering.{Ordering}
 use Rattle.std.specs.List.Sorted.{IsStrictlySortedBy}
-use Rattle.std.specs.Map.{keys_of, lookup, remove_entry}
+use Rattle.std.specs.Map.{lookup, remove_entry}
 use Rattle.std.specs.BTreeMap.{insert_entry, is_at}
 use Rattle.std.specs.BTreeSet.{insert_key}
 use Rattle.std.specs.Set.{remove_key}
@@ -11,9 +11,11 @@ use Rattle.mich_term.specs.declared.datum.Datum.{Datum}
 use Rattle.rules_values.specs.Order.{order}
 use Rattle.mich_term.specs.View.{datum}
 
+-- the order of keys
 abbrev pub by : Datum → Datum → Ordering
 by a b = order (datum a) (datum b)
 
+-- each key is below those after it
 abbrev pub IsIncreasing : List Datum → Type 0
 IsIncreasing = IsStrictlySortedBy by
 

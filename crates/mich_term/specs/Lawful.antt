@@ -1,5 +1,5 @@
 -- The order is lawful: it is the order of lists that spell the values.
-use Rattle.std.specs.Prelude.{◌≡◌, ℕ, ℤ, Bool, true, false, List, [], ◌∷◌, ◌++◌}
+use Rattle.std.specs.Prelude.{◌≡◌, ℕ, ℤ, Bool, true, false, List, [], ◌∷◌}
 use mathlib.Core.Path.{refl, sym, ap, ◌∙◌, subst}
 use lib.IntN.{pos}
 use Rattle.std.specs.declared.cmp.Ordering.{Ordering}

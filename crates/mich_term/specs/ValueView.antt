@@ -24,6 +24,7 @@ puts (e ∷ es) = put_first e.0 e.1 (puts es)
 abbrev pub big_step : BigMap-F Val Pairs → Pairs
 big_step b = puts b.overlay
 
+-- one level of any value, with each part already seen as its value
 abbrev pub value_step : Value-F Val Pairs → Val
 value_step Value-F.Unit = unit
 value_step (Value-F.Bool b) = truth b
@@ -43,18 +44,23 @@ value_step (Value-F.Lambda n r) = lambda (tree n) r
 value_step (Value-F.Operation n) = operation n
 value_step (Value-F.Ticket t) = ticket (place_bytes t.id.issuer) (kind t.id.ty) (datum t.id.content) t.amount
 
+-- the value that any value stands for
 abbrev pub val : Value → Val
 val = fold-Value Val Pairs value_step big_step
 
+-- the values of a list
 abbrev pub vals : List Value → Vals
 vals vs = vals_of (map val vs)
 
+-- an entry of a map with its value seen
 abbrev pub entry : Datum × Value → Datum × Val
 entry e = (e.0, val e.1)
 
+-- the entries of a map
 abbrev pub pairs : List (Datum × Value) → Pairs
 pairs es = pairs_of (map entry es)
 
+-- an entry of an overlay with its value seen, where it puts one
 abbrev pub change : Datum × Option Value → Datum × Option Val
 change e = (e.0, option_map val e.1)
 
@@ -62,5 +68,6 @@ change e = (e.0, option_map val e.1)
 abbrev pub put_pairs : List (Datum × Option Value) → Pairs
 put_pairs es = puts (map change es)
 
+-- the entries that lie in a big map
 abbrev pub big_pairs : BigMap → Pairs
 big_pairs = fold-BigMap Val Pairs value_step big_step

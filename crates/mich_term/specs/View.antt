@@ -17,6 +17,7 @@ datum_step (Datum-F.Left v) = left v
 datum_step (Datum-F.Right v) = right v
 datum_step (Datum-F.Pair v w) = both v w
 
+-- the value that a comparable value stands for
 abbrev pub datum : Datum → Val
 datum = fold-Datum Val datum_step
 
@@ -25,6 +26,7 @@ abbrev pub vals_of : List Val → Vals
 vals_of [] = no_val
 vals_of (v ∷ vs) = more_vals v (vals_of vs)
 
+-- the values of a list of comparable values
 abbrev pub datums : List Datum → Vals
 datums ds = vals_of (map datum ds)
 
