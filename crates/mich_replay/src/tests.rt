@@ -364,6 +364,33 @@ static ENCODED: [(&str, u8, &str); 14] = [
     ("Foo ; Bar ; 1a", 2, "Refused BadNumber 12\n"),
 ];
 
+// A file with a fault of its text, and the line that it gives.
+static FAULTS: [(&str, &str); 23] = [
+    ("Foo 1 ; ;", "Refused Unexpected 8\n"),
+    ("{ ; }", "Refused Unexpected 2\n"),
+    ("Pair (Pair 1 2", "Refused Unclosed 14\n"),
+    ("{ { } ; { ", "Refused Unclosed 10\n"),
+    ("Foo (Bar %a (Baz)", "Refused Unclosed 17\n"),
+    ("# a\n0x0", "Refused BadBytes 4\n"),
+    ("/* a */ /* b", "Refused Unclosed 12\n"),
+    ("Foo \"a\\n\\z\"", "Refused BadString 8\n"),
+    ("Foo %a-b", "Refused BadNumber 6\n"),
+    ("{Foo}Bar", "Refused Unexpected 5\n"),
+    ("\"a\tb\"", "Refused BadString 2\n"),
+    ("0x12 0x1", "Refused BadBytes 5\n"),
+    ("~", "Refused BadChar 0\n"),
+    ("Foo !", "Refused BadChar 4\n"),
+    ("'a'", "Refused BadChar 0\n"),
+    ("Foo ) ", "Refused Unexpected 4\n"),
+    ("}", "Refused Unexpected 0\n"),
+    ("1_000", "Refused BadNumber 0\n"),
+    ("\"a\" \"b\"", "Refused Unexpected 4\n"),
+    ("Foo (Bar) (", "Refused Unclosed 11\n"),
+    ("(Foo 1) %a", "Refused Unexpected 8\n"),
+    ("Foo ((Bar))", "Refused Unexpected 5\n"),
+    ("{ Foo ; Bar } ; { 1 ; 2", "Refused Unclosed 23\n"),
+];
+
 // A file that is decoded, the status, and what is written.
 static DECODED: [(&str, u8, &str); 14] = [
     ("0x06000362000000022578", 0, "parameter %x nat\n"),
@@ -393,6 +420,14 @@ fn nodes_are_encoded(rt: HostRuntime) -> Result<(), Fail> {
             is_answered(rt.alloc(), "encode", file, status, written)?,
             "{file}"
         );
+    }
+    Ok(())
+}
+
+#[test]
+fn faults_of_texts(rt: HostRuntime) -> Result<(), Fail> {
+    for (file, line) in FAULTS {
+        assert!(rt; is_answered(rt.alloc(), "decode", file, 2, line)?, "{file}");
     }
     Ok(())
 }
