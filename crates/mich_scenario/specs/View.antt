@@ -1,5 +1,5 @@
 -- What the code's statements stand for.
-use Rattle.std.specs.Prelude.{◌≡◌, List, [], ◌∷◌, Option, Some, None, Result, Ok, Err}
+use Rattle.std.specs.Prelude.{◌≡◌, [], ◌∷◌, Option, Some, None, Result, Ok, Err}
 use Rattle.rules_base.specs.Tree.{Tree, int, str, bytes, prim, seq}
 use Rattle.mich_base.specs.View.{tree}
 use Rattle.mich_forms.specs.Spelled.{place_bytes}
@@ -9,7 +9,6 @@ use Rattle.mich_scenario.specs.declared.error.FormError.TheVariants as error
 use Rattle.mich_scenario.specs.declared.statement.Action.{Action}
 use Rattle.mich_scenario.specs.declared.statement.Action.TheVariants.{Call}
 use Rattle.mich_scenario.specs.declared.statement.Content.{Content}
-use Rattle.mich_scenario.specs.declared.statement.Group.{Group}
 use Rattle.mich_scenario.specs.declared.statement.Statement.{Statement}
 use Rattle.mich_scenario.specs.declared.statement.Statement.TheVariants as code
 

@@ -1,12 +1,12 @@
 -- A world of implicit accounts, and what statements make of it (Octez "operations", accounts).
-use Rattle.std.specs.Prelude.{ℕ, ◌+◌, ◌-◌, ◌^◌, ◌==◌, ◌&&◌, nat_lt, nat_le, Bool, true, false, not, ℤ, pos, int_lt, if◌then◌else◌, List, [], ◌∷◌, drop, slice_index, sum, None, Some, is_some, unwrap_or, codes}
+use Rattle.std.specs.Prelude.{ℕ, ◌+◌, ◌-◌, ◌^◌, ◌==◌, nat_lt, nat_le, Bool, false, not, ℤ, pos, int_lt, if◌then◌else◌, List, [], ◌∷◌, drop, slice_index, sum, None, Some, is_some, unwrap_or, codes}
 use Rattle.std.specs.declared.option.Option.{Option}
 use Rattle.std.specs.Ordering.{nat_cmp}
 use Rattle.std.specs.Cmp.Lexicographic.{slice_cmp}
 use Rattle.std.specs.BTreeMap.{is_at, insert_entry}
 use Rattle.std.specs.Map.{lookup, values_of}
 use Rattle.std.specs.Str.{bytes_eq}
-use Rattle.rules_base.specs.Tree.{Tree, int, str, bytes, prim, seq, Trees, none, more}
+use Rattle.rules_base.specs.Tree.{Tree, int, str, bytes, prim, seq, none, more}
 use Rattle.rules_forms.specs.Spelling.{default_name, implicit_place}
 use Rattle.rules_replay.specs.Statements.{Action, Call, Content, most_mutez}
 use Rattle.rules_replay.specs.Receipts.{Receipt, Refused, Done, GroupFault, UnknownSource, GasTooHigh, FeeTooHigh, Failure, OutOfGas, NoContract, NoEntrypoint, BadParameter, EmptyTransaction, BalanceTooLow, Transfer, Applied, Failed}
