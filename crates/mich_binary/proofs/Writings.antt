@@ -31,34 +31,6 @@ both a b c x y (Err err) e w = more_overflows err (length b) (length y) (length 
 pub first_overflows : (a b x y : List ℕ) (e : EncodeError) → Overflows (length a) (length x) e → Overflows (length a) (length (x ++ y)) e
 first_overflows a b x y e o = more_overflows e (length a) (length x) (length a) (length (x ++ y)) (omega (arith, length-append x y)) o
 
-groups_by : (n k l : ℕ) (b : Bool) → groups_within k (n / 128) ≡ groups_within l (n / 128) → cond b (n ∷ []) ((128 + n % 128) ∷ groups_within k (n / 128)) ≡ cond b (n ∷ []) ((128 + n % 128) ∷ groups_within l (n / 128))
-groups_by n k l true e = refl
-groups_by n k l false e = ap (λ (gs : List ℕ). (128 + n % 128) ∷ gs) e
-
-same_groups : (k l n : ℕ) → n ≤ k → n ≤ l → groups_within k n ≡ groups_within l n
-same_groups zero zero n h i = refl
-same_groups zero (suc l) n h i = let small : nat_lt n 128 ≡ true = grind (arith, nat_tests) in rw small refl
-same_groups (suc k) zero n h i = let small : nat_lt n 128 ≡ true = grind (arith, nat_tests) in rw small refl
-same_groups (suc k) (suc l) n h i = groups_by n k l (nat_lt n 128) (same_groups k l (n / 128) (omega arith) (omega arith))
-
-many_by : (k n : ℕ) → n ≡ suc k → 128 ≤ n → groups_within n n ≡ (128 + n % 128) ∷ groups_within (n / 128) (n / 128)
-many_by k n e h =
-    let large : nat_lt n 128 ≡ false = grind (arith, nat_tests) in
-    let first : groups_within n n ≡ groups_within (suc k) n = ap (λ m. groups_within m n) e in
-    first ∙ rw large (ap (λ (gs : List ℕ). (128 + n % 128) ∷ gs) (same_groups k (n / 128) (n / 128) (omega arith) (omega arith)))
-
-pub more_groups : (n : ℕ) → 128 ≤ n → groups n ≡ (128 + n % 128) ∷ groups (n / 128)
-unfolding groups
-more_groups n h = many_by (n - 1) n (omega arith) h
-
-few : (k n : ℕ) → n < 128 → groups_within k n ≡ n ∷ []
-few zero n h = refl
-few (suc k) n h = let small : nat_lt n 128 ≡ true = grind (arith, nat_tests) in rw small refl
-
-pub one_group : (n : ℕ) → n < 128 → groups n ≡ n ∷ []
-unfolding groups
-one_group n h = few n n h
-
 pub length_field : (content : List ℕ) → length (field content) ≡ 4 + length content
 unfolding field
 length_field content = length-append (to_be_bytes w32 (length content)) content

@@ -197,7 +197,7 @@ pub fn any_annotations_at(
     }
 }
 
-// The annotations of a short application: behind its arguments where its tag says so, else none.
+/// The annotations of a short application: behind its arguments where its tag says so, else none.
 pub fn short_annotations_at(
     alloc: Global,
     annotated: bool,

@@ -145,6 +145,7 @@ fn other_nodes_are_no_types(rt: HostRuntime) -> Result<(), Fail> {
 
 #[test]
 fn sizes_are_limited(rt: HostRuntime) -> Result<(), Fail> {
+    assert!(rt; is_type(rt.alloc(), deep(rt.alloc(), 1000)?));
     assert!(rt; is_type(rt.alloc(), deep(rt.alloc(), 2000)?));
     assert!(rt; is_large(rt.alloc(), deep(rt.alloc(), 2001)?));
     Ok(())
@@ -153,6 +154,7 @@ fn sizes_are_limited(rt: HostRuntime) -> Result<(), Fail> {
 #[test]
 fn long_pairs_are_counted_in_two_parts(rt: HostRuntime) -> Result<(), Fail> {
     assert!(rt; is_type(rt.alloc(), wide(rt.alloc(), 1000, "int")?));
+    assert!(rt; is_large(rt.alloc(), wide(rt.alloc(), 1001, "int")?));
     assert!(rt; is_large(rt.alloc(), wide(rt.alloc(), 10_000, "int")?));
     assert!(rt; is_bad(rt.alloc(), wide(rt.alloc(), 10_000, "foo")?, 10_000));
     Ok(())
