@@ -1,5 +1,5 @@
 -- Mutez is conserved by each statement, and so by a file.
-use Rattle.std.proofs.Common.{◌≡◌, ◌⊎◌, inl, inr, ◌≤◌, ℕ, ◌+◌, ◌-◌, nat_le, ℤ, List, [], ◌∷◌, Bool, true, false, cond, length, unwrap_or, is_some, None, Some, refl, sym, ap, subst, ◌∙◌, arith}
+use Rattle.std.proofs.Common.{◌≡◌, inl, inr, ◌≤◌, ℕ, ◌+◌, ◌-◌, nat_le, ℤ, List, [], ◌∷◌, Bool, true, false, cond, unwrap_or, is_some, None, Some, refl, sym, ap, subst, ◌∙◌, arith}
 use Rattle.std.specs.declared.option.Option.{Option}
 use Rattle.std.specs.Ordering.{nat_cmp, is_eq}
 use Rattle.std.specs.Cmp.{tied_itself}
@@ -9,11 +9,11 @@ use Rattle.std.specs.Map.{lookup, keys_of}
 use Rattle.std.specs.List.Sorted.{IsStrictlySortedBy}
 use Rattle.std.proofs.lemmas.Cmp.{nat_list_cmp_total}
 use borrow.Author.Tests.{leb-true}
-use Rattle.rules_replay.specs.Places.{Placed, AreStatements, IsEndAt}
+use Rattle.rules_replay.specs.Places.{Placed, IsEndAt}
 use Rattle.rules_replay.specs.Statements.{Statement, Chain, Account, Group, Action, Call, Content, form, most_mutez}
 use Rattle.rules_replay.specs.Receipts.{Receipt, GroupFault, Failure}
-use Rattle.rules_replay.specs.World.{World, new_world, balance_of, balance_in, with_balance, Grant, Granted, Repeated, TooMuch, granted_to, left_after_fee, fee_taken, moved, acted, refusal_of, failure_of, admitted, tried, world_by, world_after, supply}
-use Rattle.rules_replay.specs.Replay.{Replay, IsReplay, Closes, Ending, State, RefusedAt, Step, goes_on, stops, step, step_by, granting, Run, going, stopped, continued, run_one, run_all, ending_of}
+use Rattle.rules_replay.specs.World.{World, new_world, balance_of, balance_in, with_balance, Granted, Repeated, TooMuch, granted_to, left_after_fee, fee_taken, moved, acted, refusal_of, failure_of, admitted, tried, world_by, world_after, supply}
+use Rattle.rules_replay.specs.Replay.{Replay, Closes, State, step_by, granting, Run, going, stopped, continued, run_one, run_all}
 use Rattle.mich_replay.specs.Laws.{granted_by, granted_in, ConservesMutez}
 use Rattle.mich_replay.proofs.Entries.{sorted-insert_entry, lookup-insert_entry}
 use Rattle.mich_replay.proofs.Sums.{sum-with_balance}

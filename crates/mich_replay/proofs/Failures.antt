@@ -10,7 +10,7 @@ use Rattle.std.proofs.lemmas.Cmp.{nat_list_cmp_total}
 use Rattle.std.proofs.lemmas.Map.Text.{is_eq-slice_cmp}
 use Rattle.std.proofs.lemmas.Slice.Eq.{bytes_eq-Decides}
 use Rattle.rules_replay.specs.Statements.{Action, Call, Content}
-use Rattle.rules_replay.specs.Receipts.{Receipt, GroupFault, Failure, Refused, Done, Applied, Failed}
+use Rattle.rules_replay.specs.Receipts.{GroupFault, Failure, Refused, Done, Failed}
 use Rattle.rules_replay.specs.World.{World, balance_in, with_balance, left_after_fee, fee_taken, refusal_of, failure_of, admitted, tried, transfer_receipt, receipt_by, world_by}
 use Rattle.mich_replay.specs.Laws.{FeeAlone, RefusalChangesNothing, FailureTakesFeeAlone}
 use Rattle.mich_replay.proofs.Truth.{false_of}

@@ -1,14 +1,14 @@
 -- What is kept of the statements of a file.
-use Rattle.std.proofs.Common.{◌≡◌, ℕ, List, [], ◌∷◌, ◌++◌, length, Option, Some, None, option_map, refl, sym, ap, ◌∙◌, subst}
+use Rattle.std.proofs.Common.{◌≡◌, ℕ, List, [], ◌∷◌, ◌++◌, length, Option, Some, None, refl, ap, ◌∙◌}
 use Rattle.rules_base.specs.Tree.{Tree}
 use Rattle.rules_text.specs.declared.TextKind.{TextKind}
-use Rattle.rules_replay.specs.Places.{Placed, IsNodeAt, IsEndAt, IsFaultAt, AreStatements, Listing, IsListing}
-use Rattle.rules_replay.specs.Answers.{Answer, misplaced}
-use Rattle.rules_replay.specs.Codec.{IsCodecAnswer, of_text, of_statements, of_listing, fitting, alone}
+use Rattle.rules_replay.specs.Places.{Placed, IsNodeAt, IsEndAt, IsFaultAt}
+use Rattle.rules_replay.specs.Answers.{Answer}
+use Rattle.rules_replay.specs.Codec.{IsCodecAnswer, of_text, of_statements, fitting}
 use Rattle.mich_base.specs.View.{tree}
 use Rattle.mich_text.specs.declared.reader.Placed.{Placed as CodePlaced}
 use Rattle.mich_replay.specs.declared.statements.Listed.{Listed}
-use Rattle.mich_replay.specs.Listed.{first_of, second_place, placed_seen, Keeps, Passed, IsListed, beside, of_kept}
+use Rattle.mich_replay.specs.Listed.{second_place, placed_seen, Keeps, Passed, IsListed, beside, of_kept}
 use Rattle.mich_replay.proofs.Reaching.{statements-more}
 
 beside_rest : (command : Tree → Option Answer) (s : Placed) (ss : List Placed) → beside (command s.node) s.place (second_place (s ∷ ss)) ≡ fitting (command s.node) s.place ss

@@ -1,13 +1,12 @@
 -- A file comes to one answer.
-use Rattle.std.proofs.Common.{◌≡◌, ◌⊎◌, inl, inr, ℕ, ◌+◌, List, [], ◌∷◌, length, drop, Option, Some, None, refl, sym, ap, ◌∙◌, subst, arith}
+use Rattle.std.proofs.Common.{◌≡◌, inl, inr, ℕ, List, [], ◌∷◌, length, drop, Option, Some, None, refl, sym, ap, ◌∙◌, subst, arith}
 use Rattle.rules_base.specs.Tree.{Tree}
 use Rattle.rules_text.specs.declared.TextKind.{TextKind}
 use Rattle.mich_text.proofs.Unique.{one_statement}
 use Rattle.mich_text.proofs.OneReading.{one_fault, no_fault_at_node, no_node_at_end, no_fault_at_end}
-use Rattle.rules_replay.specs.Places.{Placed, IsNodeAt, IsFaultAt, IsEndAt, AreStatements, Listing, EndsIn, IsListing}
+use Rattle.rules_replay.specs.Places.{Placed, IsNodeAt, IsFaultAt, IsEndAt, AreStatements, EndsIn}
 use Rattle.rules_replay.specs.Receipts.{Receipt}
-use Rattle.rules_replay.specs.World.{World}
-use Rattle.rules_replay.specs.Replay.{Replay, IsReplay, Closes, FileFault, TextFault, RefusedAt, ending_of, Run, going, stopped, run_one, run_all}
+use Rattle.rules_replay.specs.Replay.{Replay, Closes, FileFault, TextFault, RefusedAt, Run, going, stopped, run_one, run_all}
 use Rattle.rules_replay.specs.Answers.{Answer, replay_answer}
 use Rattle.rules_replay.specs.Codec.{IsCodecAnswer, of_listing, encode_node, decode_node}
 use Rattle.rules_replay.specs.Commands.{Command, OnFile, NoCommand, Verb, Replaying, Encoding, Decoding, IsVerbAnswer, IsAnswer}

@@ -6,9 +6,9 @@ use Rattle.rules_replay.specs.Places.{Placed, IsNodeAt, IsEndAt, IsFaultAt, AreS
 use Rattle.rules_replay.specs.Statements.{form}
 use Rattle.rules_replay.specs.Receipts.{Receipt}
 use Rattle.rules_replay.specs.World.{World}
-use Rattle.rules_replay.specs.Replay.{Replay, IsReplay, Closes, Ending, RefusedAt, TextFault, FileFault, Step, goes_on, stops, step_by, Run, going, stopped, continued, run_one, run_all, ending_of}
-use Rattle.rules_replay.specs.Lines.{group_line, group_lines, ending_lines}
-use Rattle.rules_replay.specs.Answers.{Answer, status_of}
+use Rattle.rules_replay.specs.Replay.{Replay, IsReplay, Closes, Ending, RefusedAt, TextFault, FileFault, Step, goes_on, stops, step_by, Run, going, continued, run_one, run_all, ending_of}
+use Rattle.rules_replay.specs.Lines.{group_line, group_lines}
+use Rattle.rules_replay.specs.Answers.{Answer}
 use Rattle.rules_replay.specs.Commands.{Replaying, IsVerbAnswer}
 use Rattle.mich_base.specs.declared.memory.Memory.{Memory}
 use Rattle.mich_replay.specs.declared.outcome.FileFault.{FileFault as CodeFault}

@@ -1,5 +1,5 @@
 -- A statement takes at least a byte.
-use Rattle.std.proofs.Common.{◌≡◌, ◌<◌, ◌≤◌, ℕ, ◌+◌, List, [], ◌∷◌, ◌++◌, length, drop, Some, subst, sym, arith}
+use Rattle.std.proofs.Common.{◌<◌, ◌≤◌, ℕ, List, [], ◌∷◌, length, drop, Some, subst, sym, arith}
 use Rattle.std.proofs.lemmas.List.{length-drop}
 use Rattle.rules_base.specs.Tree.{Tree}
 use Rattle.rules_text.specs.Token.{Token}

@@ -1,13 +1,12 @@
 -- What the tests of a group leave to say where they pass.
 use Rattle.std.proofs.Common.{◌≡◌, ◌≤◌, ℕ, ◌==◌, nat_lt, ℤ, pos, not, List, Bool, true, false, cond, is_some, None, Some, slice_index, refl}
-use Rattle.std.specs.declared.option.Option.{Option}
 use Rattle.std.specs.Prelude.{int_lt}
 use Rattle.std.specs.Str.{bytes_eq}
 use borrow.Author.Tests.{ltb-false}
 use Rattle.rules_base.specs.Tree.{Tree}
 use Rattle.rules_forms.specs.Spelling.{default_name}
 use Rattle.rules_replay.specs.Statements.{Action, Call, Content}
-use Rattle.rules_replay.specs.Receipts.{GroupFault, UnknownSource, GasTooHigh, FeeTooHigh, Failure, OutOfGas, NoContract, NoEntrypoint, BadParameter, EmptyTransaction, BalanceTooLow}
+use Rattle.rules_replay.specs.Receipts.{UnknownSource, GasTooHigh, FeeTooHigh, OutOfGas, NoContract, NoEntrypoint, BadParameter, EmptyTransaction, BalanceTooLow}
 use Rattle.rules_replay.specs.World.{World, balance_of, balance_in, most_gas, transfer_gas, is_unit, account_failure, failure_of, refusal_of}
 
 -- a group that isn't refused has its fee

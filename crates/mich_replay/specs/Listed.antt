@@ -1,7 +1,6 @@
 -- What is kept of the statements of a file: the first, the place of the second, and the fault behind them.
 use Rattle.std.specs.Prelude.{◌≡◌, ◌<◌, ◌≤◌, ℕ, List, [], length, ◌∷◌, Option, Some, None, option_map}
 use Rattle.rules_base.specs.Tree.{Tree}
-use Rattle.rules_text.specs.declared.TextKind.{TextKind}
 use Rattle.rules_replay.specs.Answers.{Answer, misplaced}
 use Rattle.rules_replay.specs.Places.{Placed, Listing, IsListing, IsNodeAt, IsFaultAt, IsEndAt, AreStatements}
 use Rattle.mich_base.specs.View.{tree}

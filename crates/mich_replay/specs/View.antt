@@ -1,5 +1,5 @@
 -- What the code's values stand for.
-use Rattle.std.specs.Prelude.{◌≡◌, ◌⊎◌, ℕ, List, Option, Some, None}
+use Rattle.std.specs.Prelude.{◌≡◌, ◌⊎◌, ℕ, Option}
 use Rattle.rules_replay.specs.Receipts as receipts
 use Rattle.rules_replay.specs.World as world
 use Rattle.rules_replay.specs.Replay as replay

@@ -1,4 +1,3 @@
-use Rattle.std.proofs.Common.{length}
 use Rattle.rules_replay.specs.Codec.{IsCodecAnswer}
 use Rattle.mich_replay.specs.View.{codec_seen}
 use Rattle.mich_replay.proofs.Listing.{listed_answer}

@@ -1,4 +1,4 @@
-use Rattle.std.proofs.Common.{◌≡◌, ◌≤◌, List, ℕ, Option, Ok, Some, None, length, subst, sym, refl, arith}
+use Rattle.std.proofs.Common.{◌≤◌, List, ℕ, Option, Ok, None, length, subst, sym, arith}
 use Rattle.mich_base.specs.View.{tree}
 use Rattle.rules_replay.specs.Commands.{Replaying, IsVerbAnswer}
 use Rattle.rules_replay.specs.Replay.{step_by}

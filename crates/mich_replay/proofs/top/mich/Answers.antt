@@ -1,4 +1,4 @@
-use Rattle.std.proofs.Common.{◌≡◌, Err, refl, ap, arith}
+use Rattle.std.proofs.Common.{Err, ap, arith}
 use Rattle.mich_replay.proofs.Promise.{meets, cut_short}
 use Rattle.mich_replay.specs.View.{answer_seen}
 use Rattle.mich_replay.proofs.top.mich.Goals as goal
