@@ -16,7 +16,7 @@ use Rattle.rules_values.specs.Order.{order}
 use Rattle.rules_values.specs.Tables.{AreAbove, AreIncreasing, AreKeysAbove, AreIncreasingKeys}
 use Rattle.rules_values.specs.Tickets.{Held, tickets, all_tickets, pair_tickets}
 use Rattle.rules_values.specs.ByteForms.{is_key_hash, is_key, is_signature, is_chain_id, is_address}
-use Rattle.rules_values.specs.Literals.{unit_word, true_word, false_word, none_word, some_word, left_word, right_word, pair_word, entry_word, recursive_word, word_of_name, Pending, claim, Literal, good, bad, with_pending, and_then, mapped, Reader, tested, on_value, unit_value, truth_value, simple_value, option_named, or_named, read_parts, pair_named, read_elements, is_behind, read_increasing, Entry, entry_named, read_entry, read_entries, recursive_named, read, read_rest, is_nat, is_amount, is_text}
+use Rattle.rules_values.specs.Literals.{unit_word, true_word, false_word, none_word, some_word, left_word, right_word, pair_word, entry_word, recursive_word, word_of_name, Pending, claim, Literal, good, bad, with_pending, and_then, mapped, Reader, tested, on_value, unit_of_word, truth_of_word, simple_value, option_named, or_named, read_parts, pair_named, read_elements, is_behind, read_increasing, Entry, entry_named, read_entry, read_entries, recursive_named, read, read_rest, is_nat, is_amount, is_text, is_short}
 use Rattle.rules_values.specs.Canonical.{canonical, canonicals, canonical_entries, lambda_node, over_two}
 use Rattle.rules_values.specs.Forms.{HasForm, has_simple_form, AllHave, AllEntriesHave, IsSequence}
 use Rattle.mich_type_laws.specs.Laws.{IsWellFormed}
@@ -92,18 +92,18 @@ tested_is true x h = refl
 tested_is false x h = absurd cc
 
 truth_again : (b : Bool) → simple_value s.Bool (canonical (v.truth b)) ≡ Some (v.truth b)
-truth_again true = ap truth_value true_name
-truth_again false = ap truth_value false_name
+truth_again true = ap truth_of_word true_name
+truth_again false = ap truth_of_word false_name
 
 simple_again : (t : Simple) (x : Val) → has_simple_form t x ≡ true → simple_value t (canonical x) ≡ Some x
-simple_again s.Unit v.unit h = ap unit_value unit_name
+simple_again s.Unit v.unit h = ap unit_of_word unit_name
 simple_again s.Bool (v.truth b) h = truth_again b
 simple_again s.Int (v.number n) h = tested_is (is_int n) (v.number n) h
 simple_again s.Timestamp (v.number n) h = tested_is (is_int n) (v.number n) h
 simple_again s.Nat (v.number n) h = tested_is (is_nat n) (v.number n) h
 simple_again s.Mutez (v.number n) h = tested_is (is_amount n) (v.number n) h
 simple_again s.String (v.text b) h = tested_is (is_text b) (v.text b) h
-simple_again s.Bytes (v.bytes b) h = tested_is _ (v.bytes b) h
+simple_again s.Bytes (v.bytes b) h = tested_is (is_short b) (v.bytes b) h
 simple_again s.KeyHash (v.bytes b) h = tested_is (is_key_hash b) (v.bytes b) h
 simple_again s.Key (v.bytes b) h = tested_is (is_key b) (v.bytes b) h
 simple_again s.Signature (v.bytes b) h = tested_is (is_signature b) (v.bytes b) h

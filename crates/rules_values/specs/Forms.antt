@@ -1,7 +1,7 @@
 -- The form that a value of a type has. It says all of what fits a type but what the world and a checker must say: that
 -- a lambda's body goes from the argument's type to the result's, that an address is one of a contract of its type, and
 -- that an operation was issued.
-use Rattle.std.specs.Prelude.{◌≡◌, ◌<◌, ◌^◌, ◌-◌, ◌&&◌, Bool, true, false, nat_le, ℤ, pos, int_le, length}
+use Rattle.std.specs.Prelude.{◌≡◌, ◌<◌, ◌^◌, ◌-◌, ◌&&◌, Bool, true, false, ℤ, pos, int_le}
 use Rattle.rules_base.specs.Tree.{Tree, seq, size}
 use Rattle.rules_numbers.specs.Limits.{is_int}
 use Rattle.rules_types.specs.declared.Simple.{Simple}
@@ -12,7 +12,7 @@ use Rattle.rules_values.specs.Val.{Val, Vals, no_val, more_vals, Pairs, no_pair,
 use Rattle.rules_values.specs.Val as v
 use Rattle.rules_values.specs.Tables.{AreIncreasing, AreIncreasingKeys}
 use Rattle.rules_values.specs.ByteForms.{is_key_hash, is_key, is_signature, is_chain_id, is_address}
-use Rattle.rules_values.specs.Literals.{is_nat, is_amount, is_text, byte_limit}
+use Rattle.rules_values.specs.Literals.{is_nat, is_amount, is_text, is_short}
 
 abbrev pub has_simple_form : Simple → Val → Bool
 has_simple_form s.Unit v.unit = true
@@ -22,7 +22,7 @@ has_simple_form s.Timestamp (v.number n) = is_int n
 has_simple_form s.Nat (v.number n) = is_nat n
 has_simple_form s.Mutez (v.number n) = is_amount n
 has_simple_form s.String (v.text b) = is_text b
-has_simple_form s.Bytes (v.bytes b) = nat_le (length b) byte_limit
+has_simple_form s.Bytes (v.bytes b) = is_short b
 has_simple_form s.KeyHash (v.bytes b) = is_key_hash b
 has_simple_form s.Key (v.bytes b) = is_key b
 has_simple_form s.Signature (v.bytes b) = is_signature b

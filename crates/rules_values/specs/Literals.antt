@@ -96,33 +96,53 @@ is_nat n = int_le (pos 0) n && int_le n (pos (2 ^ 127 - 1))
 abbrev pub is_amount : ℤ → Bool
 is_amount n = int_le (pos 0) n && int_le n (pos (2 ^ 63 - 1))
 
+abbrev pub is_short : List ℕ → Bool
+is_short b = nat_le (length b) byte_limit
+
 abbrev pub tested : Bool → Val → Option Val
-tested b v = if b then Some v else None
+tested b x = if b then Some x else None
 
-abbrev pub unit_value : Word → Option Val
-unit_value unit_word = Some v.unit
-unit_value _ = None
+abbrev pub number_value : (ℤ → Bool) → Tree → Option Val
+number_value test (int n) = tested (test n) (v.number n)
+number_value test t = None
 
-abbrev pub truth_value : Word → Option Val
-truth_value true_word = Some (v.truth true)
-truth_value false_word = Some (v.truth false)
-truth_value _ = None
+abbrev pub text_value : (List ℕ → Bool) → Tree → Option Val
+text_value test (str b) = tested (test b) (v.text b)
+text_value test t = None
 
+abbrev pub bytes_value : (List ℕ → Bool) → Tree → Option Val
+bytes_value test (bytes b) = tested (test b) (v.bytes b)
+bytes_value test t = None
+
+abbrev pub bare_value : (Word → Option Val) → Tree → Option Val
+bare_value of_word (prim name annots none) = of_word (word_of_name name)
+bare_value of_word t = None
+
+abbrev pub unit_of_word : Word → Option Val
+unit_of_word unit_word = Some v.unit
+unit_of_word w = None
+
+abbrev pub truth_of_word : Word → Option Val
+truth_of_word true_word = Some (v.truth true)
+truth_of_word false_word = Some (v.truth false)
+truth_of_word w = None
+
+-- the value of a type without arguments that a node spells
 abbrev pub simple_value : Simple → Tree → Option Val
-simple_value s.Unit (prim name annots none) = unit_value (word_of_name name)
-simple_value s.Bool (prim name annots none) = truth_value (word_of_name name)
-simple_value s.Int (int n) = tested (is_int n) (v.number n)
-simple_value s.Timestamp (int n) = tested (is_int n) (v.number n)
-simple_value s.Nat (int n) = tested (is_nat n) (v.number n)
-simple_value s.Mutez (int n) = tested (is_amount n) (v.number n)
-simple_value s.String (str b) = tested (is_text b) (v.text b)
-simple_value s.Bytes (bytes b) = tested (nat_le (length b) byte_limit) (v.bytes b)
-simple_value s.KeyHash (bytes b) = tested (is_key_hash b) (v.bytes b)
-simple_value s.Key (bytes b) = tested (is_key b) (v.bytes b)
-simple_value s.Signature (bytes b) = tested (is_signature b) (v.bytes b)
-simple_value s.ChainId (bytes b) = tested (is_chain_id b) (v.bytes b)
-simple_value s.Address (bytes b) = tested (is_address b) (v.bytes b)
-simple_value s t = None
+simple_value s.Unit t = bare_value unit_of_word t
+simple_value s.Never t = None
+simple_value s.Bool t = bare_value truth_of_word t
+simple_value s.Int t = number_value is_int t
+simple_value s.Nat t = number_value is_nat t
+simple_value s.Mutez t = number_value is_amount t
+simple_value s.Timestamp t = number_value is_int t
+simple_value s.String t = text_value is_text t
+simple_value s.Bytes t = bytes_value is_short t
+simple_value s.Key t = bytes_value is_key t
+simple_value s.KeyHash t = bytes_value is_key_hash t
+simple_value s.Signature t = bytes_value is_signature t
+simple_value s.ChainId t = bytes_value is_chain_id t
+simple_value s.Address t = bytes_value is_address t
 
 abbrev pub on_value : ℕ → Option Val → Literal Val
 on_value at (Some x) = good x []
