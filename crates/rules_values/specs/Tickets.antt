@@ -3,7 +3,13 @@ use Rattle.std.specs.Prelude.{ℕ, ℤ, List, [], ◌∷◌, ◌++◌}
 use Rattle.rules_types.specs.Kind.{Kind}
 use Rattle.rules_values.specs.Val.{Val, some, left, right, both, list, table, big_table, ticket, Vals, no_val, more_vals, Pairs, no_pair, more_pairs}
 
--- what a ticket is: its identity, which is the issuer's place, the type of the content and the content; and its amount
+-- what makes tickets alike: the issuer's place, the type of the content and the content
+pub record Identity : Type 0 where
+  pub issuer : List ℕ
+  pub kind : Kind
+  pub content : Val
+
+-- what a ticket is: its identity, and its amount
 pub record Held : Type 0 where
   pub issuer : List ℕ
   pub kind : Kind

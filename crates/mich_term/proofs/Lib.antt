@@ -1,0 +1,5 @@
+pub mod Ends
+pub mod Faithful
+pub mod OrderLaws
+pub mod Overlays
+pub mod Pairing

@@ -1,0 +1,8 @@
+pub mod Keyed
+pub mod Lawful
+pub mod Laws
+pub mod TicketView
+pub mod ValueView
+pub mod View
+pub mod Weights
+pub mod formers

@@ -1,0 +1,79 @@
+// Discarding: each ticket of a value is told to a burner.
+ghost use Rattle.std.specs.Prelude.{◌≡◌, IfOk, List, ◌++◌};
+ghost use Rattle.rules_values.specs.Tickets.{Held, tickets, all_tickets, pair_tickets};
+ghost use Rattle.mich_term.specs.ValueView.{val, vals, pairs, big_pairs};
+
+use crate::table::Table;
+use crate::ticket::Burner;
+use crate::value::{BigMap, Value};
+use mich_base::{Memory, Rows};
+use std::alloc::Global;
+
+/// Discards a value: each ticket in it is burnt, parts from left to right and entries by key. After Memory the burner is given
+/// up and what is left of the value is abandoned (Octez "Tickets").
+#[cycle(discard)]
+pub fn discard<B: Burner>(alloc: Global, value: Value, burner: &mut B) -> Result<(), Memory>
+    requires { B.ready burner.old (tickets (val value)) }
+    ensures tells { IfOk result (λ _. B.told burner.new ≡ B.told burner.old ++ tickets (val value)) }
+    ensures stays_ready { IfOk result (λ _. (l : List Held) → B.ready burner.old (tickets (val value) ++ l) → B.ready burner.new l) }
+{
+    match value {
+        Value::Some(x) | Value::Left(x) | Value::Right(x) => {
+            discard(alloc, x.into_value(), burner)
+        }
+        Value::Pair(x, y) => {
+            discard(alloc, x.into_value(), burner)?;
+            discard(alloc, y.into_value(), burner)
+        }
+        Value::List(xs) => discard_all(alloc, xs, burner),
+        Value::Map(entries) => discard_table(alloc, entries, burner),
+        Value::BigMap(big) => discard_big(alloc, big.into_value(), burner),
+        Value::Ticket(ticket) => burner.burn(alloc, ticket.into_value()),
+        _ => Ok(()),
+    }
+}
+
+#[cycle(discard)]
+fn discard_all<B: Burner>(alloc: Global, values: Rows<Value>, burner: &mut B) -> Result<(), Memory>
+    requires { B.ready burner.old (all_tickets (vals values)) }
+    ensures tells { IfOk result (λ _. B.told burner.new ≡ B.told burner.old ++ all_tickets (vals values)) }
+    ensures stays_ready { IfOk result (λ _. (l : List Held) → B.ready burner.old (all_tickets (vals values) ++ l) → B.ready burner.new l) }
+{
+    for value in values.into_vec() {
+        discard(alloc, value, burner)?;
+    }
+    Ok(())
+}
+
+#[cycle(discard)]
+fn discard_table<B: Burner>(
+    alloc: Global,
+    table: Table<Value>,
+    burner: &mut B,
+) -> Result<(), Memory>
+    requires { B.ready burner.old (pair_tickets (pairs table)) }
+    ensures tells { IfOk result (λ _. B.told burner.new ≡ B.told burner.old ++ pair_tickets (pairs table)) }
+    ensures stays_ready { IfOk result (λ _. (l : List Held) → B.ready burner.old (pair_tickets (pairs table) ++ l) → B.ready burner.new l) }
+{
+    for (_, value) in table.into_entries() {
+        discard(alloc, value, burner)?;
+    }
+    Ok(())
+}
+
+#[tactic(auto, using(crate::proofs::Overlays::big_is))]
+#[cycle(discard)]
+fn discard_big<B: Burner>(alloc: Global, big: BigMap, burner: &mut B) -> Result<(), Memory>
+    requires { B.ready burner.old (pair_tickets (big_pairs big)) }
+    ensures tells { IfOk result (λ _. B.told burner.new ≡ B.told burner.old ++ pair_tickets (big_pairs big)) }
+    ensures stays_ready { IfOk result (λ _. (l : List Held) → B.ready burner.old (pair_tickets (big_pairs big) ++ l) → B.ready burner.new l) }
+{
+    for (key, change) in big.overlay.into_vec() {
+        drop(key);
+        let Some(value) = change else {
+            continue;
+        };
+        discard(alloc, value, burner)?;
+    }
+    Ok(())
+}

@@ -1,0 +1,160 @@
+// All values.
+ghost use Rattle.std.specs.Prelude.{◌≡◌, IfOk, []};
+ghost use Rattle.rules_values.specs.Tickets.{tickets};
+ghost use Rattle.mich_term.specs.ValueView.{val};
+
+use crate::datum::{Datum, copy_datum};
+use crate::elements::Elements;
+use crate::table::Table;
+use crate::ticket::{Ticket, shadow_ticket};
+use mich_base::{Bytes, Link, Memory, Node, Rows, Shared, Text};
+use std::alloc::Global;
+
+/// A value that scripts work on (Michelson reference, "Types").
+#[derive(Debug, Drop)]
+#[cycle(value)]
+pub enum Value {
+    Unit,
+    Bool(bool),
+    /// An integer, natural number, amount of mutez or timestamp.
+    Number(i128),
+    Text(Text),
+    /// Bytes, or a key, key hash, signature, chain id or address by the bytes that spell it.
+    Bytes(Bytes),
+    None,
+    Some(Link<Value>),
+    Left(Link<Value>),
+    Right(Link<Value>),
+    Pair(Link<Value>, Link<Value>),
+    List(Rows<Value>),
+    Set(Elements),
+    Map(Table<Value>),
+    BigMap(Link<BigMap>),
+    /// A lambda: its body, and whether it is recursive.
+    Lambda(Shared<Node>, bool),
+    /// The number of an operation.
+    Operation(u32),
+    Ticket(Link<Ticket>),
+}
+
+/// A big map: what its base has, changed by the overlay. Where there is no base the overlay has all its entries, with
+/// strictly increasing keys.
+#[derive(Debug, Drop)]
+#[cycle(value)]
+pub struct BigMap {
+    /// Whether it may have a base, which it may where values of its value type can be duplicated.
+    pub shares: bool,
+    /// The number of its base. None where it has none.
+    pub base: Option<u64>,
+    /// What was put at a key, or None where the base's entry was taken away.
+    pub overlay: Rows<(Datum, Option<Value>)>,
+}
+
+/// An equal value, its tickets too: the one call that copies tickets. Memory where there is no room for it.
+#[cycle(shadow)]
+pub fn shadow(alloc: Global, value: &Value) -> Result<Value, Memory>
+    ensures { IfOk result (λ v. v ≡ value.now) }
+{
+    match value {
+        Value::Unit => Ok(Value::Unit),
+        Value::Bool(b) => Ok(Value::Bool(*b)),
+        Value::Number(n) => Ok(Value::Number(*n)),
+        Value::Text(text) => Ok(Value::Text(text.copy(alloc)?)),
+        Value::Bytes(bytes) => Ok(Value::Bytes(bytes.copy(alloc)?)),
+        Value::None => Ok(Value::None),
+        Value::Some(x) => Ok(Value::Some(shadow_link(alloc, x)?)),
+        Value::Left(x) => Ok(Value::Left(shadow_link(alloc, x)?)),
+        Value::Right(x) => Ok(Value::Right(shadow_link(alloc, x)?)),
+        Value::Pair(x, y) => {
+            let first = shadow_link(alloc, x)?;
+            let second = shadow_link(alloc, y)?;
+            Ok(Value::Pair(first, second))
+        }
+        Value::List(xs) => Ok(Value::List(shadow_all(alloc, xs)?)),
+        Value::Set(xs) => Ok(Value::Set(xs.copy(alloc)?)),
+        Value::Map(entries) => Ok(Value::Map(shadow_table(alloc, entries)?)),
+        Value::BigMap(big) => {
+            let big = shadow_big(alloc, big.get())?;
+            Ok(Value::BigMap(Link::new(alloc, big)?))
+        }
+        Value::Lambda(node, recursive) => {
+            let node = node.share()?;
+            Ok(Value::Lambda(node, *recursive))
+        }
+        Value::Operation(n) => Ok(Value::Operation(*n)),
+        Value::Ticket(ticket) => {
+            let ticket = shadow_ticket(alloc, ticket.get())?;
+            Ok(Value::Ticket(Link::new(alloc, ticket)?))
+        }
+    }
+}
+
+#[cycle(shadow)]
+fn shadow_link(alloc: Global, value: &Link<Value>) -> Result<Link<Value>, Memory>
+    ensures { IfOk result (λ v. v ≡ value.now) }
+{
+    Link::new(alloc, shadow(alloc, value.get())?)
+}
+
+#[cycle(shadow)]
+fn shadow_all(alloc: Global, values: &Rows<Value>) -> Result<Rows<Value>, Memory>
+    ensures { IfOk result (λ vs. vs ≡ values.now) }
+{
+    let mut copies = Rows::new(alloc);
+    for value in values.as_slice() {
+        copies.push(shadow(alloc, value)?)?;
+    }
+    Ok(copies)
+}
+
+#[tactic(auto, using(crate::proofs::Ends::table_step))]
+#[cycle(shadow)]
+fn shadow_table(alloc: Global, table: &Table<Value>) -> Result<Table<Value>, Memory>
+    ensures { IfOk result (λ t. t ≡ table.now) }
+{
+    let mut copies = Table::new(alloc);
+    for (key, value) in table.iter() {
+        let new_key = copy_datum(alloc, key)?;
+        let new_value = shadow(alloc, value)?;
+        copies.insert(new_key, new_value)?;
+    }
+    Ok(copies)
+}
+
+#[cycle(shadow)]
+fn shadow_big(alloc: Global, big: &BigMap) -> Result<BigMap, Memory>
+    ensures { IfOk result (λ b. b ≡ big.now) }
+{
+    let mut overlay = Rows::new(alloc);
+    for (key, change) in big.overlay.as_slice() {
+        let new_key = copy_datum(alloc, key)?;
+        let new_change = match change {
+            Some(value) => Some(shadow(alloc, value)?),
+            None => None,
+        };
+        overlay.push((new_key, new_change))?;
+    }
+    Ok(BigMap {
+        shares: big.shares,
+        base: big.base,
+        overlay,
+    })
+}
+
+/// An equal value, of one that holds no ticket. Memory where there is no room for it.
+pub fn dup(alloc: Global, value: &Value) -> Result<Value, Memory>
+    requires { tickets (val value.now) ≡ [] }
+    ensures { IfOk result (λ v. v ≡ value.now) }
+{
+    shadow(alloc, value)
+}
+
+/// Ends a value and tells no ticket: a shadow, a value after Memory or a failure, or a storage that is held no more. Takes
+/// no memory.
+pub fn abandon(value: Value) {
+    drop(value);
+}
+
+const _: () = prove!(size_of::<Value>() == 32);
+
+const _: () = prove!(size_of::<Datum>() == 32);
