@@ -220,12 +220,17 @@ pub record Entry : Type 0 where
   pub key : Val
   pub value : Val
 
--- `Elt key value` at a location; that a key is out of order is its fault, after those of the key and before those of the value
-abbrev pub entry_named : Word → Reader → Reader → Option Val → ℕ → Trees → Literal Entry
-entry_named entry_word r q before at (more t (more u none)) = and_then (r (at + 1) t) (λ x.
+-- the key and the value of an entry at a location; that the key is out of order is the entry's fault, after those of the
+-- key and before those of the value
+abbrev pub read_binding : Reader → Reader → Option Val → ℕ → Tree → Tree → Literal Entry
+read_binding r q before at t u = and_then (r (at + 1) t) (λ x.
     if is_behind before x then mapped (λ y. record { key = x; value = y }) (q (at + 1 + size t) u) else bad at)
+
+abbrev pub entry_named : Word → Reader → Reader → Option Val → ℕ → Trees → Literal Entry
+entry_named entry_word r q before at (more t (more u none)) = read_binding r q before at t u
 entry_named w r q before at ts = bad at
 
+-- `Elt key value`
 abbrev pub read_entry : Reader → Reader → Option Val → ℕ → Tree → Literal Entry
 read_entry r q before at (prim name annots args) = entry_named (word_of_name name) r q before at args
 read_entry r q before at t = bad at

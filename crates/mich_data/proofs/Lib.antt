@@ -1,0 +1,7 @@
+pub mod Spellings
+pub mod Steps
+pub mod Typed
+pub mod Keys
+pub mod Lists
+pub mod Sets
+pub mod Tables

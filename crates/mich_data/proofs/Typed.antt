@@ -1,0 +1,21 @@
+-- The kinds of types that are made of others.
+use Rattle.std.proofs.Common.{◌≡◌, rules}
+use Rattle.rules_types.specs.Kind as k
+use Rattle.mich_base.specs.TypeView.{kind}
+use Rattle.mich_base.specs.declared.ty.Ty.{Ty, the_lemmas}
+use Rattle.mich_base.specs.declared.ty.Ty.TheVariants as ty
+
+pub kind_pair : (a b : Ty) → kind (ty.Pair a b) ≡ k.pair (kind a) (kind b)
+kind_pair a b = search (rules, the_lemmas)
+
+pub kind_list : (a : Ty) → kind (ty.List a) ≡ k.list (kind a)
+kind_list a = search (rules, the_lemmas)
+
+pub kind_set : (a : Ty) → kind (ty.Set a) ≡ k.set (kind a)
+kind_set a = search (rules, the_lemmas)
+
+pub kind_map : (a b : Ty) → kind (ty.Map a b) ≡ k.map (kind a) (kind b)
+kind_map a b = search (rules, the_lemmas)
+
+pub kind_big_map : (a b : Ty) → kind (ty.BigMap a b) ≡ k.big_map (kind a) (kind b)
+kind_big_map a b = search (rules, the_lemmas)

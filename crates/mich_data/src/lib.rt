@@ -1,0 +1,13 @@
+//! Literals: nodes read as values of a type, and values written as nodes.
+#![tactic(auto)]
+
+mod error;
+mod parts;
+mod pending;
+mod reading;
+mod simple;
+mod words;
+
+pub use error::ValueError;
+pub use pending::{Pending, Read};
+pub use reading::read_value;
