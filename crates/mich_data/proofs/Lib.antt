@@ -5,3 +5,4 @@ pub mod Keys
 pub mod Lists
 pub mod Sets
 pub mod Tables
+pub mod Written

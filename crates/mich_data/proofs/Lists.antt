@@ -58,7 +58,7 @@ pub elements_fault : (ps : List Pending) (whole : Literal Vals) (r : Reader) (vs
 elements_fault ps whole r vs t ts at qs (error.NotOfType l) e f =
     mapped_bad list whole l ps
     (fault_whole (with_pending ps whole) (map val vs) (with_pending qs (read_elements r at (more t ts))) l e
-        (then_bad (r at t) (λ x. mapped (more_vals x) (read_elements r (at + size t) ts)) l qs f))
+    (then_bad (r at t) (λ x. mapped (more_vals x) (read_elements r (at + size t) ts)) l qs f))
 elements_fault ps whole r vs t ts at qs error.Memory e f = tt
 
 pub elements_end : (ps : List Pending) (whole : Literal Vals) (r : Reader) (vs : List Value) (at : ℕ) (qs : List Pending) →

@@ -40,19 +40,19 @@ set_step whole r ds es d x t ts at ps qs h f b e g =
       same =
           h.same
           ∙ ap (mapped (put_before (map datum ds))) (then_good (r at t)
-              (λ y. cond (is_behind (last_value ds) y) (mapped (more_vals y) (read_increasing r (Some y) (at + size t) ts)) (bad at)) x ps qs f)
+          (λ y. cond (is_behind (last_value ds) y) (mapped (more_vals y) (read_increasing r (Some y) (at + size t) ts)) (bad at)) x ps qs f)
           ∙ ap (λ u. mapped (put_before (map datum ds)) (with_pending qs u)) (cond-true (is_behind (last_value ds) x) (mapped (more_vals x) next) (bad at) b)
           ∙ before_more (map datum ds) x qs next
           ∙ ap (λ xs. mapped (put_before xs) (with_pending qs next)) (sym values)
           ∙ ap (λ o. mapped (put_before (map datum es)) (with_pending qs (read_increasing r o (at + size t) ts))) (sym last);
-      increasing = subst IsIncreasing (sym new) (stays_increasing ds d h.increasing c)
+      increasing = subst IsIncreasing (sym new) (stays_increasing ds d h.increasing c);
     }
 
 pub set_fault : (ps : List Pending) (whole : Literal Vals) (r : Reader) (ds : List Datum) (t : Tree) (ts : Trees) (at : ℕ) (qs : List Pending) (e : ValueError) →
     IsReadUpTo (with_pending ps whole) r ds at (more t ts) qs → IsFault (with_pending qs (r at t)) e → IsFault (with_pending ps (mapped set whole)) e
 set_fault ps whole r ds t ts at qs (error.NotOfType l) h f =
     mapped_bad set whole l ps (h.same ∙ ap (mapped (put_before (map datum ds))) (then_bad (r at t)
-        (λ y. cond (is_behind (last_value ds) y) (mapped (more_vals y) (read_increasing r (Some y) (at + size t) ts)) (bad at)) l qs f))
+    (λ y. cond (is_behind (last_value ds) y) (mapped (more_vals y) (read_increasing r (Some y) (at + size t) ts)) (bad at)) l qs f))
 set_fault ps whole r ds t ts at qs error.Memory h f = tt
 
 pub set_misfit : (ps : List Pending) (whole : Literal Vals) (r : Reader) (ds : List Datum) (x : Val) (t : Tree) (ts : Trees) (at : ℕ) (qs rs : List Pending) →
@@ -60,10 +60,10 @@ pub set_misfit : (ps : List Pending) (whole : Literal Vals) (r : Reader) (ds : L
     with_pending ps (mapped set whole) ≡ bad at
 set_misfit ps whole r ds x t ts at qs rs h f b =
     mapped_bad set whole at ps (h.same
-        ∙ ap (mapped (put_before (map datum ds))) (then_good (r at t)
-            (λ y. cond (is_behind (last_value ds) y) (mapped (more_vals y) (read_increasing r (Some y) (at + size t) ts)) (bad at)) x qs rs f)
-        ∙ ap (λ u. mapped (put_before (map datum ds)) (with_pending rs u))
-            (cond-false (is_behind (last_value ds) x) (mapped (more_vals x) (read_increasing r (Some x) (at + size t) ts)) (bad at) b))
+    ∙ ap (mapped (put_before (map datum ds))) (then_good (r at t)
+    (λ y. cond (is_behind (last_value ds) y) (mapped (more_vals y) (read_increasing r (Some y) (at + size t) ts)) (bad at)) x qs rs f)
+    ∙ ap (λ u. mapped (put_before (map datum ds)) (with_pending rs u))
+    (cond-false (is_behind (last_value ds) x) (mapped (more_vals x) (read_increasing r (Some x) (at + size t) ts)) (bad at) b))
 
 pub set_end : (ps : List Pending) (whole : Literal Vals) (r : Reader) (ds : List Datum) (at : ℕ) (qs : List Pending) →
     IsReadUpTo (with_pending ps whole) r ds at none qs → with_pending ps (mapped set whole) ≡ good (set (datums ds)) qs

@@ -107,18 +107,18 @@ entries_step whole r q es fs d v t ts at ps qs h f b g =
       same =
           h.same
           ∙ ap (mapped (pairs_before es)) (then_good (read_entry r q (last_value (keys_of es)) at t)
-              (λ e. mapped (more_pairs e.key e.value) (read_entries r q (Some e.key) (at + size t) ts)) (record { key = datum d; value = val v }) ps qs f)
+          (λ e. mapped (more_pairs e.key e.value) (read_entries r q (Some e.key) (at + size t) ts)) (record { key = datum d; value = val v }) ps qs f)
           ∙ before_more es d v qs next
           ∙ ap (λ l. mapped (pairs_before l) (with_pending qs next)) (sym new)
           ∙ ap (λ o. mapped (pairs_before fs) (with_pending qs (read_entries r q o (at + size t) ts))) (sym last);
-      increasing = subst IsIncreasing (sym keys) (stays_increasing (keys_of es) d h.increasing b)
+      increasing = subst IsIncreasing (sym keys) (stays_increasing (keys_of es) d h.increasing b);
     }
 
 pub entries_fault : (ps : List Pending) (whole : Literal Pairs) (r q : Reader) (es : List (Datum × Value)) (t : Tree) (ts : Trees) (at : ℕ) (qs : List Pending) (e : ValueError) →
     AreReadUpTo (with_pending ps whole) r q es at (more t ts) qs → IsFault (with_pending qs (read_entry r q (last_value (keys_of es)) at t)) e → IsFault (with_pending ps whole) e
 entries_fault ps whole r q es t ts at qs (error.NotOfType l) h f =
     h.same ∙ ap (mapped (pairs_before es)) (then_bad (read_entry r q (last_value (keys_of es)) at t)
-        (λ e. mapped (more_pairs e.key e.value) (read_entries r q (Some e.key) (at + size t) ts)) l qs f)
+    (λ e. mapped (more_pairs e.key e.value) (read_entries r q (Some e.key) (at + size t) ts)) l qs f)
 entries_fault ps whole r q es t ts at qs error.Memory h f = tt
 
 pub entries_end : (ps : List Pending) (whole : Literal Pairs) (r q : Reader) (es : List (Datum × Value)) (at : ℕ) (qs : List Pending) →

@@ -7,7 +7,12 @@ mod pending;
 mod reading;
 mod simple;
 mod words;
+mod writing;
 
 pub use error::ValueError;
 pub use pending::{Pending, Read};
 pub use reading::read_value;
+pub use writing::value_node;
+
+#[cfg(test)]
+mod tests;

@@ -83,10 +83,7 @@ pub(crate) fn big_value(alloc: Global, shares: bool, table: Table<Value>) -> Res
 
 // The entries of a table as what is put into a big map.
 #[tactic(auto, using(crate::proofs::Tables::overlay_step, crate::proofs::Tables::overlay_end))]
-fn overlay_of(
-    alloc: Global,
-    table: Table<Value>,
-) -> Result<Rows<(Datum, Option<Value>)>, Memory>
+fn overlay_of(alloc: Global, table: Table<Value>) -> Result<Rows<(Datum, Option<Value>)>, Memory>
     ensures { IfOk result (λ overlay. put_pairs overlay ≡ pairs table) }
 {
     let mut overlay = Rows::new(alloc);

@@ -70,19 +70,19 @@ abbrev pub invariant-read_elements-loop-node : goal.invariant-read_elements-loop
 invariant-read_elements-loop-node l =
     let left = trees (drop l.node-index l.node-items) in
     (with_pending (all_pending l.initial.pending) (read_elements (read (kind l.part)) l.initial.next (trees l.nodes))
-        ≡ mapped (put_before (map val l.values)) (with_pending (all_pending l.pending) (read_elements (read (kind l.part)) l.next left)))
+    ≡ mapped (put_before (map val l.values)) (with_pending (all_pending l.pending) (read_elements (read (kind l.part)) l.next left)))
     × (l.next + sizes left ≡ l.initial.next + sizes (trees l.nodes))
 
 abbrev pub invariant-read_increasing-loop-node : goal.invariant-read_increasing-loop-node
 invariant-read_increasing-loop-node l =
     let left = trees (drop l.node-index l.node-items) in
     IsReadUpTo (with_pending (all_pending l.initial.pending) (read_increasing (read (kind l.part)) None l.initial.next (trees l.nodes)))
-        (read (kind l.part)) l.elements l.next left (all_pending l.pending)
+    (read (kind l.part)) l.elements l.next left (all_pending l.pending)
     × (l.next + sizes left ≡ l.initial.next + sizes (trees l.nodes))
 
 abbrev pub invariant-read_entries-loop-node : goal.invariant-read_entries-loop-node
 invariant-read_entries-loop-node l =
     let left = trees (drop l.node-index l.node-items) in
     AreReadUpTo (with_pending (all_pending l.initial.pending) (read_entries (read (kind l.key)) (read (kind l.value)) None l.initial.next (trees l.nodes)))
-        (read (kind l.key)) (read (kind l.value)) l.table l.next left (all_pending l.pending)
+    (read (kind l.key)) (read (kind l.value)) l.table l.next left (all_pending l.pending)
     × (l.next + sizes left ≡ l.initial.next + sizes (trees l.nodes))
