@@ -7,7 +7,9 @@ mod pending;
 mod reading;
 mod simple;
 mod words;
+mod writing;
 
 pub use error::ValueError;
 pub use pending::{Pending, Read};
 pub use reading::read_value;
+pub use writing::value_node;
