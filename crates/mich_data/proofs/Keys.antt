@@ -1,9 +1,10 @@
 -- Keys in increasing order, and one behind them.
-use Rattle.std.proofs.Common.{◌≡◌, ℕ, suc, ◌+◌, ◌-◌, Bool, true, ◌&&◌, Option, Some, None, List, [], ◌∷◌, ◌++◌, map, option_map, length, refl, sym, ap, ◌∙◌, subst, arith}
+use Rattle.std.proofs.Common.{◌≡◌, ℕ, suc, ◌+◌, ◌-◌, Bool, true, ◌&&◌, Option, Some, None, List, [], ◌∷◌, ◌++◌, map, option_map, length, Bor, refl, sym, ap, ◌∙◌, subst, arith}
 use Rattle.std.specs.Prelude.{slice_get}
 use Rattle.std.specs.declared.cmp.Ordering.{Ordering}
 use Rattle.std.specs.declared.cmp.Ordering.TheVariants.{Less, Equal, Greater}
 use Rattle.std.specs.Ordering.{is_lt}
+use Rattle.std.specs.Map.{keys_of}
 use Rattle.std.specs.List.{AllByRecursion}
 use Rattle.std.specs.List.Sorted.{IsStrictlySortedBy}
 use Rattle.std.proofs.lemmas.Bool.{and_parts, and_from}
@@ -114,3 +115,25 @@ stays_increasing ds k s e = increases_more ds k s (below_it ds k s e)
 pub none_increases : IsIncreasing []
 unfolding IsStrictlySortedBy
 none_increases = tt
+
+parted : (o : Option (Bor Datum)) → option_map (λ d. datum d.now) o ≡ option_map datum (option_map (λ d. d.now) o)
+parted None = refl
+parted (Some d) = refl
+
+-- the code tells the greatest element by its place
+pub last_told : (o : Option (Bor Datum)) (ds : List Datum) → option_map (λ d. d.now) o ≡ slice_get ds (length ds - 1) → option_map (λ d. datum d.now) o ≡ last_value ds
+last_told o ds h = parted o ∙ ap (option_map datum) (h ∙ slice_get-last ds)
+
+module _ {X : Type 0} where
+  key_from : (e : Datum × X) (es : List (Datum × X)) → (last_from e es).0 ≡ last_from e.0 (keys_of es)
+  key_from e [] = refl
+  key_from e (f ∷ fs) = key_from f fs
+
+  key_of_last : (es : List (Datum × X)) → option_map (λ e. e.0) (last_of es) ≡ last_of (keys_of es)
+  key_of_last [] = refl
+  key_of_last (e ∷ es) = ap Some (key_from e es)
+
+  -- and the greatest key likewise
+  pub last_key_told : (o : Option (Bor Datum)) (es : List (Datum × X)) → option_map (λ d. d.now) o ≡ option_map (λ e. e.0) (slice_get es (length es - 1)) →
+      option_map (λ d. datum d.now) o ≡ last_value (keys_of es)
+  last_key_told o es h = parted o ∙ ap (option_map datum) (h ∙ ap (option_map (λ e. e.0)) (slice_get-last es) ∙ key_of_last es)

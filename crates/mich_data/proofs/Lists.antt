@@ -1,5 +1,5 @@
 -- Elements of a list, read one by one.
-use Rattle.std.proofs.Common.{◌≡◌, ℕ, ◌+◌, List, [], ◌∷◌, ◌++◌, map, refl, sym, ap, ◌∙◌}
+use Rattle.std.proofs.Common.{◌≡◌, ℕ, ◌+◌, ◌<◌, ◌≤◌, List, [], ◌∷◌, ◌++◌, map, drop, length, get_or, refl, sym, ap, ◌∙◌}
 use Rattle.std.proofs.lemmas.List.{map-append, append-nil}
 use Rattle.rules_base.specs.Tree.{Tree, Trees, none, more, size}
 use Rattle.rules_values.specs.Val.{Val, Vals, no_val, more_vals, list}
@@ -7,9 +7,12 @@ use Rattle.rules_values.specs.Literals.{Pending, Literal, good, bad, with_pendin
 use Rattle.mich_term.specs.View.{vals_of}
 use Rattle.mich_term.specs.ValueView.{val, vals}
 use Rattle.mich_term.specs.declared.value.Value.{Value}
+use Rattle.mich_base.specs.View.{tree, trees}
+use Rattle.mich_base.specs.declared.node.Node.{Node}
 use Rattle.mich_data.specs.declared.error.ValueError.{ValueError}
 use Rattle.mich_data.specs.declared.error.ValueError.TheVariants as error
 use Rattle.mich_data.specs.Answers.{IsFault}
+use Rattle.mich_data.proofs.Places.{left_at, left_end}
 use Rattle.mich_data.proofs.Steps.{mapped_good, mapped_bad, then_good, then_bad}
 
 -- these values before others
@@ -64,3 +67,26 @@ elements_fault ps whole r vs t ts at qs error.Memory e f = tt
 pub elements_end : (ps : List Pending) (whole : Literal Vals) (r : Reader) (vs : List Value) (at : ℕ) (qs : List Pending) →
     with_pending ps whole ≡ mapped (put_before (map val vs)) (with_pending qs (read_elements r at none)) → with_pending ps (mapped list whole) ≡ good (list (vals vs)) qs
 elements_end ps whole r vs at qs e = mapped_good list whole (vals vs) ps qs (e ∙ before_end (map val vs) qs)
+
+-- ---- the same at the places of a slice
+
+module _ (ns : List Node) (i : ℕ) (n : Node) (h : i < length ns) (e : n ≡ get_or ns i n) where
+  pub elements_go : (whole : Literal Vals) (r : Reader) (vs ws : List Value) (v : Value) (at next : ℕ) (ps qs : List Pending) →
+      whole ≡ mapped (put_before (map val vs)) (with_pending ps (read_elements r at (trees (drop i ns)))) → with_pending ps (r at (tree n)) ≡ good (val v) qs → next ≡ at + size (tree n) →
+      ws ≡ vs ++ v ∷ [] → whole ≡ mapped (put_before (map val ws)) (with_pending qs (read_elements r next (trees (drop (i + 1) ns))))
+  elements_go whole r vs ws v at next ps qs f g k l =
+      elements_step whole r vs ws v (tree n) (trees (drop (i + 1) ns)) at ps qs
+      (f ∙ ap (λ ts. mapped (put_before (map val vs)) (with_pending ps (read_elements r at ts))) (left_at ns i n h e)) g l
+      ∙ ap (λ m. mapped (put_before (map val ws)) (with_pending qs (read_elements r m (trees (drop (i + 1) ns))))) (sym k)
+
+  pub elements_fail : (ps : List Pending) (whole : Literal Vals) (r : Reader) (vs : List Value) (at : ℕ) (qs : List Pending) (x : ValueError) →
+      with_pending ps whole ≡ mapped (put_before (map val vs)) (with_pending qs (read_elements r at (trees (drop i ns)))) → IsFault (with_pending qs (r at (tree n))) x →
+      IsFault (with_pending ps (mapped list whole)) x
+  elements_fail ps whole r vs at qs x f g =
+      elements_fault ps whole r vs (tree n) (trees (drop (i + 1) ns)) at qs x
+      (f ∙ ap (λ ts. mapped (put_before (map val vs)) (with_pending qs (read_elements r at ts))) (left_at ns i n h e)) g
+
+pub elements_done : (ns : List Node) (i : ℕ) → length ns ≤ i → (ps : List Pending) (whole : Literal Vals) (r : Reader) (vs : List Value) (at : ℕ) (qs : List Pending) →
+    with_pending ps whole ≡ mapped (put_before (map val vs)) (with_pending qs (read_elements r at (trees (drop i ns)))) → with_pending ps (mapped list whole) ≡ good (list (vals vs)) qs
+elements_done ns i h ps whole r vs at qs f =
+    elements_end ps whole r vs at qs (f ∙ ap (λ ts. mapped (put_before (map val vs)) (with_pending qs (read_elements r at ts))) (left_end ns i h))

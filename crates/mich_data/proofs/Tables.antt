@@ -1,5 +1,5 @@
 -- Entries of a map, read one by one.
-use Rattle.std.proofs.Common.{◌≡◌, ℕ, ◌+◌, ◌-◌, Bool, true, false, cond, Option, Some, None, List, [], ◌∷◌, ◌++◌, map, option_map, length, refl, sym, ap, ◌∙◌, subst}
+use Rattle.std.proofs.Common.{◌≡◌, ℕ, ◌+◌, ◌-◌, ◌<◌, ◌≤◌, drop, get_or, Bor, Bool, true, false, cond, Option, Some, None, List, [], ◌∷◌, ◌++◌, map, option_map, length, refl, sym, ap, ◌∙◌, subst}
 use Rattle.std.specs.Prelude.{slice_get}
 use Rattle.std.specs.Map.{keys_of}
 use Rattle.std.proofs.lemmas.List.{map-append, append-nil}
@@ -13,11 +13,14 @@ use Rattle.mich_term.specs.Keyed.{by, with, IsIncreasing}
 use Rattle.mich_term.proofs.Ends.{with_last, by_lawful}
 use Rattle.mich_term.specs.declared.datum.Datum.{Datum}
 use Rattle.mich_term.specs.declared.value.Value.{Value}
+use Rattle.mich_base.specs.View.{tree, trees}
+use Rattle.mich_base.specs.declared.node.Node.{Node}
 use Rattle.mich_data.specs.declared.error.ValueError.{ValueError}
 use Rattle.mich_data.specs.declared.error.ValueError.TheVariants as error
 use Rattle.mich_data.specs.Answers.{IsFault}
+use Rattle.mich_data.proofs.Places.{left_at, left_end}
 use Rattle.mich_data.proofs.Steps.{mapped_good, mapped_bad, then_good, then_bad}
-use Rattle.mich_data.proofs.Keys.{last_value, last_of, last_of-more, last_from, slice_get-last, stays_increasing, none_increases}
+use Rattle.mich_data.proofs.Keys.{last_value, last_of, last_of-more, stays_increasing, none_increases, last_key_told}
 
 -- ---- one entry
 
@@ -34,6 +37,11 @@ module _ (r q : Reader) (before : Option Val) (at : ℕ) (t u : Tree) (ps : List
   pub binding_good : (x y : Val) (qs rs : List Pending) → with_pending ps (r (at + 1) t) ≡ good x qs → is_behind before x ≡ true →
       with_pending qs (q (at + 1 + size t) u) ≡ good y rs → with_pending ps (read_binding r q before at t u) ≡ good (record { key = x; value = y }) rs
   binding_good x y qs rs f b g = behind_key x qs f b ∙ mapped_good (λ z. record { key = x; value = z }) (q (at + 1 + size t) u) y qs rs g
+
+  pub binding_go : (x y k : Val) (next : ℕ) (qs rs : List Pending) → with_pending ps (r (at + 1) t) ≡ good x qs → next ≡ at + 1 + size t → is_behind before x ≡ true → k ≡ x →
+      with_pending qs (q next u) ≡ good y rs → with_pending ps (read_binding r q before at t u) ≡ good (record { key = k; value = y }) rs
+  binding_go x y k next qs rs f e b same g =
+      binding_good x y qs rs f b (ap (λ j. with_pending qs (q j u)) (sym e) ∙ g) ∙ ap (λ z. good (record { key = z; value = y }) rs) (sym same)
 
   pub binding_key : (e : ValueError) → IsFault (with_pending ps (r (at + 1) t)) e → IsFault (with_pending ps (read_binding r q before at t u)) e
   binding_key (error.NotOfType l) f = then_bad (r (at + 1) t) (bound r q before at t u) l ps f
@@ -86,15 +94,6 @@ with_is_last : (es : List (Datum × Value)) (d : Datum) (v : Value) → IsIncrea
 with_is_last es d v s b =
     with_last by_lawful es [] d v (subst IsIncreasing (sym (map-append (λ e. e.0) es ((d, v) ∷ []))) (stays_increasing (keys_of es) d s b))
 
--- the code tells the greatest key by its place
-key_from : (e : Datum × Value) (es : List (Datum × Value)) → option_map (λ x. x.0) (Some (last_from e es)) ≡ last_of (keys_of (e ∷ es))
-key_from e [] = refl
-key_from e (f ∷ fs) = key_from f fs
-
-key_of_last : (es : List (Datum × Value)) → option_map (λ x. x.0) (last_of es) ≡ last_of (keys_of es)
-key_of_last [] = refl
-key_of_last (e ∷ es) = key_from e es
-
 pub entries_step : (whole : Literal Pairs) (r q : Reader) (es fs : List (Datum × Value)) (d : Datum) (v : Value) (t : Tree) (ts : Trees) (at : ℕ) (ps qs : List Pending) →
     AreReadUpTo whole r q es at (more t ts) ps → with_pending ps (read_entry r q (last_value (keys_of es)) at t) ≡ good (record { key = datum d; value = val v }) qs →
     is_behind (last_value (keys_of es)) (datum d) ≡ true → fs ≡ with d v es → AreReadUpTo whole r q fs (at + size t) ts qs
@@ -124,6 +123,36 @@ entries_fault ps whole r q es t ts at qs error.Memory h f = tt
 pub entries_end : (ps : List Pending) (whole : Literal Pairs) (r q : Reader) (es : List (Datum × Value)) (at : ℕ) (qs : List Pending) →
     AreReadUpTo (with_pending ps whole) r q es at none qs → with_pending ps whole ≡ good (pairs es) qs
 entries_end ps whole r q es at qs h = h.same ∙ ap (λ u. good u (qs ++ [])) (pairs_before-none es) ∙ ap (good (pairs es)) (append-nil qs)
+
+-- ---- the same at the places of a slice
+
+module _ (ns : List Node) (i : ℕ) (n : Node) (h : i < length ns) (e : n ≡ get_or ns i n) where
+  at_place : (whole : Literal Pairs) (r q : Reader) (es : List (Datum × Value)) (at : ℕ) (ps : List Pending) → AreReadUpTo whole r q es at (trees (drop i ns)) ps →
+      AreReadUpTo whole r q es at (more (tree n) (trees (drop (i + 1) ns))) ps
+  at_place whole r q es at ps g = subst (λ ts. AreReadUpTo whole r q es at ts ps) (left_at ns i n h e) g
+
+  pub entries_go : (whole : Literal Pairs) (r q : Reader) (es fs : List (Datum × Value)) (d : Datum) (v : Value) (o : Option (Bor Datum)) (at next : ℕ) (ps qs : List Pending) →
+      AreReadUpTo whole r q es at (trees (drop i ns)) ps →
+      with_pending ps (read_entry r q (option_map (λ y. datum y.now) o) at (tree n)) ≡ good (record { key = datum d; value = val v }) qs → next ≡ at + size (tree n) →
+      is_behind (option_map (λ y. datum y.now) o) (datum d) ≡ true →
+      option_map (λ y. y.now) o ≡ option_map (λ y. y.0) (slice_get es (length es - 1)) → fs ≡ with d v es →
+      AreReadUpTo whole r q fs next (trees (drop (i + 1) ns)) qs
+  entries_go whole r q es fs d v o at next ps qs g f k b l w =
+      let last : option_map (λ y. datum y.now) o ≡ last_value (keys_of es) = last_key_told o es l in
+      subst (λ j. AreReadUpTo whole r q fs j (trees (drop (i + 1) ns)) qs) (sym k)
+      (entries_step whole r q es fs d v (tree n) (trees (drop (i + 1) ns)) at ps qs (at_place whole r q es at ps g)
+          (ap (λ y. with_pending ps (read_entry r q y at (tree n))) (sym last) ∙ f) (ap (λ y. is_behind y (datum d)) (sym last) ∙ b) w)
+
+  pub entries_fail : (ps : List Pending) (whole : Literal Pairs) (r q : Reader) (es : List (Datum × Value)) (o : Option (Bor Datum)) (at : ℕ) (qs : List Pending) (x : ValueError) →
+      AreReadUpTo (with_pending ps whole) r q es at (trees (drop i ns)) qs → option_map (λ y. y.now) o ≡ option_map (λ y. y.0) (slice_get es (length es - 1)) →
+      IsFault (with_pending qs (read_entry r q (option_map (λ y. datum y.now) o) at (tree n))) x → IsFault (with_pending ps whole) x
+  entries_fail ps whole r q es o at qs x g l f =
+      entries_fault ps whole r q es (tree n) (trees (drop (i + 1) ns)) at qs x (at_place (with_pending ps whole) r q es at qs g)
+      (subst (λ y. IsFault (with_pending qs (read_entry r q y at (tree n))) x) (last_key_told o es l) f)
+
+pub entries_done : (ns : List Node) (i : ℕ) → length ns ≤ i → (ps : List Pending) (whole : Literal Pairs) (r q : Reader) (es : List (Datum × Value)) (at : ℕ) (qs : List Pending) →
+    AreReadUpTo (with_pending ps whole) r q es at (trees (drop i ns)) qs → with_pending ps whole ≡ good (pairs es) qs
+entries_done ns i h ps whole r q es at qs g = entries_end ps whole r q es at qs (subst (λ ts. AreReadUpTo (with_pending ps whole) r q es at ts qs) (left_end ns i h) g)
 
 -- ---- what is put into a big map
 

@@ -1,7 +1,7 @@
 -- What the answers of the calls say.
-use Rattle.std.specs.Prelude.{ℕ, ◌≡◌, Bool, true, false, List, Result, Ok, Err}
+use Rattle.std.specs.Prelude.{ℕ, ◌≡◌, Bool, true, false, Option, List, Result, Ok, Err}
 use Rattle.rules_values.specs.Val.{Val, Pairs}
-use Rattle.rules_values.specs.Literals.{Literal, good, bad, Pending}
+use Rattle.rules_values.specs.Literals.{Literal, good, bad, Pending, is_behind}
 use Rattle.rules_values.specs.Literals as rules
 use Rattle.mich_term.specs.ValueView.{val, pairs}
 use Rattle.mich_term.specs.View.{datum}
@@ -28,10 +28,10 @@ abbrev pub IsFound : Literal Val → ℕ → List Pending → Result Found Value
 IsFound r next left (Ok f) = (r ≡ good (val f.value) left) × (f.next ≡ next)
 IsFound r next left (Err e) = IsFault r e
 
--- the same of an entry of a map
-abbrev pub IsEntry : Literal rules.Entry → ℕ → List Pending → Result Entry ValueError → Type 0
-IsEntry r next left (Ok e) = (r ≡ good (record { key = datum e.key; value = val e.value }) left) × (e.next ≡ next)
-IsEntry r next left (Err e) = IsFault r e
+-- the same of an entry of a map, whose key stands behind the keys before it
+abbrev pub IsEntry : Option Val → Literal rules.Entry → ℕ → List Pending → Result Entry ValueError → Type 0
+IsEntry before r next left (Ok e) = (r ≡ good (record { key = datum e.key; value = val e.value }) left) × (e.next ≡ next) × (is_behind before (datum e.key) ≡ true)
+IsEntry before r next left (Err e) = IsFault r e
 
 -- the same of all entries
 abbrev pub AreEntries : Literal Pairs → ℕ → List Pending → Result Entries ValueError → Type 0

@@ -2,9 +2,9 @@
 ghost use Rattle.std.specs.Prelude.{◌≡◌, IfOk};
 ghost use Rattle.rules_values.specs.Val.{big_table, both};
 ghost use Rattle.mich_term.specs.ValueView.{pairs, put_pairs, val};
-ghost use Rattle.mich_data.specs.Wrapped.{wrapped};
+ghost use Rattle.mich_data.specs.Wrapped.{IsSplit, wrapped};
 
-use mich_base::{Link, Memory, Rows};
+use mich_base::{Link, Memory, Node, Rows};
 use mich_term::{BigMap, Datum, Table, Value};
 use std::alloc::Global;
 
@@ -28,6 +28,23 @@ pub(crate) struct Entry {
 pub(crate) struct Entries {
     pub(crate) table: Table<Value>,
     pub(crate) next: u32,
+}
+
+// The parts of a pair: two, or the first of more and those behind it.
+pub(crate) enum Parts<'a> {
+    Two(&'a Node, &'a Node),
+    More(&'a Node, &'a [Node]),
+    Fewer,
+}
+
+pub(crate) fn split_parts(parts: &[Node]) -> Parts<'_>
+    ensures { IsSplit parts.now result }
+{
+    match parts {
+        [] | [_] => Parts::Fewer,
+        [part, last] => Parts::Two(part, last),
+        [part, rest @ ..] => Parts::More(part, rest),
+    }
 }
 
 // What is made of the value of an argument.

@@ -14,7 +14,7 @@ ghost use Rattle.mich_term.specs.ValueView.{val};
 ghost use Rattle.mich_data.specs.Wrapped.{wrapped};
 
 use crate::error::ValueError;
-use crate::parts::{Entries, Entry, Found, Wrapper, big_value};
+use crate::parts::{Entries, Entry, Found, Parts, Wrapper, big_value, split_parts};
 use crate::pending::{Pending, Read};
 use crate::simple::simple_value;
 use crate::words::{Word, word_of_name};
@@ -207,7 +207,6 @@ fn read_pair(
 }
 
 // The parts of a pair, the first of them at a location, where the location of the whole is the first.
-#[tactic(auto, using(crate::proofs::Steps::mapped_good, crate::proofs::Steps::fault_mapped, crate::proofs::Steps::then_good, crate::proofs::Steps::fault_then))]
 #[cycle(read)]
 fn read_parts(
     alloc: Global,
@@ -221,18 +220,18 @@ fn read_parts(
     requires { at + sizes (trees parts.now) < 2 ^ 32 }
     ensures { IsFound (with_pending (all_pending pending.old) (read_parts (read (kind first.now)) (read (kind second.now)) (read_rest (kind second.now) whole) whole at (trees parts.now))) (at + sizes (trees parts.now)) (all_pending pending.new) result }
 {
-    match parts {
-        [part, last] => {
+    match split_parts(parts) {
+        Parts::Two(part, last) => {
             let found = read_at(alloc, first, part, at, pending)?;
             let behind = read_at(alloc, second, last, found.next, pending)?;
             Ok(found.paired(alloc, behind)?)
         }
-        [part, rest @ ..] if rest.len() > 1 => {
+        Parts::More(part, rest) => {
             let found = read_at(alloc, first, part, at, pending)?;
             let behind = read_rest(alloc, second, rest, whole, found.next, pending)?;
             Ok(found.paired(alloc, behind)?)
         }
-        _ => Err(ValueError::NotOfType(whole)),
+        Parts::Fewer => Err(ValueError::NotOfType(whole)),
     }
 }
 
@@ -275,7 +274,7 @@ fn read_list(
 }
 
 // A list of the elements, the first of them at a location.
-#[tactic(auto, using(crate::proofs::Lists::elements_start, crate::proofs::Lists::elements_step, crate::proofs::Lists::elements_fault, crate::proofs::Lists::elements_end))]
+#[tactic(auto, using(crate::proofs::Lists::elements_start))]
 #[cycle(read)]
 fn read_elements(
     alloc: Global,
@@ -318,7 +317,7 @@ fn read_set(
 }
 
 // A set of the elements, the first of them at a location.
-#[tactic(auto, using(crate::proofs::Sets::set_start, crate::proofs::Sets::set_step, crate::proofs::Sets::set_fault, crate::proofs::Sets::set_misfit, crate::proofs::Sets::set_end))]
+#[tactic(auto, using(crate::proofs::Sets::set_start))]
 #[cycle(read)]
 fn read_increasing(
     alloc: Global,
@@ -453,7 +452,7 @@ fn read_big(
 }
 
 // The entries, the first of them at a location.
-#[tactic(auto, using(crate::proofs::Tables::entries_start, crate::proofs::Tables::entries_step, crate::proofs::Tables::entries_fault, crate::proofs::Tables::entries_end))]
+#[tactic(auto, using(crate::proofs::Tables::entries_start))]
 #[cycle(read)]
 fn read_entries(
     alloc: Global,
@@ -488,7 +487,7 @@ fn read_entry(
     pending: &mut Rows<Pending>,
 ) -> Result<Entry, ValueError>
     requires { at + size (tree node.now) < 2 ^ 32 }
-    ensures { IsEntry (with_pending (all_pending pending.old) (read_entry (read (kind key.now)) (read (kind value.now)) (option_map (λ d. datum d.now) before.entry) at (tree node.now))) (at + size (tree node.now)) (all_pending pending.new) result }
+    ensures { IsEntry (option_map (λ d. datum d.now) before.entry) (with_pending (all_pending pending.old) (read_entry (read (kind key.now)) (read (kind value.now)) (option_map (λ d. datum d.now) before.entry) at (tree node.now))) (at + size (tree node.now)) (all_pending pending.new) result }
 {
     let Node::Prim(app) = node else {
         return Err(ValueError::NotOfType(at));
@@ -503,7 +502,7 @@ fn read_entry(
 }
 
 // The key and the value of the entry at a location.
-#[tactic(auto, using(crate::proofs::Tables::binding_good, crate::proofs::Tables::binding_key, crate::proofs::Tables::binding_order, crate::proofs::Tables::binding_value))]
+#[tactic(auto, using(crate::proofs::Tables::binding_key, crate::proofs::Tables::binding_order, crate::proofs::Tables::binding_value))]
 #[cycle(read)]
 fn read_binding(
     alloc: Global,
@@ -515,7 +514,7 @@ fn read_binding(
     pending: &mut Rows<Pending>,
 ) -> Result<Entry, ValueError>
     requires { at + 1 + size (tree binding.0.now) + size (tree binding.1.now) < 2 ^ 32 }
-    ensures { IsEntry (with_pending (all_pending pending.old) (read_binding (read (kind key.now)) (read (kind value.now)) (option_map (λ d. datum d.now) before.entry) at (tree binding.entry.0.now) (tree binding.entry.1.now))) (at + 1 + size (tree binding.entry.0.now) + size (tree binding.entry.1.now)) (all_pending pending.new) result }
+    ensures { IsEntry (option_map (λ d. datum d.now) before.entry) (with_pending (all_pending pending.old) (read_binding (read (kind key.now)) (read (kind value.now)) (option_map (λ d. datum d.now) before.entry) at (tree binding.entry.0.now) (tree binding.entry.1.now))) (at + 1 + size (tree binding.entry.0.now) + size (tree binding.entry.1.now)) (all_pending pending.new) result }
 {
     let first = read_at(alloc, key, binding.0, at + 1, pending)?;
     let datum = key_behind(alloc, before, &first.value, at)?;
