@@ -141,7 +141,7 @@ module _ (ns : List Node) (i : ℕ) (n : Node) (h : i < length ns) (e : n ≡ ge
       let last : option_map (λ y. datum y.now) o ≡ last_value (keys_of es) = last_key_told o es l in
       subst (λ j. AreReadUpTo whole r q fs j (trees (drop (i + 1) ns)) qs) (sym k)
       (entries_step whole r q es fs d v (tree n) (trees (drop (i + 1) ns)) at ps qs (at_place whole r q es at ps g)
-          (ap (λ y. with_pending ps (read_entry r q y at (tree n))) (sym last) ∙ f) (ap (λ y. is_behind y (datum d)) (sym last) ∙ b) w)
+      (ap (λ y. with_pending ps (read_entry r q y at (tree n))) (sym last) ∙ f) (ap (λ y. is_behind y (datum d)) (sym last) ∙ b) w)
 
   pub entries_fail : (ps : List Pending) (whole : Literal Pairs) (r q : Reader) (es : List (Datum × Value)) (o : Option (Bor Datum)) (at : ℕ) (qs : List Pending) (x : ValueError) →
       AreReadUpTo (with_pending ps whole) r q es at (trees (drop i ns)) qs → option_map (λ y. y.now) o ≡ option_map (λ y. y.0) (slice_get es (length es - 1)) →
