@@ -1,5 +1,5 @@
 // Sets, which contracts see as the list of their elements in order.
-ghost use Rattle.std.specs.Prelude.{◌≡◌, [], length, not, IfOk, OnErr};
+ghost use Rattle.std.specs.Prelude.{◌≡◌, ◌-◌, [], length, not, IfOk, OnErr, option_map, slice_get};
 ghost use Rattle.mich_term.specs.Keyed.{IsIncreasing, has, put, taken};
 
 use crate::datum::{Datum, copy_datum};
@@ -68,6 +68,13 @@ impl Elements {
         ensures removed { self.new ≡ taken element.now self.old }
     {
         self.set.remove(element)
+    }
+
+    /// The greatest element. None where there is none.
+    pub fn last(&self) -> Option<&Datum>
+        ensures { option_map (λ d. d.now) result ≡ slice_get self.now (length self.now - 1) }
+    {
+        self.set.last()
     }
 
     /// An equal set. Memory where there is no room for it.

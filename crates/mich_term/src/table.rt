@@ -1,5 +1,5 @@
 // Values at keys, which contracts see as a list of entries in the keys' order.
-ghost use Rattle.std.specs.Prelude.{◌≡◌, [], length, IfOk, OnErr, option_map};
+ghost use Rattle.std.specs.Prelude.{◌≡◌, ◌-◌, [], length, IfOk, OnErr, option_map, slice_get};
 ghost use Rattle.std.specs.Map.{keys_of};
 ghost use Rattle.mich_term.specs.Keyed.{IsIncreasing, found, with, without};
 
@@ -72,6 +72,14 @@ impl<V> Table<V> {
         ensures new { self.new ≡ without key.now self.old }
     {
         self.map.remove(key)
+    }
+
+    /// The greatest key. None where there are no entries.
+    pub fn last_key(&self) -> Option<&Datum>
+        ensures { option_map (λ k. k.now) result ≡ option_map (λ e. e.0) (slice_get self.now (length self.now - 1)) }
+    {
+        let (key, _) = self.map.last_key_value()?;
+        Some(key)
     }
 
     /// Its entries by key; takes no memory.

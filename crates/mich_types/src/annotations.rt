@@ -52,9 +52,9 @@ pub(crate) fn node_name(node: &Node) -> Option<&[u8]>
     }
 }
 
-// The location behind the node at a location.
+/// The location behind the node at a location: the first, in pre-order, that is at no part of it. Takes no memory.
 #[cycle(behind)]
-pub(crate) fn behind(node: &Node, at: u32) -> u32
+pub fn behind(node: &Node, at: u32) -> u32
     requires { at + size (tree node.now) < 2 ^ 32 }
     ensures { result ≡ at + size (tree node.now) }
 {

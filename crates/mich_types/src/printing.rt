@@ -57,8 +57,8 @@ pub fn type_node(alloc: Global, ty: &Ty) -> Result<Node, Memory>
     }
 }
 
-// An application without annotations.
-fn application(alloc: Global, name: &[u8], args: Nodes) -> Result<Node, Memory>
+/// The application of a name without annotations. Memory where there is no room for it.
+pub fn application(alloc: Global, name: &[u8], args: Nodes) -> Result<Node, Memory>
     ensures { IfOk result (λ n. tree n ≡ prim name.now [] (trees args)) }
 {
     let name = Text::from_slice(alloc, name)?;
@@ -66,13 +66,15 @@ fn application(alloc: Global, name: &[u8], args: Nodes) -> Result<Node, Memory>
     Ok(Node::Prim(App { name, annots, args }))
 }
 
-fn bare(alloc: Global, name: &[u8]) -> Result<Node, Memory>
+/// The application of a name without annotations and arguments. Memory where there is no room for it.
+pub fn bare(alloc: Global, name: &[u8]) -> Result<Node, Memory>
     ensures { IfOk result (λ n. tree n ≡ named name.now none) }
 {
     application(alloc, name, Rows::new(alloc))
 }
 
-fn over_one(alloc: Global, name: &[u8], part: Node) -> Result<Node, Memory>
+/// The application of a name without annotations to one argument. Memory where there is no room for it.
+pub fn over_one(alloc: Global, name: &[u8], part: Node) -> Result<Node, Memory>
     ensures { IfOk result (λ n. tree n ≡ named name.now (more (tree part) none)) }
 {
     let mut args = Rows::new(alloc);
@@ -80,7 +82,8 @@ fn over_one(alloc: Global, name: &[u8], part: Node) -> Result<Node, Memory>
     application(alloc, name, args)
 }
 
-fn over_two(alloc: Global, name: &[u8], first: Node, second: Node) -> Result<Node, Memory>
+/// The application of a name without annotations to two arguments. Memory where there is no room for it.
+pub fn over_two(alloc: Global, name: &[u8], first: Node, second: Node) -> Result<Node, Memory>
     ensures { IfOk result (λ n. tree n ≡ named name.now (more (tree first) (more (tree second) none))) }
 {
     let mut args = Rows::new(alloc);

@@ -1,2 +1,2 @@
-//! Definitions alone: values, their order, their weight, the tickets in them, and maps as lists of entries.
+//! Definitions alone: values, their order, their weight, the tickets in them, maps as lists of entries, and literals.
 #![tactic(auto)]

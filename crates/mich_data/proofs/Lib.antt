@@ -1,0 +1,10 @@
+pub mod Spellings
+pub mod Steps
+pub mod Places
+pub mod Typed
+pub mod Keys
+pub mod Lists
+pub mod Sets
+pub mod Tables
+pub mod Combs
+pub mod Written

@@ -1,0 +1,178 @@
+-- Entries of a map, read one by one.
+use Rattle.std.proofs.Common.{◌≡◌, ℕ, ◌+◌, ◌-◌, ◌<◌, ◌≤◌, drop, get_or, Bor, Bool, true, false, cond, Option, Some, None, List, [], ◌∷◌, ◌++◌, map, option_map, length, refl, sym, ap, ◌∙◌, subst}
+use Rattle.std.specs.Prelude.{slice_get}
+use Rattle.std.specs.Map.{keys_of}
+use Rattle.std.proofs.lemmas.List.{map-append, append-nil}
+use Rattle.std.proofs.lemmas.Bool.{cond-true, cond-false}
+use Rattle.rules_base.specs.Tree.{Tree, Trees, none, more, size}
+use Rattle.rules_values.specs.Val.{Val, Pairs, no_pair, more_pairs}
+use Rattle.rules_values.specs.Literals.{Pending, Literal, good, bad, with_pending, and_then, mapped, Reader, is_behind, Entry, read_binding, read_entry, read_entries}
+use Rattle.mich_term.specs.View.{datum, pairs_of}
+use Rattle.mich_term.specs.ValueView.{val, pairs, put_first, put_pairs}
+use Rattle.mich_term.specs.Keyed.{by, with, IsIncreasing}
+use Rattle.mich_term.proofs.Ends.{with_last, by_lawful}
+use Rattle.mich_term.specs.declared.datum.Datum.{Datum}
+use Rattle.mich_term.specs.declared.value.Value.{Value}
+use Rattle.mich_base.specs.View.{tree, trees}
+use Rattle.mich_base.specs.declared.node.Node.{Node}
+use Rattle.mich_data.specs.declared.error.ValueError.{ValueError}
+use Rattle.mich_data.specs.declared.error.ValueError.TheVariants as error
+use Rattle.mich_data.specs.Answers.{IsFault}
+use Rattle.mich_data.proofs.Places.{left_at, left_end}
+use Rattle.mich_data.proofs.Steps.{mapped_good, mapped_bad, then_good, then_bad}
+use Rattle.mich_data.proofs.Keys.{last_value, last_of, last_of-more, stays_increasing, none_increases, last_key_told}
+
+-- ---- one entry
+
+abbrev bound : Reader → Reader → Option Val → ℕ → Tree → Tree → Val → Literal Entry
+bound r q before at t u x = cond (is_behind before x) (mapped (λ y. record { key = x; value = y }) (q (at + 1 + size t) u)) (bad at)
+
+module _ (r q : Reader) (before : Option Val) (at : ℕ) (t u : Tree) (ps : List Pending) where
+  behind_key : (x : Val) (qs : List Pending) → with_pending ps (r (at + 1) t) ≡ good x qs → is_behind before x ≡ true →
+      with_pending ps (read_binding r q before at t u) ≡ with_pending qs (mapped (λ y. record { key = x; value = y }) (q (at + 1 + size t) u))
+  behind_key x qs f b =
+      then_good (r (at + 1) t) (bound r q before at t u) x ps qs f
+      ∙ ap (with_pending qs) (cond-true (is_behind before x) (mapped (λ y. record { key = x; value = y }) (q (at + 1 + size t) u)) (bad at) b)
+
+  pub binding_good : (x y : Val) (qs rs : List Pending) → with_pending ps (r (at + 1) t) ≡ good x qs → is_behind before x ≡ true →
+      with_pending qs (q (at + 1 + size t) u) ≡ good y rs → with_pending ps (read_binding r q before at t u) ≡ good (record { key = x; value = y }) rs
+  binding_good x y qs rs f b g = behind_key x qs f b ∙ mapped_good (λ z. record { key = x; value = z }) (q (at + 1 + size t) u) y qs rs g
+
+  pub binding_go : (x y k : Val) (next : ℕ) (qs rs : List Pending) → with_pending ps (r (at + 1) t) ≡ good x qs → next ≡ at + 1 + size t → is_behind before x ≡ true → k ≡ x →
+      with_pending qs (q next u) ≡ good y rs → with_pending ps (read_binding r q before at t u) ≡ good (record { key = k; value = y }) rs
+  binding_go x y k next qs rs f e b same g =
+      binding_good x y qs rs f b (ap (λ j. with_pending qs (q j u)) (sym e) ∙ g) ∙ ap (λ z. good (record { key = z; value = y }) rs) (sym same)
+
+  pub binding_key : (e : ValueError) → IsFault (with_pending ps (r (at + 1) t)) e → IsFault (with_pending ps (read_binding r q before at t u)) e
+  binding_key (error.NotOfType l) f = then_bad (r (at + 1) t) (bound r q before at t u) l ps f
+  binding_key error.Memory f = tt
+
+  pub binding_order : (x : Val) (qs : List Pending) → with_pending ps (r (at + 1) t) ≡ good x qs → is_behind before x ≡ false →
+      with_pending ps (read_binding r q before at t u) ≡ bad at
+  binding_order x qs f b =
+      then_good (r (at + 1) t) (bound r q before at t u) x ps qs f
+      ∙ ap (with_pending qs) (cond-false (is_behind before x) (mapped (λ y. record { key = x; value = y }) (q (at + 1 + size t) u)) (bad at) b)
+
+  pub binding_value : (x : Val) (qs : List Pending) (e : ValueError) → with_pending ps (r (at + 1) t) ≡ good x qs → is_behind before x ≡ true →
+      IsFault (with_pending qs (q (at + 1 + size t) u)) e → IsFault (with_pending ps (read_binding r q before at t u)) e
+  binding_value x qs (error.NotOfType l) f b g = behind_key x qs f b ∙ mapped_bad (λ z. record { key = x; value = z }) (q (at + 1 + size t) u) l qs g
+  binding_value x qs error.Memory f b g = tt
+
+-- ---- all entries
+
+-- these entries before others
+abbrev pub pairs_before : List (Datum × Value) → Pairs → Pairs
+pairs_before [] ps = ps
+pairs_before (e ∷ es) ps = more_pairs (datum e.0) (val e.1) (pairs_before es ps)
+
+pairs_before-more : (es : List (Datum × Value)) (d : Datum) (v : Value) (ps : Pairs) → pairs_before (es ++ (d, v) ∷ []) ps ≡ pairs_before es (more_pairs (datum d) (val v) ps)
+pairs_before-more [] d v ps = refl
+pairs_before-more (e ∷ es) d v ps = ap (more_pairs (datum e.0) (val e.1)) (pairs_before-more es d v ps)
+
+pairs_before-none : (es : List (Datum × Value)) → pairs_before es no_pair ≡ pairs es
+pairs_before-none [] = refl
+pairs_before-none (e ∷ es) = ap (more_pairs (datum e.0) (val e.1)) (pairs_before-none es)
+
+before_nothing : (r : Literal Pairs) → r ≡ mapped (pairs_before []) r
+before_nothing (good ws ps) = refl
+before_nothing (bad l) = refl
+
+before_more : (es : List (Datum × Value)) (d : Datum) (v : Value) (ps : List Pending) (r : Literal Pairs) →
+    mapped (pairs_before es) (with_pending ps (mapped (more_pairs (datum d) (val v)) r)) ≡ mapped (pairs_before (es ++ (d, v) ∷ [])) (with_pending ps r)
+before_more es d v ps (good ws qs) = ap (λ u. good u (ps ++ qs)) (sym (pairs_before-more es d v ws))
+before_more es d v ps (bad l) = refl
+
+-- how far entries are read: so many of them are in order, and what is left is read behind them
+pub record AreReadUpTo (whole : Literal Pairs) (r q : Reader) (es : List (Datum × Value)) (at : ℕ) (ts : Trees) (ps : List Pending) : Type 0 where
+  pub same : whole ≡ mapped (pairs_before es) (with_pending ps (read_entries r q (last_value (keys_of es)) at ts))
+  pub increasing : IsIncreasing (keys_of es)
+
+pub entries_start : (ps : List Pending) (r q : Reader) (at : ℕ) (ts : Trees) → AreReadUpTo (with_pending ps (read_entries r q None at ts)) r q [] at ts ps
+entries_start ps r q at ts = record { same = before_nothing (with_pending ps (read_entries r q None at ts)); increasing = none_increases }
+
+with_is_last : (es : List (Datum × Value)) (d : Datum) (v : Value) → IsIncreasing (keys_of es) → is_behind (last_value (keys_of es)) (datum d) ≡ true → with d v es ≡ es ++ (d, v) ∷ []
+with_is_last es d v s b =
+    with_last by_lawful es [] d v (subst IsIncreasing (sym (map-append (λ e. e.0) es ((d, v) ∷ []))) (stays_increasing (keys_of es) d s b))
+
+pub entries_step : (whole : Literal Pairs) (r q : Reader) (es fs : List (Datum × Value)) (d : Datum) (v : Value) (t : Tree) (ts : Trees) (at : ℕ) (ps qs : List Pending) →
+    AreReadUpTo whole r q es at (more t ts) ps → with_pending ps (read_entry r q (last_value (keys_of es)) at t) ≡ good (record { key = datum d; value = val v }) qs →
+    is_behind (last_value (keys_of es)) (datum d) ≡ true → fs ≡ with d v es → AreReadUpTo whole r q fs (at + size t) ts qs
+entries_step whole r q es fs d v t ts at ps qs h f b g =
+    let new : fs ≡ es ++ (d, v) ∷ [] = g ∙ with_is_last es d v h.increasing b in
+    let next : Literal Pairs = read_entries r q (Some (datum d)) (at + size t) ts in
+    let keys : keys_of fs ≡ keys_of es ++ d ∷ [] = ap keys_of new ∙ map-append (λ e. e.0) es ((d, v) ∷ []) in
+    let last : last_value (keys_of fs) ≡ Some (datum d) = ap last_value keys ∙ ap (option_map datum) (last_of-more (keys_of es) d) in
+    record {
+      same =
+          h.same
+          ∙ ap (mapped (pairs_before es)) (then_good (read_entry r q (last_value (keys_of es)) at t)
+          (λ e. mapped (more_pairs e.key e.value) (read_entries r q (Some e.key) (at + size t) ts)) (record { key = datum d; value = val v }) ps qs f)
+          ∙ before_more es d v qs next
+          ∙ ap (λ l. mapped (pairs_before l) (with_pending qs next)) (sym new)
+          ∙ ap (λ o. mapped (pairs_before fs) (with_pending qs (read_entries r q o (at + size t) ts))) (sym last);
+      increasing = subst IsIncreasing (sym keys) (stays_increasing (keys_of es) d h.increasing b);
+    }
+
+pub entries_fault : (ps : List Pending) (whole : Literal Pairs) (r q : Reader) (es : List (Datum × Value)) (t : Tree) (ts : Trees) (at : ℕ) (qs : List Pending) (e : ValueError) →
+    AreReadUpTo (with_pending ps whole) r q es at (more t ts) qs → IsFault (with_pending qs (read_entry r q (last_value (keys_of es)) at t)) e → IsFault (with_pending ps whole) e
+entries_fault ps whole r q es t ts at qs (error.NotOfType l) h f =
+    h.same ∙ ap (mapped (pairs_before es)) (then_bad (read_entry r q (last_value (keys_of es)) at t)
+    (λ e. mapped (more_pairs e.key e.value) (read_entries r q (Some e.key) (at + size t) ts)) l qs f)
+entries_fault ps whole r q es t ts at qs error.Memory h f = tt
+
+pub entries_end : (ps : List Pending) (whole : Literal Pairs) (r q : Reader) (es : List (Datum × Value)) (at : ℕ) (qs : List Pending) →
+    AreReadUpTo (with_pending ps whole) r q es at none qs → with_pending ps whole ≡ good (pairs es) qs
+entries_end ps whole r q es at qs h = h.same ∙ ap (λ u. good u (qs ++ [])) (pairs_before-none es) ∙ ap (good (pairs es)) (append-nil qs)
+
+-- ---- the same at the places of a slice
+
+module _ (ns : List Node) (i : ℕ) (n : Node) (h : i < length ns) (e : n ≡ get_or ns i n) where
+  at_place : (whole : Literal Pairs) (r q : Reader) (es : List (Datum × Value)) (at : ℕ) (ps : List Pending) → AreReadUpTo whole r q es at (trees (drop i ns)) ps →
+      AreReadUpTo whole r q es at (more (tree n) (trees (drop (i + 1) ns))) ps
+  at_place whole r q es at ps g = subst (λ ts. AreReadUpTo whole r q es at ts ps) (left_at ns i n h e) g
+
+  pub entries_go : (whole : Literal Pairs) (r q : Reader) (es fs : List (Datum × Value)) (d : Datum) (v : Value) (o : Option (Bor Datum)) (at next : ℕ) (ps qs : List Pending) →
+      AreReadUpTo whole r q es at (trees (drop i ns)) ps →
+      with_pending ps (read_entry r q (option_map (λ y. datum y.now) o) at (tree n)) ≡ good (record { key = datum d; value = val v }) qs → next ≡ at + size (tree n) →
+      is_behind (option_map (λ y. datum y.now) o) (datum d) ≡ true →
+      option_map (λ y. y.now) o ≡ option_map (λ y. y.0) (slice_get es (length es - 1)) → fs ≡ with d v es →
+      AreReadUpTo whole r q fs next (trees (drop (i + 1) ns)) qs
+  entries_go whole r q es fs d v o at next ps qs g f k b l w =
+      let last : option_map (λ y. datum y.now) o ≡ last_value (keys_of es) = last_key_told o es l in
+      subst (λ j. AreReadUpTo whole r q fs j (trees (drop (i + 1) ns)) qs) (sym k)
+      (entries_step whole r q es fs d v (tree n) (trees (drop (i + 1) ns)) at ps qs (at_place whole r q es at ps g)
+      (ap (λ y. with_pending ps (read_entry r q y at (tree n))) (sym last) ∙ f) (ap (λ y. is_behind y (datum d)) (sym last) ∙ b) w)
+
+  pub entries_fail : (ps : List Pending) (whole : Literal Pairs) (r q : Reader) (es : List (Datum × Value)) (o : Option (Bor Datum)) (at : ℕ) (qs : List Pending) (x : ValueError) →
+      AreReadUpTo (with_pending ps whole) r q es at (trees (drop i ns)) qs → option_map (λ y. y.now) o ≡ option_map (λ y. y.0) (slice_get es (length es - 1)) →
+      IsFault (with_pending qs (read_entry r q (option_map (λ y. datum y.now) o) at (tree n))) x → IsFault (with_pending ps whole) x
+  entries_fail ps whole r q es o at qs x g l f =
+      entries_fault ps whole r q es (tree n) (trees (drop (i + 1) ns)) at qs x (at_place (with_pending ps whole) r q es at qs g)
+      (subst (λ y. IsFault (with_pending qs (read_entry r q y at (tree n))) x) (last_key_told o es l) f)
+
+pub entries_done : (ns : List Node) (i : ℕ) → length ns ≤ i → (ps : List Pending) (whole : Literal Pairs) (r q : Reader) (es : List (Datum × Value)) (at : ℕ) (qs : List Pending) →
+    AreReadUpTo (with_pending ps whole) r q es at (trees (drop i ns)) qs → with_pending ps whole ≡ good (pairs es) qs
+entries_done ns i h ps whole r q es at qs g = entries_end ps whole r q es at qs (subst (λ ts. AreReadUpTo (with_pending ps whole) r q es at ts qs) (left_end ns i h) g)
+
+-- ---- what is put into a big map
+
+-- these changes before entries
+abbrev pub puts_before : List (Datum × Option Value) → Pairs → Pairs
+puts_before [] ps = ps
+puts_before (e ∷ es) ps = put_first e.0 (option_map val e.1) (puts_before es ps)
+
+puts_before-more : (es : List (Datum × Option Value)) (d : Datum) (v : Value) (ps : Pairs) → puts_before (es ++ (d, Some v) ∷ []) ps ≡ puts_before es (more_pairs (datum d) (val v) ps)
+puts_before-more [] d v ps = refl
+puts_before-more (e ∷ es) d v ps = ap (put_first e.0 (option_map val e.1)) (puts_before-more es d v ps)
+
+puts_before-none : (es : List (Datum × Option Value)) → puts_before es no_pair ≡ put_pairs es
+puts_before-none [] = refl
+puts_before-none (e ∷ es) = ap (put_first e.0 (option_map val e.1)) (puts_before-none es)
+
+pub overlay_step : (es fs : List (Datum × Option Value)) (d : Datum) (v : Value) (left rest : List (Datum × Value)) (all : Pairs) →
+    puts_before es (pairs left) ≡ all → left ≡ (d, v) ∷ rest → fs ≡ es ++ (d, Some v) ∷ [] → puts_before fs (pairs rest) ≡ all
+overlay_step es fs d v left rest all e f g =
+    ap (λ l. puts_before l (pairs rest)) g ∙ puts_before-more es d v (pairs rest) ∙ sym (ap (λ l. puts_before es (pairs l)) f) ∙ e
+
+pub overlay_end : (es : List (Datum × Option Value)) (left : List (Datum × Value)) (all : Pairs) → puts_before es (pairs left) ≡ all → left ≡ [] → put_pairs es ≡ all
+overlay_end es left all e f = sym (puts_before-none es) ∙ sym (ap (λ l. puts_before es (pairs l)) f) ∙ e

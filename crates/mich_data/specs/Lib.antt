@@ -1,0 +1,4 @@
+pub mod View
+pub mod Written
+pub mod Wrapped
+pub mod Answers

@@ -1,0 +1,18 @@
+//! Literals: nodes read as values of a type, and values written as nodes.
+#![tactic(auto)]
+
+mod error;
+mod parts;
+mod pending;
+mod reading;
+mod simple;
+mod words;
+mod writing;
+
+pub use error::ValueError;
+pub use pending::{Pending, Read};
+pub use reading::read_value;
+pub use writing::value_node;
+
+#[cfg(test)]
+mod tests;
