@@ -2,7 +2,8 @@
 ghost use Rattle.std.specs.Prelude.{◌≡◌, ◌<◌, ◌≤◌, ◌^◌, ◌-◌, ℕ, ℤ, pos, neg_ℤ, unsigned_abs, Some, None, IfSome, option_map};
 ghost use Rattle.mich_base.specs.View.{tree};
 ghost use Rattle.mich_forms.specs.Spelled.{place_bytes};
-ghost use Rattle.rules_replay.specs.Statements.{within, number_of, moment_of, gas_of, bytes_of, is_chain_id, is_key_hash, is_place, entrypoint_of};
+ghost use Rattle.rules_replay.specs.Statements.{within, number_of, moment_of, gas_of, bytes_of, is_place, entrypoint_of};
+ghost use Rattle.rules_values.specs.ByteForms.{is_chain_id, is_key_hash};
 
 use mich_base::Node;
 use mich_forms::{ChainId, Entrypoint, KeyHash, Place};

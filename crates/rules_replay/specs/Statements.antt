@@ -1,11 +1,10 @@
 -- The statements of a file, with the values of their fields, and the nodes that are statements.
-use Rattle.std.specs.Prelude.{ℕ, ◌-◌, ◌^◌, ◌==◌, ◌&&◌, ◌||◌, nat_le, Bool, if◌then◌else◌, ℤ, pos, neg_ℤ, int_le, unsigned_abs, List, [], ◌∷◌, length, slice_index, codes, Some, None}
+use Rattle.std.specs.Prelude.{ℕ, ◌-◌, ◌^◌, ◌&&◌, ◌||◌, Bool, if◌then◌else◌, ℤ, pos, neg_ℤ, int_le, unsigned_abs, List, [], ◌∷◌, codes, Some, None}
 use Rattle.std.specs.declared.option.Option.{Option}
-use Rattle.std.specs.List.{list_all}
 use Rattle.std.specs.Option.{option_map}
 use Rattle.std.specs.Str.{bytes_eq}
 use Rattle.rules_base.specs.Tree.{Tree, int, str, bytes, prim, seq, Trees, none, more}
-use Rattle.rules_forms.specs.Spelling.{is_name_byte}
+use Rattle.rules_values.specs.ByteForms.{is_entrypoint, is_chain_id, is_key_hash, is_implicit, is_contract}
 
 -- The largest amount of mutez, and the largest level (Octez "operations").
 abbrev pub most_mutez : ℕ
@@ -73,10 +72,7 @@ bytes_of test (str s) = None
 bytes_of test (prim name annotations arguments) = None
 bytes_of test (seq elements) = None
 
--- a string that names an entrypoint: 1 to 31 of the characters of such names
-abbrev pub is_entrypoint : List ℕ → Bool
-is_entrypoint name = nat_le 1 (length name) && nat_le (length name) 31 && list_all is_name_byte name
-
+-- a string that names an entrypoint
 abbrev pub entrypoint_of : Tree → Option (List ℕ)
 entrypoint_of (str s) = only_if (is_entrypoint s) s
 entrypoint_of (int n) = None
@@ -84,16 +80,9 @@ entrypoint_of (bytes b) = None
 entrypoint_of (prim name annotations arguments) = None
 entrypoint_of (seq elements) = None
 
-abbrev pub is_chain_id : List ℕ → Bool
-is_chain_id b = length b == 4
-
--- the tag of a curve, 0 to 3, and 20 bytes
-abbrev pub is_key_hash : List ℕ → Bool
-is_key_hash b = (length b == 21) && nat_le (slice_index b 0) 3
-
--- 0 and a key hash, or 1, the 20 bytes of a contract, and 0
+-- the place of an implicit account, or that of a contract
 abbrev pub is_place : List ℕ → Bool
-is_place b = (length b == 22) && (((slice_index b 0 == 0) && nat_le (slice_index b 1) 3) || ((slice_index b 0 == 1) && (slice_index b 21 == 0)))
+is_place b = is_implicit b || is_contract b
 
 -- ---- forms
 
