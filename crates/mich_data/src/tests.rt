@@ -1,8 +1,9 @@
 // Literals of every type, worked out by hand: what they are read as, written canonically, or the location of their fault.
 use super::*;
-use mich_base::{Node, Ty, size_within};
+use mich_base::{Bytes, Node, Text, Ty, size_within};
+use mich_forms::Entrypoint;
 use mich_text::{print, read_statement};
-use mich_types::read_type;
+use mich_types::{entrypoint, read_parameter, read_type};
 use std::test::Fail;
 
 // A type, a literal, and the canonical literal of what it is read as.
@@ -298,6 +299,47 @@ fn other_nodes_are_no_literals(rt: HostRuntime) -> Result<(), Fail> {
             "{ty}: {text}"
         );
     }
+    Ok(())
+}
+
+// Text of so many bytes.
+fn long(rt: &HostRuntime, count: u32) -> Result<Vec<u8>, Fail> {
+    let mut bytes = Vec::new(rt.alloc());
+    for _ in 0..count {
+        bytes.push(b'a')?;
+    }
+    Ok(bytes)
+}
+
+#[test]
+fn text_and_bytes_have_a_mebibyte(rt: HostRuntime) -> Result<(), Fail> {
+    for (count, fits) in [(1_048_576, true), (1_048_577, false)] {
+        let node = Node::Str(Text::from_vec(long(&rt, count)?));
+        assert_eq!(rt; read_value(rt.alloc(), &Ty::String, &node).is_ok(), fits);
+        let node = Node::Bytes(Bytes::from_vec(long(&rt, count)?));
+        assert_eq!(rt; read_value(rt.alloc(), &Ty::Bytes, &node).is_ok(), fits);
+    }
+    Ok(())
+}
+
+#[test]
+fn entrypoints_take_literals_of_their_types(rt: HostRuntime) -> Result<(), Fail> {
+    let section = node_of(&rt, "parameter (or (int %a) (unit %b))")?;
+    let parameter = read_parameter(rt.alloc(), &section)?;
+    let name = Entrypoint::read(b"a").ok_or("a name")?;
+    let entry = entrypoint(&parameter, &name).ok_or("an entrypoint")?;
+    assert_eq!(rt; entry.path.as_slice(), [false].as_slice());
+    let five = node_of(&rt, "5")?;
+    assert!(rt; read_value(rt.alloc(), &entry.ty, &five).is_ok());
+    let text = node_of(&rt, "\"x\"")?;
+    assert!(rt;
+        matches!(
+            read_value(rt.alloc(), &entry.ty, &text),
+            Err(ValueError::NotOfType(0))
+        )
+    );
+    let other = Entrypoint::read(b"c").ok_or("a name")?;
+    assert!(rt; entrypoint(&parameter, &other).is_none());
     Ok(())
 }
 

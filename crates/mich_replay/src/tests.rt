@@ -443,6 +443,51 @@ fn bytes_are_decoded(rt: HostRuntime) -> Result<(), Fail> {
     Ok(())
 }
 
+// So many sequences, each in the one before.
+fn braces(alloc: Global, depth: u32) -> Result<String, Memory> {
+    let mut text = String::new(alloc);
+    for _ in 0..depth {
+        text.push_str("{")?;
+    }
+    for _ in 0..depth {
+        text.push_str("}")?;
+    }
+    Ok(text)
+}
+
+// A string that spells so many bytes.
+fn quoted(alloc: Global, count: u32) -> Result<String, Memory> {
+    let mut text = String::new(alloc);
+    text.push_str("\"")?;
+    for _ in 0..count {
+        text.push_str("a")?;
+    }
+    text.push_str("\"")?;
+    Ok(text)
+}
+
+#[test]
+fn nodes_at_the_limits(rt: HostRuntime) -> Result<(), Fail> {
+    let alloc = rt.alloc();
+    let (status, out) = run(alloc, "encode", braces(alloc, 1000)?.as_str(), &[], &[])?;
+    assert_eq!(rt; (status, out.as_slice().len()), (0, 10_003));
+    let text = braces(alloc, 1001)?;
+    assert!(rt; is_answered(alloc, "encode", text.as_str(), 2, "Refused TooDeep 1000\n")?);
+    let (status, out) = run(
+        alloc,
+        "encode",
+        quoted(alloc, 1_048_576)?.as_str(),
+        &[],
+        &[],
+    )?;
+    assert_eq!(rt; (status, out.as_slice().len()), (0, 2_097_165));
+    let text = quoted(alloc, 1_048_577)?;
+    assert!(rt; is_answered(alloc, "encode", text.as_str(), 2, "Refused TooLong 0\n")?);
+    let two = "0x094200000004030b030b00000000";
+    assert!(rt; is_answered(alloc, "decode", two, 2, "Refused BadTag 0\n")?);
+    Ok(())
+}
+
 #[test]
 fn no_command(rt: HostRuntime) -> Result<(), Fail> {
     let alloc = rt.alloc();
