@@ -1,6 +1,6 @@
 -- The parts of a pair, read one by one.
-use Rattle.std.proofs.Common.{◌≡◌, ℕ, ◌+◌, ◌<◌, List, [], ◌∷◌, map, length, refl, sym, ap, ◌∙◌, subst, arith}
-use Rattle.rules_base.specs.Tree.{Tree, Trees, none, more, size, sizes}
+use Rattle.std.proofs.Common.{◌≡◌, ℕ, ◌+◌, ◌<◌, List, [], ◌∷◌, length, refl, sym, ap, ◌∙◌, subst, arith}
+use Rattle.rules_base.specs.Tree.{Trees, size}
 use Rattle.rules_values.specs.Val.{Val, both}
 use Rattle.rules_values.specs.Literals.{Pending, Literal, good, bad, with_pending, and_then, mapped, Reader, read_parts}
 use Rattle.mich_base.specs.View.{tree, trees}

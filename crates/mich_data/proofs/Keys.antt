@@ -1,5 +1,5 @@
 -- Keys in increasing order, and one behind them.
-use Rattle.std.proofs.Common.{◌≡◌, ℕ, suc, ◌+◌, ◌-◌, Bool, true, ◌&&◌, Option, Some, None, List, [], ◌∷◌, ◌++◌, map, option_map, length, Bor, refl, sym, ap, ◌∙◌, subst, arith}
+use Rattle.std.proofs.Common.{◌≡◌, ◌-◌, true, Option, Some, None, List, [], ◌∷◌, ◌++◌, option_map, length, Bor, refl, ap, ◌∙◌, subst, arith}
 use Rattle.std.specs.Prelude.{slice_get}
 use Rattle.std.specs.declared.cmp.Ordering.{Ordering}
 use Rattle.std.specs.declared.cmp.Ordering.TheVariants.{Less, Equal, Greater}
@@ -9,7 +9,6 @@ use Rattle.std.specs.List.{AllByRecursion}
 use Rattle.std.specs.List.Sorted.{IsStrictlySortedBy}
 use Rattle.std.proofs.lemmas.Bool.{and_parts, and_from}
 use Rattle.rules_values.specs.Val.{Val, is_comparable}
-use Rattle.rules_values.specs.Order.{order}
 use Rattle.rules_values.specs.Literals.{is_behind}
 use Rattle.mich_term.specs.View.{datum, datum_step}
 use Rattle.mich_term.specs.Keyed.{by, IsIncreasing}

@@ -3,7 +3,7 @@ use Rattle.std.proofs.Common.{◌≡◌, ℕ, ◌+◌, ◌<◌, ◌≤◌, List,
 use Rattle.std.proofs.lemmas.List.{map-append, append-nil}
 use Rattle.rules_base.specs.Tree.{Tree, Trees, none, more, size}
 use Rattle.rules_values.specs.Val.{Val, Vals, no_val, more_vals, list}
-use Rattle.rules_values.specs.Literals.{Pending, Literal, good, bad, with_pending, and_then, mapped, Reader, read_elements}
+use Rattle.rules_values.specs.Literals.{Pending, Literal, good, bad, with_pending, mapped, Reader, read_elements}
 use Rattle.mich_term.specs.View.{vals_of}
 use Rattle.mich_term.specs.ValueView.{val, vals}
 use Rattle.mich_term.specs.declared.value.Value.{Value}

@@ -1,13 +1,13 @@
 -- Elements of a set, read one by one.
-use Rattle.std.proofs.Common.{◌≡◌, ℕ, ◌+◌, ◌-◌, ◌<◌, ◌≤◌, drop, length, get_or, Bor, Err, Bool, true, false, cond, Option, Some, None, List, [], ◌∷◌, ◌++◌, map, option_map, refl, sym, ap, ◌∙◌, subst}
+use Rattle.std.proofs.Common.{◌≡◌, ℕ, ◌+◌, ◌-◌, ◌<◌, ◌≤◌, drop, length, get_or, Bor, Err, true, false, cond, Option, Some, None, List, [], ◌∷◌, ◌++◌, map, option_map, sym, ap, ◌∙◌, subst}
 use Rattle.std.specs.Prelude.{slice_get}
 use Rattle.std.proofs.lemmas.List.{map-append}
 use Rattle.std.proofs.lemmas.Bool.{cond-true, cond-false}
 use Rattle.rules_base.specs.Tree.{Tree, Trees, none, more, size}
-use Rattle.rules_values.specs.Val.{Val, Vals, no_val, more_vals, set}
-use Rattle.rules_values.specs.Literals.{Pending, Literal, good, bad, with_pending, and_then, mapped, Reader, is_behind, read_increasing}
-use Rattle.mich_term.specs.View.{datum, datums, vals_of}
-use Rattle.mich_term.specs.Keyed.{by, put, IsIncreasing}
+use Rattle.rules_values.specs.Val.{Val, Vals, more_vals, set}
+use Rattle.rules_values.specs.Literals.{Pending, Literal, good, bad, with_pending, mapped, Reader, is_behind, read_increasing}
+use Rattle.mich_term.specs.View.{datum, datums}
+use Rattle.mich_term.specs.Keyed.{put, IsIncreasing}
 use Rattle.mich_term.proofs.Ends.{put_last, by_lawful}
 use Rattle.mich_term.specs.declared.datum.Datum.{Datum}
 use Rattle.mich_base.specs.View.{tree, trees}
@@ -18,7 +18,7 @@ use Rattle.mich_data.specs.Answers.{IsFault, IsKeyBehind}
 use Rattle.mich_data.proofs.Places.{left_at, left_end}
 use Rattle.mich_data.proofs.Steps.{mapped_good, mapped_bad, then_good, then_bad}
 use Rattle.mich_data.proofs.Lists.{put_before, before_nothing, before_more, before_end}
-use Rattle.mich_data.proofs.Keys.{last_value, last_of, last_of-more, stays_increasing, none_increases, last_told}
+use Rattle.mich_data.proofs.Keys.{last_value, last_of-more, stays_increasing, none_increases, last_told}
 
 -- how far a set is read: so much of it is in order, and what is left is read behind it
 pub record IsReadUpTo (whole : Literal Vals) (r : Reader) (ds : List Datum) (at : ℕ) (ts : Trees) (ps : List Pending) : Type 0 where

@@ -1,5 +1,5 @@
 -- How a literal is read part by part, with what is still to be tried put behind what is there.
-use Rattle.std.proofs.Common.{◌≡◌, ℕ, List, [], ◌∷◌, ◌++◌, refl, sym, ap, ◌∙◌, subst, append_assoc, Result}
+use Rattle.std.proofs.Common.{◌≡◌, ℕ, List, [], ◌++◌, refl, sym, ap, ◌∙◌, subst, append_assoc, Result}
 use Rattle.rules_base.specs.Tree.{Tree, Trees}
 use Rattle.rules_types.specs.Kind.{Kind}
 use Rattle.rules_values.specs.Literals.{Pending, Literal, good, bad, with_pending, and_then, mapped, read, read_rest}

@@ -1,15 +1,15 @@
 -- Entries of a map, read one by one.
-use Rattle.std.proofs.Common.{◌≡◌, ℕ, ◌+◌, ◌-◌, ◌<◌, ◌≤◌, drop, get_or, Bor, Bool, true, false, cond, Option, Some, None, List, [], ◌∷◌, ◌++◌, map, option_map, length, refl, sym, ap, ◌∙◌, subst}
+use Rattle.std.proofs.Common.{◌≡◌, ℕ, ◌+◌, ◌-◌, ◌<◌, ◌≤◌, drop, get_or, Bor, true, false, cond, Option, Some, None, List, [], ◌∷◌, ◌++◌, option_map, length, refl, sym, ap, ◌∙◌, subst}
 use Rattle.std.specs.Prelude.{slice_get}
 use Rattle.std.specs.Map.{keys_of}
 use Rattle.std.proofs.lemmas.List.{map-append, append-nil}
 use Rattle.std.proofs.lemmas.Bool.{cond-true, cond-false}
 use Rattle.rules_base.specs.Tree.{Tree, Trees, none, more, size}
 use Rattle.rules_values.specs.Val.{Val, Pairs, no_pair, more_pairs}
-use Rattle.rules_values.specs.Literals.{Pending, Literal, good, bad, with_pending, and_then, mapped, Reader, is_behind, Entry, read_binding, read_entry, read_entries}
-use Rattle.mich_term.specs.View.{datum, pairs_of}
+use Rattle.rules_values.specs.Literals.{Pending, Literal, good, bad, with_pending, mapped, Reader, is_behind, Entry, read_binding, read_entry, read_entries}
+use Rattle.mich_term.specs.View.{datum}
 use Rattle.mich_term.specs.ValueView.{val, pairs, put_first, put_pairs}
-use Rattle.mich_term.specs.Keyed.{by, with, IsIncreasing}
+use Rattle.mich_term.specs.Keyed.{with, IsIncreasing}
 use Rattle.mich_term.proofs.Ends.{with_last, by_lawful}
 use Rattle.mich_term.specs.declared.datum.Datum.{Datum}
 use Rattle.mich_term.specs.declared.value.Value.{Value}
@@ -20,7 +20,7 @@ use Rattle.mich_data.specs.declared.error.ValueError.TheVariants as error
 use Rattle.mich_data.specs.Answers.{IsFault}
 use Rattle.mich_data.proofs.Places.{left_at, left_end}
 use Rattle.mich_data.proofs.Steps.{mapped_good, mapped_bad, then_good, then_bad}
-use Rattle.mich_data.proofs.Keys.{last_value, last_of, last_of-more, stays_increasing, none_increases, last_key_told}
+use Rattle.mich_data.proofs.Keys.{last_value, last_of-more, stays_increasing, none_increases, last_key_told}
 
 -- ---- one entry
 

@@ -1,5 +1,4 @@
-use Rattle.std.proofs.Common.{◌≡◌, ◌+◌, None, option_map, refl, sym, ap, ◌∙◌, rules, arith}
-use Rattle.std.proofs.lemmas.Grind.{common_steps}
+use Rattle.std.proofs.Common.{◌≡◌, ◌+◌, None, option_map, sym, ap, ◌∙◌, rules, arith}
 use Rattle.rules_base.specs.Tree.{size, sizes}
 use Rattle.rules_types.specs.Kind as k
 use Rattle.rules_values.specs.Val.{list, set}
@@ -13,7 +12,7 @@ use Rattle.mich_data.proofs.Places.{sizes_at, sizes_end}
 use Rattle.mich_data.proofs.Lists.{elements_go, elements_fail, elements_done}
 use Rattle.mich_data.proofs.Sets.{set_go, set_fail, set_out_of_order, set_done}
 use Rattle.mich_data.proofs.Tables.{binding_go, entries_go, entries_fail, entries_done}
-use Rattle.mich_data.proofs.Combs.{two_first_fault, two_last_fault, two_good, more_first_fault, more_last_fault, more_good, fewer_are}
+use Rattle.mich_data.proofs.Combs.{two_good, more_first_fault, more_last_fault, more_good}
 use Rattle.mich_data.proofs.Typed.{val_list, val_set, kind_pair, kind_list, kind_set, kind_map, kind_big_map}
 use Rattle.mich_data.proofs.Steps.{at_kind, rest_at_kind}
 use Rattle.mich_data.proofs.reading.+read.Goals as goal

@@ -1,5 +1,4 @@
-use Rattle.std.proofs.Common.{◌≡◌, List, [], ◌++◌, drop, map, ap, ◌∙◌, sym, subst, arith}
-use Rattle.rules_base.specs.Tree.{Tree}
+use Rattle.std.proofs.Common.{List, ◌++◌, map, ap, ◌∙◌, sym, arith}
 use Rattle.std.proofs.Math.ListN.{drop_of_length-le}
 use Rattle.mich_base.specs.View.{tree}
 use Rattle.mich_term.specs.ValueView.{vals, put_pairs, big_pairs}
