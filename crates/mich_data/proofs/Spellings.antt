@@ -6,7 +6,7 @@ use Rattle.rules_forms.specs.Spelling.{IsAddress}
 use Rattle.rules_values.specs.ByteForms.{is_address}
 use Rattle.mich_forms.specs.Spelled.{address_bytes}
 use Rattle.mich_forms.specs.declared.addresses.Address.{Address}
-use Rattle.mich_value_laws.proofs.Tests.{address}
+use Rattle.laws_values.proofs.Tests.{address}
 
 pub address_told : (o : Option Address) (b : List ℕ) → SomeIff (option_map address_bytes o) (IsAddress b) b → is_some o ≡ is_address b
 address_told None b h = sym (false_from_ne_true (is_address b) (λ e. h ((address b).0 e)))

@@ -30,13 +30,21 @@ use std::cmp::Ordering;
 /// each literal of a contract (Michelson reference, "Types", the literals of each). NotOfType has the location of the first
 /// node that doesn't fit; for a key out of order it is its `Elt`, and for an element of a set that element. Memory where
 /// there is no room for it.
-#[tactic(auto, using(crate::proofs::Steps::with_none))]
 pub fn read_value(alloc: Global, ty: &Ty, node: &Node) -> Result<Read, ValueError>
     requires { size (tree node.now) < 2 ^ 32 }
     ensures { IsLiteral (read (kind ty.now) 0 (tree node.now)) result }
 {
+    read_value_at(alloc, ty, node, 0)
+}
+
+/// The same of the node at a location, from which its locations are counted.
+#[tactic(auto, using(crate::proofs::Steps::with_none))]
+pub fn read_value_at(alloc: Global, ty: &Ty, node: &Node, at: u32) -> Result<Read, ValueError>
+    requires { at + size (tree node.now) < 2 ^ 32 }
+    ensures { IsLiteral (read (kind ty.now) at (tree node.now)) result }
+{
     let mut pending = Rows::new(alloc);
-    let found = read_at(alloc, ty, node, 0, &mut pending)?;
+    let found = read_at(alloc, ty, node, at, &mut pending)?;
     Ok(Read {
         value: found.value,
         pending,

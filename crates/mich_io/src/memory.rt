@@ -6,13 +6,19 @@ ghost use Rattle.std.specs.Io.{ReadsAtMost, WritesAtMost};
 ghost use Rattle.std.specs.Io.KnownBytes.{Appends, Keeps, ReadConsumes};
 ghost use Rattle.rules_io.specs.Causes.{HasCause};
 ghost use Rattle.rules_io.specs.Known.{AppendsFront, SameFiles, content_in, held_at, known_from};
-ghost use Rattle.rules_io.specs.Held.{is_listed, one_more, start_fails, read_fails, call_failed, started, count_given, read_from, write_fails, write_failed, write_refused, written_to};
+ghost use Rattle.rules_io.specs.Held.{is_listed, one_more, start_fails, read_fails, call_failed, started, count_given, read_from, write_fails, write_failed, written_to};
 
 use crate::honest::copy_front;
 use crate::{Files, FilesFault, Sink, SinkFault};
 use mich_base::{Bytes, Rows, Text, Texts};
 use std::alloc::Global;
 use std::marker::Model;
+
+fn is_listed(fails: &[u64], number: u64) -> bool
+    ensures { result ≡ is_listed fails.now number }
+{
+    fails.contains(&number)
+}
 
 // Counts a call, and says whether it fails.
 fn fails_now(fails: &[u64], calls: &mut u64) -> bool
@@ -21,7 +27,7 @@ fn fails_now(fails: &[u64], calls: &mut u64) -> bool
 {
     let number = *calls;
     *calls = number.saturating_add(1);
-    fails.contains(&number)
+    is_listed(fails, number)
 }
 
 // The place of the first file of that path.
@@ -203,7 +209,7 @@ impl Sink for MemSink {
         ensures exact { IfOk result (λ n. (n ≡ length bytes.now) × (self.new ≡ written_to self.old bytes.now)) }
         ensures fails { IsErrOf result SinkFault.Failed ↔ IsTrue (write_fails self.old) }
         ensures failed { IsErrOf result SinkFault.Failed → self.new ≡ write_failed self.old }
-        ensures refused { IsErrOf result SinkFault.Memory → self.new ≡ write_refused self.old }
+        ensures refused { IsErrOf result SinkFault.Memory → self.new ≡ self.old }
         ensures bound { WritesAtMost result bytes.now }
         ensures some { IfOk result (λ n. n ≡ 0 → bytes.now ≡ []) }
         ensures ok { IfOk result (λ n. Appends (Some self.old.bytes) (Some self.new.bytes) (take n bytes.now)) }
@@ -211,12 +217,16 @@ impl Sink for MemSink {
         ensures memory { IsErrOf result SinkFault.Memory → Keeps (Some self.old.bytes) (Some self.new.bytes) }
         ensures cause { HasCause SinkFault.Failed self.old.faults self.new.faults result }
     {
-        if fails_now(self.fails.as_slice(), &mut self.calls) {
+        if is_listed(self.fails.as_slice(), self.calls) {
+            self.calls = self.calls.saturating_add(1);
             self.faults = self.faults.saturating_add(1);
             return Err(SinkFault::Failed);
         }
         match self.bytes.extend_from_slice(bytes) {
-            Ok(()) => Ok(bytes.len()),
+            Ok(()) => {
+                self.calls = self.calls.saturating_add(1);
+                Ok(bytes.len())
+            }
             Err(_) => Err(SinkFault::Memory),
         }
     }

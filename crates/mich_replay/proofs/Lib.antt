@@ -11,3 +11,5 @@ pub mod Texts
 pub mod Truth
 pub mod Verdicts
 pub mod Written
+pub mod Cut
+pub mod Fronts

@@ -1,6 +1,6 @@
 -- What is kept of the statements of a file.
-use Rattle.std.proofs.Common.{◌≡◌, ℕ, List, [], ◌∷◌, ◌++◌, length, Option, Some, None, refl, ap, ◌∙◌}
-use Rattle.rules_base.specs.Tree.{Tree}
+use Rattle.std.proofs.Common.{◌≡◌, ℕ, ◌+◌, ◌≤◌, List, [], ◌∷◌, ◌++◌, length, Option, Some, None, refl, ap, ◌∙◌, arith}
+use Rattle.rules_base.specs.Tree.{Tree, size}
 use Rattle.rules_text.specs.declared.TextKind.{TextKind}
 use Rattle.rules_replay.specs.Places.{Placed, IsNodeAt, IsEndAt, IsFaultAt}
 use Rattle.rules_replay.specs.Answers.{Answer}
@@ -8,7 +8,7 @@ use Rattle.rules_replay.specs.Codec.{IsCodecAnswer, of_text, of_statements, fitt
 use Rattle.mich_base.specs.View.{tree}
 use Rattle.mich_text.specs.declared.reader.Placed.{Placed as CodePlaced}
 use Rattle.mich_replay.specs.declared.statements.Listed.{Listed}
-use Rattle.mich_replay.specs.Listed.{second_place, placed_seen, Keeps, Passed, IsListed, beside, of_kept}
+use Rattle.mich_replay.specs.Listed.{second_place, placed_seen, Keeps, IsSmall, Passed, IsListed, beside, of_kept}
 use Rattle.mich_replay.proofs.Reaching.{statements-more}
 
 beside_rest : (command : Tree → Option Answer) (s : Placed) (ss : List Placed) → beside (command s.node) s.place (second_place (s ∷ ss)) ≡ fitting (command s.node) s.place ss
@@ -69,12 +69,13 @@ module _ (p : CodePlaced) where
   kept-more (s ∷ []) f at k = let e = k.second_is in absurd cc
   kept-more (s ∷ r ∷ rs) f at k = record { first_is = k.first_is; second_is = k.second_is }
 
-  module _ (file : List ℕ) (place : ℕ) (node : IsNodeAt file place (tree p.node) p.start p.end) where
+  module _ (file : List ℕ) (place : ℕ) (node : IsNodeAt file place (tree p.node) p.start p.end) (fits : size (tree p.node) + place ≤ p.end) where
     pub passed_first : (second : Option ℕ) → Passed file place None second → Passed file p.end (Some p) second
     passed_first second h = record {
       statements = h.statements ++ placed_seen p ∷ [];
       stand = statements-more file 0 place p.end h.statements (placed_seen p) h.stand node;
       kept = kept-first h.statements second h.kept;
+      small = omega (arith, fits);
     }
 
     pub passed_second : (f : CodePlaced) → Passed file place (Some f) None → Passed file p.end (Some f) (Some p.start)
@@ -82,6 +83,7 @@ module _ (p : CodePlaced) where
       statements = h.statements ++ placed_seen p ∷ [];
       stand = statements-more file 0 place p.end h.statements (placed_seen p) h.stand node;
       kept = kept-second h.statements f h.kept;
+      small = omega (arith, fits, h.small);
     }
 
     pub passed_more : (f : CodePlaced) (at : ℕ) → Passed file place (Some f) (Some at) → Passed file p.end (Some f) (Some at)
@@ -89,24 +91,31 @@ module _ (p : CodePlaced) where
       statements = h.statements ++ placed_seen p ∷ [];
       stand = statements-more file 0 place p.end h.statements (placed_seen p) h.stand node;
       kept = kept-more h.statements f at h.kept;
+      small = omega (arith, fits, h.small);
     }
 
 -- ---- the end
 
-pub listed-end : (file : List ℕ) (place : ℕ) (first : Option CodePlaced) (second : Option ℕ) → Passed file place first second → IsEndAt file place
+small_in : (n m : ℕ) (first : Option CodePlaced) → n ≤ m → IsSmall n first → IsSmall m first
+small_in n m None h s = tt
+small_in n m (Some p) h s = omega (arith, h, s)
+
+pub listed-end : (file : List ℕ) (place : ℕ) (first : Option CodePlaced) (second : Option ℕ) → place ≤ length file → Passed file place first second → IsEndAt file place
     → IsListed file (record { first = first; second = second; fault = None })
-listed-end file place first second h end = record {
+listed-end file place first second within h end = record {
   found = record { statements = h.statements; fault = None };
   listing = (place, h.stand, end);
   kept = h.kept;
+  small = small_in place (length file) first within h.small;
   fault_is = refl;
 }
 
-pub listed-fault : (file : List ℕ) (place : ℕ) (first : Option CodePlaced) (second : Option ℕ) (kind : TextKind) (at : ℕ) → Passed file place first second → IsFaultAt file place kind at
+pub listed-fault : (file : List ℕ) (place : ℕ) (first : Option CodePlaced) (second : Option ℕ) (kind : TextKind) (at : ℕ) → place ≤ length file → Passed file place first second → IsFaultAt file place kind at
     → IsListed file (record { first = first; second = second; fault = Some (kind, at) })
-listed-fault file place first second kind at h fault = record {
+listed-fault file place first second kind at within h fault = record {
   found = record { statements = h.statements; fault = Some (kind, at) };
   listing = (place, h.stand, fault);
   kept = h.kept;
+  small = small_in place (length file) first within h.small;
   fault_is = refl;
 }

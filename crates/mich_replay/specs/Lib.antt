@@ -11,3 +11,4 @@ pub mod Laws
 pub mod Listed
 pub mod Steps
 pub mod View
+pub mod Fronts

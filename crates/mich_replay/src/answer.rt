@@ -1,7 +1,9 @@
 // The answer to the words and to what is read.
-ghost use Rattle.std.specs.Prelude.{◌≡◌, ◌≤◌, ◌<◌, ℕ, List, length, drop, Contains, IfOk, IfSome, IsSome, IsErrOf, OnOk};
+ghost use Rattle.std.specs.Prelude.{◌≡◌, ◌≤◌, ◌<◌, ◌++◌, ℕ, List, length, drop, Contains, IfOk, IfSome, IsSome, IsErrOf, OnOk};
 ghost use Rattle.std.specs.Io.KnownBytes.{IsAtEnd};
 ghost use Rattle.rules_io.specs.Causes.{HasCause};
+ghost use Rattle.rules_text.specs.Fault.{file_limit};
+ghost use Rattle.mich_replay.specs.Fronts.{IsRest, read_limit};
 ghost use Rattle.rules_replay.specs.Answers.{done_with, refused_with, misplaced, usage_answer};
 ghost use Rattle.rules_replay.specs.Commands.{IsVerbAnswer, IsTold, IsAnswer, command_of, file_of, IsOwn};
 ghost use Rattle.mich_replay.specs.View.{verb_seen, answer_seen, IsDoneOrRefused};
@@ -58,6 +60,7 @@ fn usage(alloc: Global) -> Result<Answer, Memory>
 
 // The answer of a command to the bytes of its file.
 fn answer_file(alloc: Global, verb: Verb, file: &[u8]) -> Result<Answer, Memory>
+    requires { length file.now ≤ read_limit }
     ensures exact { IfOk result (λ a. IsVerbAnswer (verb_seen verb) file.now (answer_seen a)) }
     ensures status { IfOk result (λ a. IsDoneOrRefused a.status) }
 {
@@ -66,6 +69,17 @@ fn answer_file(alloc: Global, verb: Verb, file: &[u8]) -> Result<Answer, Memory>
         Verb::Encode => answer_codec(alloc, Codec::Encode, file),
         Verb::Decode => answer_codec(alloc, Codec::Decode, file),
     }
+}
+
+// The answer to a file of which so much was read.
+#[tactic(auto, using(crate::proofs::Cut::verb_done))]
+fn answer_read(alloc: Global, verb: Verb, read: &[u8]) -> Result<Answer, Memory>
+    requires { length read.now ≤ read_limit }
+    ensures exact { IfOk result (λ a. (more : List ℕ) → IsRest read.now more → IsVerbAnswer (verb_seen verb) (read.now ++ more) (answer_seen a)) }
+    ensures end { IfOk result (λ a. a.status ≡ 0 → length read.now ≤ file_limit) }
+    ensures status { IfOk result (λ a. IsDoneOrRefused a.status) }
+{
+    answer_file(alloc, verb, read)
 }
 
 /// The answer to the words. They are a command with a file, or none.
@@ -84,7 +98,7 @@ pub(crate) fn answer_words<F: Files>(
     let answer = match read_words(words.as_slice()) {
         Command::OnFile(verb, path) => {
             let file = read_file(alloc, files, path)?;
-            answer_file(alloc, verb, file.as_slice())
+            answer_read(alloc, verb, file.as_slice())
         }
         Command::NoCommand => usage(alloc),
     };

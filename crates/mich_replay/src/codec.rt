@@ -1,16 +1,18 @@
 // A file of one node that is encoded or decoded.
-ghost use Rattle.std.specs.Prelude.{◌≡◌, ◌<◌, ◌≤◌, ◌^◌, ℕ, List, length, Some, None, IfOk, option_map};
+ghost use Rattle.std.specs.Prelude.{◌≡◌, ◌<◌, ◌≤◌, ◌-◌, ◌^◌, ℕ, List, length, Some, None, IfOk, option_map};
 ghost use Rattle.mich_base.specs.View.{tree};
 ghost use Rattle.rules_binary.specs.Encoding as binary;
 ghost use Rattle.rules_binary.specs.Reading as reading;
 ghost use Rattle.rules_replay.specs.Codec.{encode_node, decode_node, encoding_answer, decoding_answer, of_text, IsCodecAnswer};
 ghost use Rattle.mich_replay.specs.View.{answer_seen, codec_seen};
-ghost use Rattle.mich_replay.specs.Listed.{of_kept};
+ghost use Rattle.rules_base.specs.Tree.{size};
+ghost use Rattle.mich_replay.specs.Fronts.{read_limit};
+ghost use Rattle.mich_replay.specs.Listed.{of_kept, IsSmall};
 
 use crate::answer::{Answer, done, misplaced, refused};
 use crate::lines::{as_text, bytes_line, decode_kind_name, node_line, text_kind_name};
 use crate::statements::{Listed, list_file};
-use mich_base::{Memory, Node, size_within};
+use mich_base::{Memory, Node};
 use mich_binary::{DecodeError, EncodeError, decode, encode};
 use std::alloc::Global;
 
@@ -22,11 +24,9 @@ pub enum Codec {
 }
 
 fn encoded(alloc: Global, node: &Node) -> Result<Answer, Memory>
+    requires { size (tree node.now) < 2 ^ 32 }
     ensures { IfOk result (λ a. answer_seen a ≡ encoding_answer (binary.encoded (tree node.now))) }
 {
-    if !size_within(node, u32::MAX) {
-        return Err(Memory);
-    }
     match encode(alloc, node) {
         Ok(bytes) => done(alloc, as_text(bytes_line(alloc, bytes.as_slice())?)),
         Err(EncodeError::NoCode(location)) => refused(alloc, "NoCode", u64::from(location)),
@@ -47,6 +47,7 @@ fn decoded(alloc: Global, bytes: &[u8]) -> Result<Answer, Memory>
 
 // The answer to a node, where it is the input of the command.
 fn node_answer(alloc: Global, codec: Codec, node: &Node) -> Result<Option<Answer>, Memory>
+    requires { size (tree node.now) < 2 ^ 32 }
     ensures { IfOk result (λ a. option_map answer_seen a ≡ codec_seen codec (tree node.now)) }
 {
     match codec {
@@ -60,6 +61,7 @@ fn node_answer(alloc: Global, codec: Codec, node: &Node) -> Result<Option<Answer
 
 // The answer to what a file of so many bytes lists.
 fn answer_listed(alloc: Global, codec: Codec, listed: &Listed, size: u64) -> Result<Answer, Memory>
+    requires { IsSmall (2 ^ 32 - 1) listed.now.first }
     ensures { IfOk result (λ a. answer_seen a ≡ of_text listed.now.fault (of_kept (codec_seen codec) size listed.now.first listed.now.second)) }
 {
     if let Some((kind, at)) = listed.fault {
@@ -80,6 +82,7 @@ fn answer_listed(alloc: Global, codec: Codec, listed: &Listed, size: u64) -> Res
 /// The answer to a file that is encoded or decoded.
 #[tactic(auto, using(crate::proofs::Listing::listed_answer))]
 pub(crate) fn answer_codec(alloc: Global, codec: Codec, file: &[u8]) -> Result<Answer, Memory>
+    requires { length file.now ≤ read_limit }
     ensures { IfOk result (λ a. IsCodecAnswer (codec_seen codec) file.now (answer_seen a)) }
 {
     let listed = list_file(alloc, file)?;

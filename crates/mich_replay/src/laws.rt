@@ -1,4 +1,11 @@
 // Laws of what a file comes to.
+ghost use Rattle.std.specs.Prelude.{◌≡◌, ◌<◌, ◌++◌, ℕ, List, length, Option};
+ghost use Rattle.rules_base.specs.Tree.{Tree};
+ghost use Rattle.rules_text.specs.Fault.{file_limit};
+ghost use Rattle.rules_replay.specs.Answers.{Answer};
+ghost use Rattle.rules_replay.specs.Codec.{IsCodecAnswer};
+ghost use Rattle.rules_replay.specs.Replay.{Replay, State, IsReplay};
+ghost use Rattle.rules_replay.specs.World.{World};
 ghost use Rattle.mich_replay.specs.Laws.{ConservesMutez, RefusalChangesNothing, FailureTakesFeeAlone};
 
 /// Mutez is neither made nor lost: at the end of a file, balances and fees are together what its accounts were granted.
@@ -10,4 +17,15 @@ pub fn mutez_is_conserved()
 pub fn groups_are_all_or_nothing()
     ensures refused { RefusalChangesNothing }
     ensures failed { FailureTakesFeeAlone }
+{}
+
+/// A file that is longer than a file may be is refused, and its answer doesn't depend on the bytes behind the first one too many: it
+/// may be cut there.
+pub fn long_files_are_decided_by_their_fronts()
+    ensures replay { (file more : List ℕ) (done : Replay) → file_limit < length file → IsReplay file done → IsReplay (file ++ more) done }
+    ensures refused { (file : List ℕ) (done : Replay) (w : World) → file_limit < length file → IsReplay file done → done.ending ≡ State w → ⊥ }
+    ensures codec { (command : Tree → Option Answer) (file more : List ℕ) (answer : Answer) → file_limit < length file
+        → IsCodecAnswer command file answer → IsCodecAnswer command (file ++ more) answer }
+    ensures status { (command : Tree → Option Answer) (file : List ℕ) (answer : Answer) → file_limit < length file
+        → IsCodecAnswer command file answer → answer.status ≡ 2 }
 {}

@@ -17,7 +17,9 @@ mod top;
 mod world;
 
 pub use honest::replay_bytes;
-pub use laws::{groups_are_all_or_nothing, mutez_is_conserved};
+pub use laws::{
+    groups_are_all_or_nothing, long_files_are_decided_by_their_fronts, mutez_is_conserved,
+};
 pub use top::mich;
 
 #[cfg(test)]

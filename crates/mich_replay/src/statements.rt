@@ -1,5 +1,6 @@
 // The statements of a file.
-ghost use Rattle.std.specs.Prelude.{◌≡◌, ◌<◌, ◌≤◌, ℕ, List, length, IfOk};
+ghost use Rattle.std.specs.Prelude.{◌≡◌, ◌<◌, ◌≤◌, ◌+◌, ℕ, List, length, IfOk};
+ghost use Rattle.rules_base.specs.Tree.{size};
 ghost use Rattle.rules_replay.specs.Places.{IsNodeAt};
 ghost use Rattle.mich_base.specs.View.{tree};
 ghost use Rattle.mich_replay.specs.Listed.{IsListed, IsNext, Passed};
@@ -45,7 +46,7 @@ pub struct Listed {
 #[tactic(auto, using(crate::proofs::Listing::passed_first, crate::proofs::Listing::passed_second, crate::proofs::Listing::passed_more))]
 fn keep(first: &mut Option<Placed>, second: &mut Option<u64>, placed: Placed)
     ensures { (file : List ℕ) (place : ℕ) → IsNodeAt file place (tree placed.node) placed.start placed.end
-        → Passed file place first.old second.old → Passed file placed.end first.new second.new }
+        → size (tree placed.node) + place ≤ placed.end → Passed file place first.old second.old → Passed file placed.end first.new second.new }
 {
     match first {
         None => *first = Some(placed),

@@ -7,7 +7,7 @@ use Rattle.std.specs.Ordering.{ordering_then}
 use Rattle.std.proofs.lemmas.Map.Lookups.{exact_signed, exact_bytes}
 use Rattle.rules_values.specs.Order.{truth_order}
 use Rattle.mich_term.specs.Laws.{OrderIsLawful, EqualOrderMeansEqual}
-use Rattle.mich_term.specs.Lawful.{order_lawful}
+use Rattle.laws_values.proofs.Lawful.{order_lawful}
 
 pub lawful : OrderIsLawful
 lawful = order_lawful

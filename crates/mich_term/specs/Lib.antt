@@ -1,5 +1,5 @@
+pub mod IdentityOrder
 pub mod Keyed
-pub mod Lawful
 pub mod Laws
 pub mod TicketView
 pub mod ValueView

@@ -4,10 +4,12 @@
 //! a set as the list of its elements in order, and a map as the list of its entries by key.
 #![tactic(auto)]
 
+mod comparing;
 mod convert;
 mod datum;
 mod discarding;
 mod elements;
+mod identities;
 mod laws;
 pub mod maps;
 mod same;
@@ -16,6 +18,7 @@ mod ticket;
 mod value;
 mod weighing;
 
+pub use comparing::compare_values;
 pub use datum::{Datum, compare, copy_datum};
 pub use discarding::discard;
 pub use elements::Elements;

@@ -16,6 +16,7 @@ pub mod Printing
 pub mod Canon
 pub mod Again
 pub mod Signs
+pub mod Sizes
 pub mod Unique
 pub mod Good
 pub mod Depths

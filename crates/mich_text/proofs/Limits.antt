@@ -14,7 +14,11 @@ use Rattle.rules_text.specs.Text.{IsLimit, IsStatementLimit, IsFileLimit, EndsAt
 use Rattle.mich_text.specs.Plain as plain
 use Rattle.mich_text.specs.Shown.{Counts, IsOpenBytes}
 use Rattle.mich_text.specs.Limited.{IsOnly, IsUpTo}
-use Rattle.mich_text.specs.Results.{EndsClosed, IsRead, IsWithinText, IsLimitedRead}
+use Rattle.mich_text.specs.Results.{EndsClosed, IsRead, IsWithinText, IsLimitedRead, IsText}
+use Rattle.mich_text.specs.Parts.{IsPart}
+use Rattle.mich_text.specs.declared.reader.Placed.{Placed}
+use Rattle.mich_text.specs.declared.fault.TextError.{TextError}
+use Rattle.mich_text.specs.declared.fault.TextError.TheVariants as texts
 use Rattle.mich_text.specs.declared.plain.Found.{Found}
 use Rattle.mich_text.specs.declared.fault.LexError.{LexError}
 use Rattle.mich_text.specs.declared.fault.LexError.TheVariants as errors
@@ -267,8 +271,20 @@ read_within before text n h (Ok (Some found)) p = let w = stands_within text (tr
 read_within before text n h (Err errors.Memory) p = tt
 read_within before text n h (Err (errors.Flaw f)) p = omega (arith, fault_within before text f.kind f.left p.holds, h)
 
-pub limited_within : (before : ℕ) (bytes : List ℕ) (r : Result (Option Found) LexError) → IsLimitedRead before (drop before bytes) r → IsWithinText (length bytes) r
-limited_within before bytes r p = read_within before (drop before bytes) (length bytes) (omega (arith, length-drop before bytes)) r p
+pub limited_within : (before : ℕ) (text : List ℕ) (r : Result (Option Found) LexError) → IsLimitedRead before text r → IsWithinText (length text) r
+limited_within before text r p = read_within before text (length text) (omega arith) r p
+
+-- the rest of a file from a place on
+pub part_is_text : (bytes : List ℕ) (place : ℕ) (r : Result (Option Placed) TextError) → place ≤ length bytes → IsPart place (drop place bytes) r → IsText bytes place r
+part_is_text bytes place r h p = by r p where
+  size : place + length (drop place bytes) ≡ length bytes
+  size = omega (arith, length-drop place bytes, h)
+
+  by : (r : Result (Option Placed) TextError) → IsPart place (drop place bytes) r → IsText bytes place r
+  by (Ok None) p = p
+  by (Ok (Some placed)) (start, end, n, s, e) = (start, end, n, omega (arith, s, size), omega (arith, e, size))
+  by (Err texts.Memory) p = tt
+  by (Err (texts.Fault kind at)) (left, f, e) = (left, f, omega (arith, e, size))
 
 -- the bytes from a place on, as a slice
 pub rest_all : (n : ℕ) (xs : List ℕ) → take (length xs - n) (drop n xs) ≡ drop n xs

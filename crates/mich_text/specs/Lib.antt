@@ -9,3 +9,4 @@ pub mod Results
 pub mod Canonical
 pub mod Shown
 pub mod Limited
+pub mod Parts

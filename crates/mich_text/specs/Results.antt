@@ -1,5 +1,6 @@
 -- What the reader's functions return.
 use Rattle.std.specs.Prelude.{◌≡◌, ℕ, ◌+◌, ◌≤◌, ◌<◌, List, [], length, drop, Bool, true, false, nat_eq, Option, Some, None, Result, Ok, Err, if◌then◌else◌}
+use Rattle.rules_base.specs.Tree.{size}
 use Rattle.rules_text.specs.Token.{Token}
 use Rattle.mich_text.specs.Machine.{Stack, Refusal, unexpected, too_deep, finish, has_statement, ready_for, refused, put, step}
 use Rattle.rules_text.specs.Lexical.{token_at, first_shape}
@@ -88,3 +89,9 @@ IsText b p (Ok None) = within.IsEnd p (drop p b)
 IsText b p (Ok (Some placed)) = (start : ℕ) × (end : ℕ) × within.IsNode p (drop p b) (tree placed.node) start end × (placed.start + start ≡ length b) × (placed.end + end ≡ length b)
 IsText b p (Err texts.Memory) = Unit {0}
 IsText b p (Err (texts.Fault kind place)) = (left : ℕ) × within.IsFault p (drop p b) kind left × (place + left ≡ length b)
+
+-- a statement has at most as many nodes as bytes, and so a byte or more
+abbrev pub IsWithinBytes : Result (Option Placed) TextError → Type 0
+IsWithinBytes (Ok (Some placed)) = size (tree placed.node) + placed.start ≤ placed.end
+IsWithinBytes (Ok None) = Unit {0}
+IsWithinBytes (Err e) = Unit {0}

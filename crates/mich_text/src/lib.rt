@@ -14,7 +14,7 @@ mod token;
 pub use fault::TextError;
 pub use laws::{a_line_is_read_again, one_reading};
 pub use line::print;
-pub use reader::{Placed, read_statement};
+pub use reader::{Placed, read_part, read_statement};
 pub use rules_text::TextKind;
 
 // How many bytes a name may have, and an annotation behind its sign.

@@ -5,7 +5,8 @@ ghost use Rattle.rules_text.specs.declared.TextKind.{TextKind};
 ghost use Rattle.mich_text.specs.Plain.{IsFault};
 ghost use Rattle.mich_text.specs.Shown.{IsOpenBytes};
 ghost use Rattle.mich_text.specs.Limited.{IsOnly};
-ghost use Rattle.mich_text.specs.Results.{IsRead, IsWithinText, IsLimitedRead, FrontTells, IsText};
+ghost use Rattle.mich_text.specs.Results.{IsRead, IsWithinText, IsLimitedRead, FrontTells, IsText, IsWithinBytes};
+ghost use Rattle.mich_text.specs.Parts.{IsPart};
 
 use super::fault::{Flaw, LexError, TextError};
 use super::lexical::{after_gap, hex_len};
@@ -35,14 +36,13 @@ fn statement_limit(text: &[u8]) -> usize
     }
 }
 
-/// The same of the file, from a place on.
-fn file_limit(bytes: &[u8], place: usize) -> usize
-    requires { place ≤ length bytes.now }
-    ensures only { IsOnly (IsFileLimit place (drop place bytes.now)) result }
-    ensures within { result + place ≤ length bytes.now }
+/// The same of the file, of which so many bytes stand before the text.
+fn file_limit(text: &[u8], before: usize) -> usize
+    ensures only { IsOnly (IsFileLimit before text.now) result }
+    ensures within { result ≤ length text.now }
 {
-    if place <= FILE_LIMIT {
-        bytes.len().saturating_sub(FILE_LIMIT)
+    if before <= FILE_LIMIT {
+        text.len().saturating_sub(FILE_LIMIT - before)
     } else {
         0
     }
@@ -151,13 +151,11 @@ pub(crate) fn statement_up_to(
     }
 }
 
-/// The statement that begins at a place of a file.
-fn statement_in(alloc: Global, bytes: &[u8], place: usize) -> Result<Option<Found>, LexError>
-    requires { place ≤ length bytes.now }
-    ensures { IsLimitedRead place (drop place bytes.now) result }
+/// The statement at the front of a text, before which so many bytes of its file stand.
+fn statement_in(alloc: Global, text: &[u8], before: usize) -> Result<Option<Found>, LexError>
+    ensures { IsLimitedRead before text.now result }
 {
-    let text = &bytes[place..];
-    let file = file_limit(bytes, place);
+    let file = file_limit(text, before);
     let left = statement_limit(text).max(file);
     if left == 0 {
         statement_at(alloc, text)
@@ -166,48 +164,66 @@ fn statement_in(alloc: Global, bytes: &[u8], place: usize) -> Result<Option<Foun
     }
 }
 
-/// The same, with its places in the file.
+/// The same, with its places in the text.
 fn statement_within_file(
     alloc: Global,
-    bytes: &[u8],
-    place: usize,
+    text: &[u8],
+    before: usize,
 ) -> Result<Option<Found>, LexError>
-    requires { place ≤ length bytes.now }
-    ensures read { IsLimitedRead place (drop place bytes.now) result }
-    ensures within { IsWithinText (length bytes.now) result }
+    ensures read { IsLimitedRead before text.now result }
+    ensures within { IsWithinText (length text.now) result }
 {
-    statement_in(alloc, bytes, place)
+    statement_in(alloc, text, before)
 }
 
-// The places of a statement, from the bytes that are left there.
-fn with_places(bytes: &[u8], found: Found) -> Placed
-    requires start { found.start ≤ length bytes.now }
-    requires end { found.end ≤ length bytes.now }
-    ensures start { result.start + found.start ≡ length bytes.now }
-    ensures end { result.end + found.end ≡ length bytes.now }
+// The places of a statement, from the bytes that are left there in a file of this size.
+fn with_places(size: u64, found: Found) -> Placed
+    requires start { found.start ≤ size }
+    requires end { found.end ≤ size }
+    ensures start { result.start + found.start ≡ size }
+    ensures end { result.end + found.end ≡ size }
     ensures node { result.node ≡ found.node }
 {
     Placed {
-        start: (bytes.len() - found.start) as u64,
-        end: (bytes.len() - found.end) as u64,
+        start: size - found.start as u64,
+        end: size - found.end as u64,
         node: found.node,
     }
 }
 
+// The statement at the front of a text, before which so many bytes of its file stand.
+fn part(alloc: Global, text: &[u8], before: u64) -> Result<Option<Placed>, TextError>
+    requires { before + length text.now < 2 ^ 64 }
+    ensures { IsPart before text.now result }
+{
+    let size = before + text.len() as u64;
+    match statement_within_file(alloc, text, before as usize) {
+        Ok(None) => Ok(None),
+        Ok(Some(found)) => Ok(Some(with_places(size, found))),
+        Err(LexError::Memory) => Err(TextError::Memory),
+        Err(LexError::Flaw(flaw)) => Err(TextError::Fault(flaw.kind, size - flaw.left as u64)),
+    }
+}
+
+/// Reads the statement at the front of a text, before which so many bytes of its file stand, as `read_statement` does. Places are
+/// counted from the file's beginning.
+#[tactic(auto, using(crate::proofs::Sizes::part_fits))]
+pub fn read_part(alloc: Global, text: &[u8], before: u64) -> Result<Option<Placed>, TextError>
+    requires { before + length text.now < 2 ^ 64 }
+    ensures text { IsPart before text.now result }
+    ensures nodes { IsWithinBytes result }
+{
+    part(alloc, text, before)
+}
+
 /// Reads the statement that begins at a place, or none where only white space and comments follow it. The fault of the
 /// text with its place, or Memory, where no statement is there (Octez "Micheline"). A statement has at most 16,777,216
-/// bytes up to its `;`, and a file 1,073,741,824; the first byte past a limit is TooLong.
+/// bytes up to its `;`, and a file 1,073,741,824; the first byte past a limit is TooLong. It has at most as many nodes as bytes.
+#[tactic(auto, using(crate::proofs::Limits::part_is_text))]
 pub fn read_statement(alloc: Global, bytes: &[u8], place: u64) -> Result<Option<Placed>, TextError>
     requires { place ≤ length bytes.now }
-    ensures { IsText bytes.now place result }
+    ensures text { IsText bytes.now place result }
+    ensures nodes { IsWithinBytes result }
 {
-    match statement_within_file(alloc, bytes, place as usize) {
-        Ok(None) => Ok(None),
-        Ok(Some(found)) => Ok(Some(with_places(bytes, found))),
-        Err(LexError::Memory) => Err(TextError::Memory),
-        Err(LexError::Flaw(flaw)) => Err(TextError::Fault(
-            flaw.kind,
-            (bytes.len() - flaw.left) as u64,
-        )),
-    }
+    read_part(alloc, &bytes[place as usize..], place)
 }

@@ -30,8 +30,8 @@ fn nonempty(name: &[u8]) -> Option<&[u8]>
     if name.is_empty() { None } else { Some(name) }
 }
 
-// The name that the first field annotation gives. None where there is none, or an empty one.
-pub(crate) fn field_name(annots: &Texts) -> Option<&[u8]>
+/// The name that the first field annotation gives. None where there is none, or an empty one. Takes no memory.
+pub fn field_name(annots: &Texts) -> Option<&[u8]>
     ensures { option_map (λ s. s.now) result ≡ field_name annots.now }
 {
     for annot in annots.as_slice() {

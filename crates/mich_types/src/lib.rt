@@ -11,12 +11,12 @@ mod printing;
 mod reading;
 mod scan;
 
-pub use annotations::behind;
+pub use annotations::{behind, field_name};
 pub use attributes::{big_value, comparable, duplicable, packable, passable, pushable, storable};
 pub use error::TypeError;
 pub use parameter::{Entry, Parameter, entrypoint, read_parameter};
 pub use printing::{application, bare, over_one, over_two, type_node};
-pub use reading::read_type;
+pub use reading::{read_type, type_at};
 
 #[cfg(test)]
 mod tests;

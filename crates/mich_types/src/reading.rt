@@ -21,9 +21,9 @@ pub fn read_type(alloc: Global, node: &Node) -> Result<Ty, TypeError>
     type_at(alloc, node, 0)
 }
 
-// The type that the node at a location spells.
+/// The type that the node at a location spells, from which its locations are counted.
 #[tactic(auto, using(crate::proofs::Scans::fault_is, crate::proofs::Scans::large_is, crate::proofs::Scans::type_is))]
-pub(crate) fn type_at(alloc: Global, node: &Node, at: u32) -> Result<Ty, TypeError>
+pub fn type_at(alloc: Global, node: &Node, at: u32) -> Result<Ty, TypeError>
     requires { at + size (tree node.now) < 2 ^ 32 }
     ensures { IsReading (type_at at (tree node.now)) result }
 {

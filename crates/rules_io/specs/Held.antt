@@ -75,9 +75,5 @@ write_fails held = is_listed held.fails held.calls
 abbrev pub write_failed : HeldSink → HeldSink
 write_failed held = record held { calls = one_more held.calls; faults = one_more held.faults }
 
--- a call that found no memory
-abbrev pub write_refused : HeldSink → HeldSink
-write_refused held = record held { calls = one_more held.calls }
-
 abbrev pub written_to : HeldSink → List ℕ → HeldSink
 written_to held piece = record held { bytes = held.bytes ++ piece; calls = one_more held.calls }

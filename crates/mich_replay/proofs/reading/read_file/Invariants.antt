@@ -1,4 +1,4 @@
-use Rattle.std.proofs.Common.{◌≤◌, ◌-◌, ◌^◌, length}
+use Rattle.std.proofs.Common.{◌≤◌, ◌+◌, ◌-◌, ◌^◌, length}
 use Rattle.std.specs.Io.KnownBytes.{Consumes}
 use Rattle.mich_replay.proofs.reading.read_file.Given as goal
 
@@ -8,6 +8,7 @@ invariant-read g l =
     record {
       later : files.faults l.fn.files ≤ files.faults l.files;
       bytes : Consumes (files.content l.fn.files l.path) (files.left l.files) l.bytes.items;
+      short : length l.bytes.items ≤ 1073741824 + 65536;
     }
 
 abbrev pub decreases-read : goal.decreases-read

@@ -30,7 +30,7 @@ statements-preserved-in-None-3 c =
     let node = subst (IsNext c.args.file.now c.statements.place) c.in-Statement.is c.in_ok-placed.ensures in
     let taken = subst (λ (f : Option FileFault). IsTaken (step_by c.statements.world (form (tree placed.node))) c.statements.lines c.take.new.world c.take.new.lines (Ok f)) c.in-None.is c.in_ok-fault-in-Statement.ensures.taken in
     record {
-      within = node.2;
+      within = node.3;
       count = omega (arith, c.in_ok-fault-in-Statement.ensures.count, c.statements.invariant.count, node.1);
       reached = reached-more c.args.file.now c.statements.place c.statements.world c.statements.lines c.statements.invariant.reached (tree placed.node) placed.start placed.end c.take.new.world c.take.new.lines node.0 taken;
     }

@@ -8,6 +8,6 @@ use Rattle.mich_replay.proofs.statements.read_next.Goals as goal
 pub returns-in-Ok-Some : goal.returns-in-Ok-Some
 returns-in-Ok-Some c =
     let placed = c.in-Ok-Some.placed in
-    let node = subst (λ (o : Option Placed). IsText c.args.file.now c.args.place (Ok o)) c.in-Ok-Some.field-0-is c.in-Ok-Some.ensures in
+    let node = subst (λ (o : Option Placed). IsText c.args.file.now c.args.place (Ok o)) c.in-Ok-Some.field-0-is c.in-Ok-Some.ensures.text in
     let within = further c.args.file.now c.args.place (tree placed.node) placed.start placed.end c.requires node in
-    (node, within.0, within.1)
+    (node, within.0, within.1, within.2)

@@ -1,0 +1,13 @@
+pub mod Amounts
+pub mod ComparedLiterals
+pub mod Entries
+pub mod Environments
+pub mod Holdings
+pub mod Identities
+pub mod KindTexts
+pub mod Literals
+pub mod More
+pub mod Mutez
+pub mod ReadKinds
+pub mod ReadLiterals
+pub mod ReadParts

@@ -1,0 +1,35 @@
+// Laws of the binary form of nodes, over the definitions alone (Octez "data encoding", narrowed to one
+// spelling for each node). Each function makes no call; its contract is the law.
+#![tactic(auto)]
+
+ghost use Rattle.laws_binary.specs.Laws.{FieldsAreSpelt, IntegersAreSpelt, DecodedIsSpelt, SpellingIsDecoded, OneSpelling, NoPrefix};
+
+/// A field that is read stands in the bytes as its spelling: its length and its content.
+pub fn fields_are_spelt()
+    ensures { FieldsAreSpelt }
+{}
+
+/// An integer that is read stands in the bytes as its one spelling.
+pub fn integers_are_spelt()
+    ensures { IntegersAreSpelt }
+{}
+
+/// Bytes that are decoded as a node are that node's spelling.
+pub fn decoded_is_spelt()
+    ensures { DecodedIsSpelt }
+{}
+
+/// The spelling of a node that was decoded is decoded as that node.
+pub fn spelling_is_decoded()
+    ensures { SpellingIsDecoded }
+{}
+
+/// No two lists of bytes are decoded as one node.
+pub fn one_spelling()
+    ensures { OneSpelling }
+{}
+
+/// No spelling is a proper prefix of another, where fields are shorter than 2^32 bytes.
+pub fn no_spelling_is_a_prefix()
+    ensures { NoPrefix }
+{}

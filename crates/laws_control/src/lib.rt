@@ -1,0 +1,2 @@
+//! Lemmas on instructions with bodies: code that is typed leaves what its typing says.
+#![tactic(auto)]

@@ -1,0 +1,5 @@
+pub mod Near
+pub mod NearForms
+pub mod Levels
+pub mod Origins
+pub mod OriginForms

@@ -1,0 +1,7 @@
+pub mod Applied
+pub mod Applies
+pub mod Claims
+pub mod Clean
+pub mod Forms
+pub mod Lambdas
+pub mod Pushes

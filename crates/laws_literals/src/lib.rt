@@ -1,0 +1,2 @@
+//! Lemmas on literals, on lambdas, and on what APPLY makes of them.
+#![tactic(auto)]

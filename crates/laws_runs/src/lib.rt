@@ -1,0 +1,2 @@
+//! Lemmas on runs of contracts in good worlds.
+#![tactic(auto)]

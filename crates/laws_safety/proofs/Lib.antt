@@ -1,0 +1,9 @@
+pub mod StackRows
+pub mod PairRows
+pub mod OperationRows
+pub mod Rows
+pub mod Law
+pub mod Creates
+pub mod Selves
+pub mod Small
+pub mod Views

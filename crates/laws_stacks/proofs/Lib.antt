@@ -1,0 +1,10 @@
+pub mod Addresses
+pub mod Amounts
+pub mod Grow
+pub mod Identities
+pub mod Kept
+pub mod Nothing
+pub mod Paid
+pub mod Parts
+pub mod Places
+pub mod Wells

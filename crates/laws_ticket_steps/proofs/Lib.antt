@@ -1,0 +1,9 @@
+pub mod CollectionSteps
+pub mod MapSteps
+pub mod NumberKinds
+pub mod NumberSteps
+pub mod PairSteps
+pub mod StackSteps
+pub mod Straights
+pub mod TextSteps
+pub mod TicketSteps

@@ -1,0 +1,74 @@
+-- Typed code keeps tickets, from the totals that evaluation keeps.
+use Rattle.std.proofs.Common.{◌≡◌, ℕ, suc, ◌+◌, ◌<◌, List, [], ◌∷◌, length, refl, sym, ap, ◌∙◌, subst, arith}
+use Rattle.std.specs.Prelude.{ℤ, pos, ◌+ℤ◌, ◌-ℤ◌}
+use Rattle.std.specs.List.{All, slice_index_or}
+use Rattle.std.proofs.Math.IntN.{+ℤ_idr}
+use Rattle.std.proofs.lemmas.Int.{ints}
+use Rattle.rules_base.specs.Tree.{Tree}
+use Rattle.rules_types.specs.Kind.{Kind}
+use Rattle.rules_values.specs.Val.{Val}
+use Rattle.rules_values.specs.Tickets.{Identity}
+use Rattle.rules_typing.specs.Typing.{Typing, goes, fails, bad}
+use Rattle.rules_typing.specs.Nodes.{tree_type}
+use Rattle.rules_typing.specs.Scripts.{Outline}
+use Rattle.rules_typing.specs.Fits.{Known, AllFit}
+use Rattle.rules_steps.specs.Changes.{amount_among, amount_in, minted_in, burnt_in}
+use Rattle.rules_evaluation.specs.Surroundings.{Contract, Surroundings}
+use Rattle.rules_evaluation.specs.Operations.{Issued, Tally, operation_tickets}
+use Rattle.rules_evaluation.specs.Outcome.{Outcome, stack, failed, stuck}
+use Rattle.rules_evaluation.specs.Evaluation.{eval}
+use Rattle.laws_types.specs.Laws.{IsWellFormed}
+use Rattle.laws_evaluation.specs.Laws.{IsType, IsGoodContract, IsGood, known, Stands, IsBalanced, AreBalanced, LinearTickets}
+use Rattle.laws_evaluation.specs.Laws as here
+use Rattle.laws_agreement.specs.Agreement.{Agrees, AllAgree, SeesAgreement}
+use Rattle.laws_tickets.specs.Laws.{KeepsTotal}
+use Rattle.laws_agreement.specs.Totals as ticket
+use Rattle.laws_agreement.proofs.Amounts.{on_cons}
+use Rattle.laws_agreement.proofs.Returned.{issued_cons}
+use Rattle.laws_agreement.proofs.Nothing.{fitting_agrees}
+use Rattle.laws_agreement.proofs.Scripts.{script_is, outline_typed}
+use Rattle.laws_tickets.proofs.Nodes.{totals}
+
+all_tail : (P : Kind → Type 0) (a : Kind) (A : List Kind) → All P (a ∷ A) → All P A
+all_tail P a A h = λ k d lt. h (suc k) d (omega arith)
+
+stack_agrees : (w : Known) (A : List Kind) (V : List Val) → All IsType A → AllFit w A V → AllAgree A V
+stack_agrees w [] [] h f = tt
+stack_agrees w (a ∷ A) (x ∷ V) h f = (fitting_agrees w a x (h 0 a (omega arith)).0 f.0, stack_agrees w A V (all_tail IsType a A h) f.1)
+stack_agrees w [] (x ∷ V) h f = absurd f
+stack_agrees w (a ∷ A) [] h f = absurd f
+
+sees : (e : Surroundings) → IsGood e → SeesAgreement e
+sees e g hash c o at out =
+    let k = g.contracts hash c at in
+    let p = script_is c.script k.reading k.is_script in
+    let same : p.types ≡ o = cc in
+    let storage : k.reading.storage ≡ o.storage = p.storage ∙ ap (λ (z : Outline). z.storage) same in
+    subst (λ a. Agrees a c.storage) storage
+    (fitting_agrees (known e.contract_at []) k.reading.storage c.storage (subst IsWellFormed (sym p.storage) (outline_typed c.script p.types p.outlined).storage) k.fits)
+
+on_same : (id : Identity) (V : List Val) → ticket.amount_on id V ≡ here.amount_on id V
+on_same id [] = refl
+on_same id (x ∷ V) = on_cons id x V ∙ ap (λ z. amount_in id x +ℤ z) (on_same id V)
+
+issued_same : (id : Identity) (is : List Issued) → ticket.amount_issued id is ≡ here.amount_issued id is
+issued_same id [] = refl
+issued_same id (i ∷ is) = issued_cons id i is ∙ ap (λ z. amount_among id (operation_tickets i.operation) +ℤ z) (issued_same id is)
+
+balance_sum : (w n bn mn v m bm mm w' n' v' m' : ℤ) → w +ℤ (n +ℤ bn -ℤ mn) ≡ v +ℤ (m +ℤ bm -ℤ mm) → w ≡ w' → n ≡ n' → v ≡ v' → m ≡ m' → w' +ℤ n' +ℤ bn +ℤ mm ≡ v' +ℤ m' +ℤ bm +ℤ mn
+balance_sum w n bn mn v m bm mm w' n' v' m' e f g h i = omega (arith, ints)
+
+balanced : (V : List Val) (m : Tally) (t : Typing) (o : Outcome) → KeepsTotal V m o → AreBalanced V m t o
+balanced V m (goes B) (stack C W n) h = λ id.
+    balance_sum (ticket.amount_on id W) (ticket.amount_issued id n.issued) (burnt_in id n.changes) (minted_in id n.changes)
+    (ticket.amount_on id V) (ticket.amount_issued id m.issued) (burnt_in id m.changes) (minted_in id m.changes)
+    (here.amount_on id W) (here.amount_issued id n.issued) (here.amount_on id V) (here.amount_issued id m.issued)
+    (h.2 id) (on_same id W) (issued_same id n.issued) (on_same id V) (issued_same id m.issued)
+balanced V m fails o h = tt
+balanced V m (bad l) o h = tt
+balanced V m (goes B) (failed f) h = tt
+balanced V m (goes B) stuck h = tt
+
+pub linear_tickets : LinearTickets
+linear_tickets t e d A V m small s =
+    balanced V m (tree_type t e.context A) (eval t e d A V m) (totals t e d A V m (sees e s.good) (stack_agrees (known e.contract_at m.issued) A V s.types s.fit))

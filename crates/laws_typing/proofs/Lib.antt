@@ -1,0 +1,4 @@
+pub mod Places
+pub mod Pushed
+pub mod Sizes
+pub mod Fit

@@ -1,0 +1,16 @@
+pub mod Bases
+pub mod Extended
+pub mod Formed
+pub mod Kept
+pub mod Laws
+pub mod Marked
+pub mod Notes
+pub mod Places
+pub mod Puts
+pub mod Settled
+pub mod Settling
+pub mod Layers
+pub mod Stacked
+pub mod Standing
+pub mod Stored
+pub mod Ticketless

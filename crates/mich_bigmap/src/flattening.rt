@@ -1,0 +1,115 @@
+// All entries of a base with changes over it, as one list.
+ghost use Rattle.std.specs.Prelude.{◌≡◌, IfOk, OnOk, option_map};
+ghost use Rattle.std.specs.Map.{keys_of};
+ghost use Rattle.rules_values.specs.Val.{no_pair};
+ghost use Rattle.rules_bigmap.specs.Changes.{changed, written};
+ghost use Rattle.mich_term.specs.Keyed.{IsIncreasing};
+ghost use Rattle.mich_term.specs.View.{datum};
+ghost use Rattle.mich_term.specs.ValueView.{pairs, put_pairs, val};
+ghost use Rattle.mich_bigmap.specs.Bases.{entries_in, seen};
+ghost use Rattle.mich_bigmap.specs.Puts.{puts_for};
+ghost use Rattle.mich_bigmap.specs.Stacked.{AreLayers, bases_of};
+
+use crate::layers::{Layer, below};
+use crate::overlay::Change;
+use mich_base::{Memory, Rows};
+use mich_term::{Datum, Table, Value, copy_datum, maps, shadow};
+use std::alloc::Global;
+
+// Equal changes. Memory where there is no room for them.
+fn copy_changes(alloc: Global, changes: &Rows<Change>) -> Result<Rows<Change>, Memory>
+    ensures { IfOk result (λ cs. cs ≡ changes.now) }
+{
+    let mut copies = Rows::new(alloc);
+    for (key, change) in changes.as_slice() {
+        let new_key = copy_datum(alloc, key)?;
+        let new_change = match change {
+            Some(value) => Some(shadow(alloc, value)?),
+            None => None,
+        };
+        copies.push((new_key, new_change))?;
+    }
+    Ok(copies)
+}
+
+// Writes a change over entries. Memory where there is no room for it.
+fn write(entries: &mut Table<Value>, key: Datum, change: Option<Value>) -> Result<(), Memory>
+    ensures { OnOk result (pairs entries.new ≡ written (datum key) (option_map val change) (pairs entries.old)) }
+{
+    match change {
+        Some(value) => {
+            let old = maps::put(entries, key, value)?;
+            drop(old);
+            Ok(())
+        }
+        None => {
+            let old = maps::take(entries, &key);
+            drop(old);
+            drop(key);
+            Ok(())
+        }
+    }
+}
+
+// Writes changes over entries. Memory where there is no room for them.
+#[tactic(auto, using(crate::proofs::Putting::written_last))]
+pub(crate) fn apply(entries: &mut Table<Value>, changes: Rows<Change>) -> Result<(), Memory>
+    ensures { OnOk result (pairs entries.new ≡ changed (seen changes) (pairs entries.old)) }
+{
+    let mut left = changes;
+    'apply: while let Some((key, change)) = left.pop() {
+        write(entries, key, change)?;
+    }
+    Ok(())
+}
+
+// Copies of all entries of a base. Memory where there is no room for them.
+pub(crate) fn collect(
+    alloc: Global,
+    layers: &[Layer],
+    base: Option<u64>,
+) -> Result<Table<Value>, Memory>
+    requires { AreLayers layers.now }
+    ensures { IfOk result (λ es. pairs es ≡ entries_in (bases_of layers.now) base) }
+{
+    let Some(number) = base else {
+        return Ok(Table::new(alloc));
+    };
+    let Some((layer, rest)) = below(layers, number) else {
+        return Ok(Table::new(alloc));
+    };
+    let mut entries = collect(alloc, rest, layer.over)?;
+    let changes = copy_changes(alloc, &layer.changes)?;
+    apply(&mut entries, changes)?;
+    Ok(entries)
+}
+
+// The changes that put these entries. Memory where there is no room for them.
+pub(crate) fn puts_of(alloc: Global, entries: Table<Value>) -> Result<Rows<Change>, Memory>
+    ensures changes { IfOk result (λ cs. cs ≡ puts_for entries) }
+    ensures increasing { IsIncreasing (keys_of entries) }
+{
+    let _count = entries.len();
+    let mut changes = Rows::new(alloc);
+    for (key, value) in entries.into_entries() {
+        changes.push((key, Some(value)))?;
+    }
+    Ok(changes)
+}
+
+// A base and the changes over it as changes over nothing. Memory where there is no room for them.
+pub(crate) fn flattened(
+    alloc: Global,
+    layers: &[Layer],
+    base: Option<u64>,
+    changes: Rows<Change>,
+) -> Result<Rows<Change>, Memory>
+    requires { AreLayers layers.now }
+    ensures entries { IfOk result (λ cs. changed (seen cs) no_pair ≡ changed (seen changes) (entries_in (bases_of layers.now) base)) }
+    ensures increasing { IfOk result (λ cs. IsIncreasing (keys_of cs)) }
+    ensures puts { IfOk result (λ cs. put_pairs cs ≡ changed (seen changes) (entries_in (bases_of layers.now) base)) }
+{
+    let mut entries = collect(alloc, layers, base)?;
+    apply(&mut entries, changes)?;
+    puts_of(alloc, entries)
+}

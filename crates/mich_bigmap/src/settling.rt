@@ -1,0 +1,96 @@
+// Big maps whose entries are all put into the store.
+ghost use Rattle.std.specs.Prelude.{◌≡◌, true, false, [], Some, IfOk};
+ghost use Rattle.std.specs.Map.{keys_of};
+ghost use Rattle.rules_bigmap.specs.Changes.{changed};
+ghost use Rattle.mich_undo.specs.History.{Keeps};
+ghost use Rattle.mich_term.specs.Keyed.{IsIncreasing};
+ghost use Rattle.mich_term.specs.declared.value.BigMap.{out-BigMap};
+ghost use Rattle.mich_bigmap.specs.Bases.{big_in, entries_in, seen};
+ghost use Rattle.mich_bigmap.specs.Extended.{Extends};
+ghost use Rattle.mich_bigmap.specs.Formed.{IsFormed, HasBase, is_there};
+ghost use Rattle.mich_bigmap.specs.Settled.{IsSettled};
+ghost use Rattle.mich_bigmap.specs.Ticketless.{HoldNoTickets};
+ghost use Rattle.rules_values.specs.Tickets.{pair_tickets};
+ghost use Rattle.mich_term.specs.ValueView.{put_pairs};
+
+use crate::flattening::flattened;
+use crate::layers::is_deep;
+use crate::overlay::Change;
+use crate::store::Store;
+use mich_base::{Memory, Rows};
+use mich_term::BigMap;
+use std::alloc::Global;
+
+// How many bases may be read for the entries of one.
+const DEEPEST: u32 = 16;
+
+// Puts changes into the store as a base over another; where that would be the seventeenth, as one list of all entries.
+#[tactic(auto, using(mich_undo::proofs::Histories::keeps_same, crate::proofs::Extending::extends_same))]
+fn lay(
+    alloc: Global,
+    store: &mut Store,
+    over: Option<u64>,
+    changes: Rows<Change>,
+) -> Result<u64, Memory>
+    requires { IsIncreasing (keys_of changes) }
+    ensures same { IfOk result (λ k. entries_in store.new.bases.present (Some k) ≡ changed (seen changes) (entries_in store.old.bases.present over)) }
+    ensures there { IfOk result (λ k. is_there store.new.bases.present (Some k) ≡ true) }
+    ensures others { Extends store.old.bases.present store.new.bases.present }
+    ensures keeps { Keeps store.old.bases store.new.bases }
+    ensures ticketless { HoldNoTickets store.old.bases.present → pair_tickets (put_pairs changes) ≡ [] → HoldNoTickets store.new.bases.present }
+    ensures noted { store.new.noted ≡ store.old.noted }
+{
+    if is_deep(store.layers(), over, DEEPEST) {
+        let all = flattened(alloc, store.layers(), over, changes)?;
+        store.extend(None, all)
+    } else {
+        store.extend(over, changes)
+    }
+}
+
+/// A big map of the same entries. Where it shares, they are all kept in the store: it has a base and an empty overlay. After Memory
+/// the store is given up with its world (Octez "big_map").
+#[tactic(auto, using(mich_undo::proofs::Histories::keeps_same, crate::proofs::Extending::extends_same))]
+pub fn settle(alloc: Global, store: &mut Store, m: BigMap) -> Result<BigMap, Memory>
+    requires { IsFormed m }
+    ensures same { IfOk result (λ n. big_in store.new.bases.present n ≡ big_in store.old.bases.present m) }
+    ensures settled { IfOk result (λ n. IsSettled n) }
+    ensures formed { IfOk result (λ n. IsFormed n) }
+    ensures shares { IfOk result (λ n. (out-BigMap n).shares ≡ (out-BigMap m).shares) }
+    ensures alone { (out-BigMap m).shares ≡ false → IfOk result (λ n. n ≡ m) }
+    ensures there { HasBase store.old.bases.present m → IfOk result (λ n. HasBase store.new.bases.present n) }
+    ensures others { Extends store.old.bases.present store.new.bases.present }
+    ensures keeps { Keeps store.old.bases store.new.bases }
+    ensures ticketless { HoldNoTickets store.old.bases.present → ((out-BigMap m).shares ≡ true → pair_tickets (put_pairs (out-BigMap m).overlay) ≡ []) → HoldNoTickets store.new.bases.present }
+    ensures noted { store.new.noted ≡ store.old.noted }
+{
+    if !m.shares {
+        return Ok(m);
+    }
+    if m.overlay.is_empty() && m.base.is_some() {
+        return Ok(m);
+    }
+    settle_shared(alloc, store, m)
+}
+
+// The same of a big map that shares and whose overlay is put into the store.
+fn settle_shared(alloc: Global, store: &mut Store, m: BigMap) -> Result<BigMap, Memory>
+    requires formed { IsFormed m }
+    requires shares { (out-BigMap m).shares ≡ true }
+    ensures same { IfOk result (λ n. big_in store.new.bases.present n ≡ big_in store.old.bases.present m) }
+    ensures settled { IfOk result (λ n. IsSettled n) }
+    ensures formed { IfOk result (λ n. IsFormed n) }
+    ensures shares { IfOk result (λ n. (out-BigMap n).shares ≡ true) }
+    ensures there { IfOk result (λ n. HasBase store.new.bases.present n) }
+    ensures others { Extends store.old.bases.present store.new.bases.present }
+    ensures keeps { Keeps store.old.bases store.new.bases }
+    ensures ticketless { HoldNoTickets store.old.bases.present → pair_tickets (put_pairs (out-BigMap m).overlay) ≡ [] → HoldNoTickets store.new.bases.present }
+    ensures noted { store.new.noted ≡ store.old.noted }
+{
+    let number = lay(alloc, store, m.base, m.overlay)?;
+    Ok(BigMap {
+        shares: true,
+        base: Some(number),
+        overlay: Rows::new(alloc),
+    })
+}

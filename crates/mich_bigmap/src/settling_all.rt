@@ -1,0 +1,104 @@
+// Values whose big maps are all settled.
+ghost use Rattle.std.specs.Prelude.{◌≡◌, IfOk};
+ghost use Rattle.std.specs.List.{AllByRecursion};
+ghost use Rattle.mich_term.specs.declared.value.Value.TheFolds.{every-BigMap};
+ghost use Rattle.mich_bigmap.specs.Layers.{AreFormed, HasBases, AnyLayer, FormedLayer, BasedLayer};
+ghost use Rattle.mich_bigmap.specs.Settling.{Settles, SettlesAll, SettlesEntries, SettlesBig, Lays};
+
+use crate::settling::settle;
+use crate::store::Store;
+use mich_base::{Link, Memory, Rows};
+use mich_term::{BigMap, Table, Value};
+use std::alloc::Global;
+
+/// A value that stands for the same, where all big maps are settled: each that shares has a base and an empty overlay. After Memory
+/// the store is given up with its world (Octez "big_map").
+#[cycle(settle_all)]
+pub fn settle_all(alloc: Global, store: &mut Store, value: Value) -> Result<Value, Memory>
+    requires formed { AreFormed value }
+    requires based { HasBases store.old.bases.present value }
+    ensures settles { IfOk result (λ v. Settles store.old.bases.present store.new.bases.present value v) }
+    ensures lays { Lays store.old store.new }
+{
+    match value {
+        Value::Some(x) => Ok(Value::Some(settle_link(alloc, store, x)?)),
+        Value::Left(x) => Ok(Value::Left(settle_link(alloc, store, x)?)),
+        Value::Right(x) => Ok(Value::Right(settle_link(alloc, store, x)?)),
+        Value::Pair(x, y) => {
+            let first = settle_link(alloc, store, x)?;
+            let second = settle_link(alloc, store, y)?;
+            Ok(Value::Pair(first, second))
+        }
+        Value::List(xs) => Ok(Value::List(settle_list(alloc, store, xs)?)),
+        Value::Map(entries) => Ok(Value::Map(settle_table(alloc, store, entries)?)),
+        Value::BigMap(big) => Ok(Value::BigMap(settle_big(alloc, store, big)?)),
+        Value::Unit => Ok(Value::Unit),
+        Value::Bool(b) => Ok(Value::Bool(b)),
+        Value::Number(_) => Ok(value),
+        Value::Text(text) => Ok(Value::Text(text)),
+        Value::Bytes(bytes) => Ok(Value::Bytes(bytes)),
+        Value::None => Ok(Value::None),
+        Value::Set(elements) => Ok(Value::Set(elements)),
+        Value::Lambda(body, recursive) => Ok(Value::Lambda(body, recursive)),
+        Value::Operation(number) => Ok(Value::Operation(number)),
+        Value::Ticket(ticket) => Ok(Value::Ticket(ticket)),
+    }
+}
+
+#[cycle(settle_all)]
+fn settle_link(alloc: Global, store: &mut Store, value: Link<Value>) -> Result<Link<Value>, Memory>
+    requires formed { AreFormed value }
+    requires based { HasBases store.old.bases.present value }
+    ensures settles { IfOk result (λ v. Settles store.old.bases.present store.new.bases.present value v) }
+    ensures lays { Lays store.old store.new }
+{
+    let settled = settle_all(alloc, store, value.into_value())?;
+    Link::new(alloc, settled)
+}
+
+#[cycle(settle_all)]
+fn settle_list(alloc: Global, store: &mut Store, values: Rows<Value>) -> Result<Rows<Value>, Memory>
+    requires formed { AllByRecursion AreFormed values }
+    requires based { AllByRecursion (HasBases store.old.bases.present) values }
+    ensures settles { IfOk result (λ vs. SettlesAll store.old.bases.present store.new.bases.present values vs) }
+    ensures lays { Lays store.old store.new }
+{
+    let mut copies = Rows::new(alloc);
+    for value in values.into_vec() {
+        copies.push(settle_all(alloc, store, value)?)?;
+    }
+    Ok(copies)
+}
+
+#[cycle(settle_all)]
+fn settle_table(
+    alloc: Global,
+    store: &mut Store,
+    table: Table<Value>,
+) -> Result<Table<Value>, Memory>
+    requires formed { AllByRecursion (λ e. AreFormed e.1) table }
+    requires based { AllByRecursion (λ e. HasBases store.old.bases.present e.1) table }
+    ensures settles { IfOk result (λ t. SettlesEntries store.old.bases.present store.new.bases.present table t) }
+    ensures lays { Lays store.old store.new }
+{
+    let _count = table.len();
+    let mut copies = Table::new(alloc);
+    for (key, value) in table.into_entries() {
+        let settled = settle_all(alloc, store, value)?;
+        let old = copies.insert(key, settled)?;
+        drop(old);
+    }
+    Ok(copies)
+}
+
+// A big map that is settled.
+#[tactic(auto, using(crate::proofs::Settled::formed_is, crate::proofs::Settled::settles_of, crate::proofs::Settled::ticketless_is, crate::proofs::Settled::lays_same))]
+fn settle_big(alloc: Global, store: &mut Store, big: Link<BigMap>) -> Result<Link<BigMap>, Memory>
+    requires formed { every-BigMap AnyLayer FormedLayer big }
+    requires based { every-BigMap AnyLayer (BasedLayer store.old.bases.present) big }
+    ensures settles { IfOk result (λ b. SettlesBig store.old.bases.present store.new.bases.present big b) }
+    ensures lays { Lays store.old store.new }
+{
+    let settled = settle(alloc, store, big.into_value())?;
+    Link::new(alloc, settled)
+}

@@ -1,0 +1,221 @@
+-- EXEC and APPLY, FAILWITH and NEVER.
+use Rattle.std.proofs.Common.{◌≡◌, ◌<◌, ◌≤◌, ℕ, Bool, true, false, List, [], ◌∷◌, ◌++◌, Some, None, refl, sym, ap, ◌∙◌, arith}
+use Rattle.std.specs.Prelude.{nat_le}
+use Rattle.rules_base.specs.Tree.{Tree, seq, Trees}
+use Rattle.rules_gas.specs.declared.Kind.TheVariants as g
+use Rattle.rules_types.specs.Kind.{Kind}
+use Rattle.rules_types.specs.Kind as k
+use Rattle.rules_instructions.specs.Context.{Context}
+use Rattle.rules_instructions.specs.Context as place
+use Rattle.rules_values.specs.Val.{Val, Vals, no_val, more_vals}
+use Rattle.rules_values.specs.Val as v
+use Rattle.rules_steps.specs.Failure as f
+use Rattle.rules_evaluation.specs.Operations.{Tally}
+use Rattle.rules_evaluation.specs.Outcome.{Outcome, stack, failed, Go, after, only_if}
+use Rattle.std.specs.Prelude.{is_none, if◌then◌else◌}
+use Rattle.rules_typing.specs.Typing.{Typing, goes, fails, bad}
+use Rattle.rules_typing.specs.Bodies.{body_fault}
+use Rattle.rules_typing.specs.Literals.{lambda_fault}
+use Rattle.rules_typing.specs.Nodes.{tree_type}
+use Rattle.rules_typing.specs.Fits.{Leads}
+use Rattle.rules_evaluation.specs.Evaluation.{eval_task}
+use Rattle.mich_instr.specs.Code.{Code, Codes}
+use Rattle.mich_instr.specs.Code as made
+use Rattle.mich_frames.specs.Around.{Around, at, less, Pays, Lacks}
+use Rattle.mich_frames.specs.Pending.{Pending, depth_of, block_run, resume}
+use Rattle.mich_frames.specs.Pending as p
+use Rattle.mich_frames.specs.Frames.{Frame, Rests}
+use Rattle.mich_frames.specs.Frames as fr
+use Rattle.mich_frames.specs.Stands.{Runs, StandsAt, MeetsAt, OpensAt}
+use Rattle.mich_frames.proofs.Paying.{after_after, when_paid, when_broke}
+use Rattle.mich_frames.proofs.Made.{stands_of, opens_of, form_is, Case, meets_by}
+use Rattle.std.proofs.lemmas.Bool.{le-leb, leb-true}
+use Rattle.rules_base.specs.Tree.{size}
+use Rattle.rules_base.specs.Tree.{depth as levels}
+use Rattle.rules_types.specs.Attributes.{pushable}
+use Rattle.rules_instructions.specs.Same.{same_kind, same_kinds}
+use Rattle.rules_instructions.specs.Control.{call_kinds}
+use Rattle.rules_values.specs.Weight.{weight}
+use Rattle.rules_evaluation.specs.Outcome.{charge}
+use Rattle.rules_evaluation.specs.Branches.{paid}
+use Rattle.rules_evaluation.specs.Calls.{call_values, applied, applied_size, applied_depth, shallow_enough, small_enough, within_bounds}
+use Rattle.rules_evaluation.specs.Evaluation.{node}
+use Rattle.laws_evaluation.proofs.Levels.{eval_is}
+use Rattle.laws_types.proofs.SameKinds.{same_kind_refl, same_kinds_true}
+use Rattle.mich_instr.specs.Typed.{AreCode, is_exec, is_apply, is_failwith, is_never}
+use Rattle.mich_frames.specs.Shapes.{HasTop, HasCall}
+use Rattle.mich_frames.proofs.Shapes.{has_top, has_call, has_capture, holds}
+
+-- ---- EXEC
+
+module _ (u : Around) (m : Tally) (o : Outcome) (c : Context) (ps : List Pending) (a r : Kind) (A : List Kind) (x : Val) (ts : Trees) (recursive : Bool) (W : List Val) where
+  -- the result, above the stack below the call
+  abbrev on_result : Go
+  on_result C X m = only_if (same_kinds C (r ∷ [])) (stack (r ∷ A) (X ++ W) m)
+
+  abbrev called : Tally → Outcome
+  called m = after (eval_task (node (seq ts)) (at u place.lambda) (depth_of ps) (call_kinds a r recursive) (call_values x ts recursive) m) on_result
+
+  abbrev is_typed : Bool
+  is_typed = is_none (lambda_fault a r recursive (seq ts))
+
+  -- the body is one of the lambda's type
+  exec_is : Runs u o → after (only_if (same_kind a a) (only_if is_typed (paid (at u c) g.Exec m called))) (resume ps (at u c)) ≡ o →
+      (is_typed ≡ true) × (after (paid (at u c) g.Exec m called) (resume ps (at u c)) ≡ o)
+  exec_is runs same =
+      let one : after (only_if is_typed (paid (at u c) g.Exec m called)) (resume ps (at u c)) ≡ o =
+      ap (λ q. after (only_if q (only_if is_typed (paid (at u c) g.Exec m called))) (resume ps (at u c))) (sym (same_kind_refl a)) ∙ same in
+      let typed = holds (resume ps (at u c)) o runs.sound is_typed (paid (at u c) g.Exec m called) one in
+      (typed, sym (ap (λ q. after (only_if q (paid (at u c) g.Exec m called)) (resume ps (at u c))) typed) ∙ one)
+
+no_fault : (x : Typing) (r : Kind) → is_none (body_fault 0 x r) ≡ true → Leads x (r ∷ [])
+no_fault (goes B) r h = by (same_kinds B (r ∷ [])) refl h
+  where
+    by : (b : Bool) → same_kinds B (r ∷ []) ≡ b → is_none {T = ℕ} (if b then None else Some 0) ≡ true → B ≡ r ∷ []
+    by true e h = same_kinds_true B (r ∷ []) e
+    by false e h = absurd cc
+no_fault fails r h = tt
+no_fault (bad l) r h = absurd cc
+
+module _ {fs : List Frame} {u : Around} {m : Tally} {d : ℕ} {Z : List Kind} {o : Outcome} where
+  pub exec_top : {a r : Kind} {V : List Val} → MeetsAt (made.exec a r) fs u V m d Z o → HasCall V
+  exec_top {a = a} {r = r} {V = V} h = meets_by h by
+    where
+      by : Case (made.exec a r) fs u V m d Z o (HasCall V)
+      by ps c _ _ _ (is_exec {A = A} form) rests depth same = has_call (resume ps (at u c)) o h.runs.sound a r A V _ (ap (λ p. after p (resume ps (at u c))) (sym (form_is _ _ _ _ _ _ _ V m form)) ∙ same)
+
+  pub exec_opens : {a r : Kind} {is : Codes} (x : Val) (ts : Trees) (recursive : Bool) (W : List Val) → Pays u g.Exec 0 m → AreCode place.lambda ts is (call_kinds a r recursive) (r ∷ []) →
+      MeetsAt (made.exec a r) fs u (x ∷ v.lambda (seq ts) recursive ∷ W) m d Z o → OpensAt is (fr.call W ∷ fs) u (call_values x ts recursive) (less u g.Exec 0 m) d Z o
+  exec_opens {a = a} {r = r} {is = is} x ts recursive W pays fine h = meets_by h by
+    where
+      by : Case (made.exec a r) fs u (x ∷ v.lambda (seq ts) recursive ∷ W) m d Z o (OpensAt is (fr.call W ∷ fs) u (call_values x ts recursive) (less u g.Exec 0 m) d Z o)
+      by ps c _ _ _ (is_exec {A = A} form) rests depth same =
+          let K : List Kind = call_kinds a r recursive in
+          let X : List Val = call_values x ts recursive in
+          let n : Tally = less u g.Exec 0 m in
+          opens_of h.runs (p.call (at u c) r A W ∷ ps) place.lambda ts K (r ∷ []) fine (fr.rests_call rests) depth
+          (sym (after_after (block_run ts (at u place.lambda) (depth_of ps) K X n) (on_result u m o c ps a r A x ts recursive W) (resume ps (at u c)))
+          ∙ ap (λ y. after (after y (on_result u m o c ps a r A x ts recursive W)) (resume ps (at u c))) (sym (eval_is (node (seq ts)) (at u place.lambda) h.runs.charged (depth_of ps) K X n))
+          ∙ when_paid u g.Exec 0 m (called u m o c ps a r A x ts recursive W) o _ (resume ps (at u c)) refl pays (exec_is u m o c ps a r A x ts recursive W h.runs (ap (λ p. after p (resume ps (at u c))) (sym (form_is _ _ _ _ _ _ _ _ m form)) ∙ same)).1)
+
+  pub exec_leads : {a r : Kind} (x : Val) (ts : Trees) (recursive : Bool) (W : List Val) → MeetsAt (made.exec a r) fs u (x ∷ v.lambda (seq ts) recursive ∷ W) m d Z o →
+      Leads (tree_type (seq ts) place.lambda (call_kinds a r recursive)) (r ∷ [])
+  exec_leads {a = a} {r = r} x ts recursive W h = meets_by h by
+    where
+      by : Case (made.exec a r) fs u (x ∷ v.lambda (seq ts) recursive ∷ W) m d Z o (Leads (tree_type (seq ts) place.lambda (call_kinds a r recursive)) (r ∷ []))
+      by ps c _ _ _ (is_exec {A = A} form) rests depth same =
+          no_fault (tree_type (seq ts) place.lambda (call_kinds a r recursive)) r (exec_is u m o c ps a r A x ts recursive W h.runs (ap (λ p. after p (resume ps (at u c))) (sym (form_is _ _ _ _ _ _ _ _ m form)) ∙ same)).0
+
+  pub exec_broke : {a r : Kind} (x : Val) (ts : Trees) (recursive : Bool) (W : List Val) → Lacks u g.Exec 0 m → MeetsAt (made.exec a r) fs u (x ∷ v.lambda (seq ts) recursive ∷ W) m d Z o → o ≡ failed f.out_of_gas
+  exec_broke {a = a} {r = r} x ts recursive W lacks h = meets_by h by
+    where
+      by : Case (made.exec a r) fs u (x ∷ v.lambda (seq ts) recursive ∷ W) m d Z o (o ≡ failed f.out_of_gas)
+      by ps c _ _ _ (is_exec {A = A} form) rests depth same =
+          when_broke u g.Exec 0 m (called u m o c ps a r A x ts recursive W) o _ (resume ps (at u c)) refl lacks (exec_is u m o c ps a r A x ts recursive W h.runs (ap (λ p. after p (resume ps (at u c))) (sym (form_is _ _ _ _ _ _ _ _ m form)) ∙ same)).1
+
+-- ---- APPLY
+
+module _ (o : Outcome) (l : Go) (t : Tree) (go : Tree → Outcome) where
+  within_is : size t ≤ applied_size → levels t ≤ applied_depth → after (within_bounds t go) l ≡ o → after (go t) l ≡ o
+  within_is h i same =
+      sym (ap (λ b. after (small_enough b t go) l) (le-leb (size t) applied_size h) ∙ ap (λ b. after (shallow_enough b t go) l) (le-leb (levels t) applied_depth i)) ∙ same
+
+  too_many_is : applied_size < size t → after (within_bounds t go) l ≡ o → o ≡ failed f.size_limit
+  too_many_is h same = by (nat_le (size t) applied_size) refl
+    where
+      by : (b : Bool) → nat_le (size t) applied_size ≡ b → o ≡ failed f.size_limit
+      by false e = sym same ∙ ap (λ b. after (small_enough b t go) l) e
+      by true e = let n = leb-true (size t) applied_size e in absurd (omega (arith, h, n))
+
+  too_deep_is : size t ≤ applied_size → applied_depth < levels t → after (within_bounds t go) l ≡ o → o ≡ failed f.depth_limit
+  too_deep_is i h same = by (nat_le (levels t) applied_depth) refl
+    where
+      by : (b : Bool) → nat_le (levels t) applied_depth ≡ b → o ≡ failed f.depth_limit
+      by false e = sym same ∙ (ap (λ b. after (small_enough b t go) l) (le-leb (size t) applied_size i) ∙ ap (λ b. after (shallow_enough b t go) l) e)
+      by true e = let n = leb-true (levels t) applied_depth e in absurd (omega (arith, h, n))
+
+module _ (u : Around) (m : Tally) (o : Outcome) (runs : Runs u o) (c : Context) (ps : List Pending) (a b r : Kind) (A : List Kind) (x : Val) (ts : Trees) (recursive : Bool) (W : List Val) where
+  abbrev captured : Tally → Outcome
+  captured m = within_bounds (applied a b r x (seq ts) recursive) (λ body. stack (k.lambda b r ∷ A) (v.lambda body false ∷ W) m)
+
+  apply_is : after (only_if (same_kind a a) (only_if (pushable a) (charge u.prices g.Apply (weight x) m captured))) (resume ps (at u c)) ≡ o →
+      after (charge u.prices g.Apply (weight x) m captured) (resume ps (at u c)) ≡ o
+  apply_is same =
+      let go : Outcome = charge u.prices g.Apply (weight x) m captured in
+      let one : after (only_if (pushable a) go) (resume ps (at u c)) ≡ o = ap (λ q. after (only_if q (only_if (pushable a) go)) (resume ps (at u c))) (sym (same_kind_refl a)) ∙ same in
+      sym (ap (λ q. after (only_if q go) (resume ps (at u c))) (holds (resume ps (at u c)) o runs.sound (pushable a) go one)) ∙ one
+
+fail_is : (u : Around) (m : Tally) (o : Outcome) (a : Kind) (A : List Kind) (x : Val) (c : Context) (ps : List Pending) → Runs u o →
+    after (only_if (pushable a) (paid (at u c) g.Failwith m (λ m. failed (f.failed_with a x)))) (resume ps (at u c)) ≡ o →
+    after (paid (at u c) g.Failwith m (λ m. failed (f.failed_with a x))) (resume ps (at u c)) ≡ o
+fail_is u m o a A x c ps runs same =
+    sym (ap (λ q. after (only_if q (paid (at u c) g.Failwith m (λ m. failed (f.failed_with a x)))) (resume ps (at u c))) (holds (resume ps (at u c)) o runs.sound (pushable a) _ same)) ∙ same
+
+-- what follows from an APPLY that comes first, on an argument and a lambda
+abbrev Applied : List Frame → Around → Tally → ℕ → List Kind → Outcome → Kind → Kind → Kind → Val → Trees → Bool → List Val → Type 0 → Type 0
+Applied fs u m d Z o a b r x ts recursive W P = (c : Context) (ps : List Pending) (A : List Kind) → Rests fs ps u c (k.lambda b r ∷ A) Z → d ≡ depth_of ps →
+    after (charge u.prices g.Apply (weight x) m (λ m. within_bounds (applied a b r x (seq ts) recursive) (λ body. stack (k.lambda b r ∷ A) (v.lambda body false ∷ W) m))) (resume ps (at u c)) ≡ o → P
+
+module _ {fs : List Frame} {u : Around} {m : Tally} {d : ℕ} {Z : List Kind} {o : Outcome} where
+  pub apply_top : {a b r : Kind} {V : List Val} → MeetsAt (made.apply a b r) fs u V m d Z o → HasCall V
+  apply_top {a = a} {b = b} {r = r} {V = V} h = meets_by h by
+    where
+      by : Case (made.apply a b r) fs u V m d Z o (HasCall V)
+      by ps c _ _ _ (is_apply {A = A} form) rests depth same = has_capture (resume ps (at u c)) o h.runs.sound a b r A V _ (ap (λ p. after p (resume ps (at u c))) (sym (form_is _ _ _ _ _ _ _ V m form)) ∙ same)
+
+  module _ {a b r : Kind} (x : Val) (ts : Trees) (recursive : Bool) (W : List Val) (h : MeetsAt (made.apply a b r) fs u (x ∷ v.lambda (seq ts) recursive ∷ W) m d Z o) where
+    apply_by : {P : Type 0} → Applied fs u m d Z o a b r x ts recursive W P → P
+    apply_by {P = P} go = meets_by h by
+      where
+        by : Case (made.apply a b r) fs u (x ∷ v.lambda (seq ts) recursive ∷ W) m d Z o P
+        by ps c _ _ _ (is_apply {A = A} form) rests depth same = go c ps A rests depth (apply_is u m o h.runs c ps a b r A x ts recursive W (ap (λ p. after p (resume ps (at u c))) (sym (form_is _ _ _ _ _ _ _ _ m form)) ∙ same))
+
+    pub apply_acts : Pays u g.Apply (weight x) m → size (applied a b r x (seq ts) recursive) ≤ applied_size → levels (applied a b r x (seq ts) recursive) ≤ applied_depth →
+        StandsAt fs u (v.lambda (applied a b r x (seq ts) recursive) false ∷ W) (less u g.Apply (weight x) m) d Z o
+    apply_acts pays i j = apply_by (λ c ps A rests depth same.
+        stands_of h.runs ps c (k.lambda b r ∷ A) rests depth
+        (within_is o (resume ps (at u c)) _ (λ body. stack (k.lambda b r ∷ A) (v.lambda body false ∷ W) (less u g.Apply (weight x) m)) i j
+        (when_paid u g.Apply (weight x) m (captured u m o h.runs c ps a b r A x ts recursive W) o _ (resume ps (at u c)) refl pays same)))
+
+    pub apply_large : Pays u g.Apply (weight x) m → applied_size < size (applied a b r x (seq ts) recursive) → o ≡ failed f.size_limit
+    apply_large pays i = apply_by (λ c ps A rests depth same.
+        too_many_is o (resume ps (at u c)) _ (λ body. stack (k.lambda b r ∷ A) (v.lambda body false ∷ W) (less u g.Apply (weight x) m)) i
+        (when_paid u g.Apply (weight x) m (captured u m o h.runs c ps a b r A x ts recursive W) o _ (resume ps (at u c)) refl pays same))
+
+    pub apply_deep : Pays u g.Apply (weight x) m → size (applied a b r x (seq ts) recursive) ≤ applied_size → applied_depth < levels (applied a b r x (seq ts) recursive) → o ≡ failed f.depth_limit
+    apply_deep pays i j = apply_by (λ c ps A rests depth same.
+        too_deep_is o (resume ps (at u c)) _ (λ body. stack (k.lambda b r ∷ A) (v.lambda body false ∷ W) (less u g.Apply (weight x) m)) i j
+        (when_paid u g.Apply (weight x) m (captured u m o h.runs c ps a b r A x ts recursive W) o _ (resume ps (at u c)) refl pays same))
+
+    pub apply_broke : Lacks u g.Apply (weight x) m → o ≡ failed f.out_of_gas
+    apply_broke lacks = apply_by (λ c ps A rests depth same.
+        when_broke u g.Apply (weight x) m (captured u m o h.runs c ps a b r A x ts recursive W) o _ (resume ps (at u c)) refl lacks same)
+
+  -- ---- FAILWITH and NEVER
+
+  pub fail_top : {a : Kind} {V : List Val} → MeetsAt (made.failwith a) fs u V m d Z o → HasTop V
+  fail_top {a = a} {V = V} h = meets_by h by
+    where
+      by : Case (made.failwith a) fs u V m d Z o (HasTop V)
+      by ps c _ _ _ (is_failwith {A = A} form) rests depth same = has_top (resume ps (at u c)) o h.runs.sound (a ∷ A) V _ (ap (λ p. after p (resume ps (at u c))) (sym (form_is _ _ _ _ _ _ _ V m form)) ∙ same)
+
+  pub fail_acts : {a : Kind} (x : Val) {W : List Val} → Pays u g.Failwith 0 m → MeetsAt (made.failwith a) fs u (x ∷ W) m d Z o → o ≡ failed (f.failed_with a x)
+  fail_acts {a = a} x {W = W} pays h = meets_by h by
+    where
+      by : Case (made.failwith a) fs u (x ∷ W) m d Z o (o ≡ failed (f.failed_with a x))
+      by ps c _ _ _ (is_failwith {A = A} form) rests depth same =
+          sym (when_paid u g.Failwith 0 m (λ m. failed (f.failed_with a x)) o _ (resume ps (at u c)) refl pays (fail_is u m o a A x c ps h.runs (ap (λ p. after p (resume ps (at u c))) (sym (form_is _ _ _ _ _ _ _ _ m form)) ∙ same)))
+
+  pub fail_broke : {a : Kind} (x : Val) {W : List Val} → Lacks u g.Failwith 0 m → MeetsAt (made.failwith a) fs u (x ∷ W) m d Z o → o ≡ failed f.out_of_gas
+  fail_broke {a = a} x {W = W} lacks h = meets_by h by
+    where
+      by : Case (made.failwith a) fs u (x ∷ W) m d Z o (o ≡ failed f.out_of_gas)
+      by ps c _ _ _ (is_failwith {A = A} form) rests depth same =
+          when_broke u g.Failwith 0 m (λ m. failed (f.failed_with a x)) o _ (resume ps (at u c)) refl lacks (fail_is u m o a A x c ps h.runs (ap (λ p. after p (resume ps (at u c))) (sym (form_is _ _ _ _ _ _ _ _ m form)) ∙ same))
+
+  -- no value has the type of its operand, so that no run comes to it
+  pub never_meets : {V : List Val} → MeetsAt made.never fs u V m d Z o → ⊥
+  never_meets {V = V} h = meets_by h by
+    where
+      by : Case made.never fs u V m d Z o ⊥
+      by ps c _ _ _ (is_never form) rests depth same = h.runs.sound (sym (ap (λ p. after p (resume ps (at u c))) (sym (form_is _ _ _ _ _ _ _ V m form)) ∙ same))

@@ -1,0 +1,8 @@
+pub mod Bases
+pub mod Standing
+pub mod Items
+pub mod Parts
+pub mod View
+pub mod Ends
+pub mod Runs
+pub mod Begins

@@ -1,0 +1,4 @@
+pub mod View
+pub mod Changes
+pub mod Ops
+pub mod Steps

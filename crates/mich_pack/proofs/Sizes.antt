@@ -1,0 +1,66 @@
+-- A node whose names have codes, and whose binary form is short, is encoded.
+use Rattle.std.proofs.Common.{◌≡◌, ℕ, ◌+◌, ◌<◌, ◌≤◌, ◌^◌, List, Bool, true, false, cond, length, None, Ok, Err, refl, sym, ap, ◌∙◌, arith, nat_lt, nat_eq}
+use Rattle.std.specs.List.{position}
+use Rattle.std.proofs.lemmas.Bool.Decides.{nat_tests}
+use Rattle.rules_base.specs.Tree.{Tree, int, str, bytes, prim, seq, Trees, none, more, size, sizes, preorder, preorders}
+use Rattle.rules_binary.specs.Spelling.{joined, count, spelling}
+use Rattle.rules_binary.specs.Encoding.{Refusal, lacks_code, encoded_limit, encoded_by, encoded}
+use Rattle.rules_values.specs.Literals.{byte_limit}
+use Rattle.mich_binary.specs.Scanning.{scanned}
+use Rattle.mich_binary.proofs.Scans.{onward, scan_append, none_found}
+use Rattle.mich_pack.specs.Lengths.{node_length, nodes_length}
+use Rattle.laws_packing.specs.Names.{HasCodes, HaveCodes}
+use Rattle.mich_pack.proofs.Lengths.{node_length_is}
+
+own_by : (few bare : Bool) → 1 ≤ cond few (cond bare 2 6) 10
+own_by true true = omega arith
+own_by true false = omega arith
+own_by false bare = omega arith
+
+mutual
+  within : (t : Tree) → size t ≤ node_length t
+  within (int n) = omega arith
+  within (str s) = omega arith
+  within (bytes b) = omega arith
+  within (prim name annots args) = omega (arith, all_within args, own_by (nat_lt (count args) 3) (nat_eq (length (joined annots)) 0))
+  within (seq ts) = omega (arith, all_within ts)
+
+  all_within : (ts : Trees) → sizes ts ≤ nodes_length ts
+  all_within none = omega arith
+  all_within (more t ts) = omega (arith, within t, all_within ts)
+
+-- a node has no more nodes than its binary form has bytes
+pub size_within : (t : Tree) → size t ≤ length (spelling t)
+size_within t = omega (arith, within t, node_length_is t)
+
+pub node_is_small : (t : Tree) → length (spelling t) + 1 ≤ byte_limit → size t < 2 ^ 32
+node_is_small t short = omega (arith, size_within t, short)
+
+mutual
+  scan_node : (t : Tree) → HasCodes t → (at : ℕ) → scanned at (preorder t) ≡ Ok (at + size t)
+  scan_node (int n) h at = refl
+  scan_node (str s) h at = refl
+  scan_node (bytes b) h at = refl
+  scan_node (prim name annots args) h at = rw h.0 (scan_nodes args h.1 (at + 1) ∙ ap Ok (omega arith))
+  scan_node (seq ts) h at = scan_nodes ts h (at + 1) ∙ ap Ok (omega arith)
+
+  scan_nodes : (ts : Trees) → HaveCodes ts → (at : ℕ) → scanned at (preorders ts) ≡ Ok (at + sizes ts)
+  scan_nodes none h at = ap Ok (omega arith)
+  scan_nodes (more t ts) h at =
+      scan_append (preorder t) (preorders ts) at ∙ ap (onward (preorders ts)) (scan_node t h.0 at)
+      ∙ scan_nodes ts h.1 (at + size t) ∙ ap Ok (omega arith)
+
+all_coded : (t : Tree) → HasCodes t → None ≡ position lacks_code (preorder t)
+all_coded t h = none_found (preorder t) (0 + size t) (sym (scan_node t h 0))
+
+encoded_is : (t : Tree) → HasCodes t → length (spelling t) + 1 ≤ byte_limit → encoded t ≡ Ok (spelling t)
+unfolding encoded
+encoded_is t h short =
+    let fits : nat_lt encoded_limit (length (spelling t)) ≡ false = grind (arith, nat_tests) in
+    ap (λ o. encoded_by o t) (sym (all_coded t h)) ∙ rw fits refl
+
+pub is_written : (t : Tree) (b : List ℕ) → HasCodes t → length (spelling t) + 1 ≤ byte_limit → encoded t ≡ Ok b → b ≡ spelling t
+is_written t b h short e = let same = sym e ∙ encoded_is t h short in cc
+
+pub is_not_refused : (t : Tree) (r : Refusal) → HasCodes t → length (spelling t) + 1 ≤ byte_limit → encoded t ≡ Err r → ⊥
+is_not_refused t r h short e = let same = sym e ∙ encoded_is t h short in cc

@@ -1,0 +1,41 @@
+-- What bytes pack, with a test of what is still to be tried.
+use Rattle.std.proofs.Common.{◌≡◌, ℕ, ◌<◌, ◌^◌, List, [], ◌∷◌, Bool, true, false, cond, length, Option, Some, None, Result, Ok, Err, refl, ap, ◌∙◌, arith, nat_eq}
+use Rattle.rules_base.specs.Tree.{Tree, size}
+use Rattle.rules_binary.specs.Reading.{Fault, decoded}
+use Rattle.rules_types.specs.Kind.{Kind}
+use Rattle.rules_values.specs.Val.{Val}
+use Rattle.rules_values.specs.Literals.{Literal, good, bad}
+use Rattle.rules_steps.specs.Packing.{Trial, tried, of_decoded, unpacked}
+use Rattle.mich_base.specs.declared.memory.Memory.{Memory}
+use Rattle.laws_binary.specs.Laws.{IsBytes}
+use Rattle.laws_binary.proofs.Nodes.{decoded_is_spelt}
+use Rattle.mich_data.specs.declared.pending.Read.{Read}
+use Rattle.mich_pack.specs.Answers.{literal_by, packed_literal, IsLiteral, IsUnpacked, passed, IsTried}
+use Rattle.mich_pack.proofs.Sizes.{size_within}
+
+-- a node that is decoded has fewer nodes than there are bytes
+pub decoded_is_small : (b : List ℕ) (t : Tree) → IsBytes b → length b < 2 ^ 32 → decoded b ≡ Ok t → size t < 2 ^ 32
+decoded_is_small b t fits short e = omega (arith, size_within t, ap length (decoded_is_spelt b t fits e), short)
+
+decoded_tried : (passes : Trial) (a : Kind) (r : Result Tree Fault) → of_decoded passes a r ≡ tried passes (literal_by a r)
+decoded_tried passes a (Ok t) = refl
+decoded_tried passes a (Err fault) = refl
+
+begun_tried : (passes : Trial) (a : Kind) (begins : Bool) (b : List ℕ) →
+    cond begins (of_decoded passes a (decoded b)) None ≡ tried passes (cond begins (literal_by a (decoded b)) (bad 0))
+begun_tried passes a true b = decoded_tried passes a (decoded b)
+begun_tried passes a false b = refl
+
+literal_tried : (passes : Trial) (a : Kind) (b : List ℕ) → unpacked passes a b ≡ tried passes (packed_literal a b)
+literal_tried passes a [] = refl
+literal_tried passes a (c ∷ b) = begun_tried passes a (nat_eq c 5) b
+
+passed_is : (passes : Trial) (l : Literal Val) (answer : Option Read) → IsLiteral l answer → tried passes l ≡ passed passes answer
+passed_is passes (good x ps) (Some r) h = (λ i. tried passes (good (h.0 i) (h.1 i)))
+passed_is passes (good x ps) None h = absurd h
+passed_is passes (bad l) (Some r) h = absurd h
+passed_is passes (bad l) None h = refl
+
+pub unpacked_tried : (a : Kind) (b : List ℕ) (r : Result (Option Read) Memory) → IsUnpacked (packed_literal a b) r → IsTried a b r
+unpacked_tried a b (Ok answer) h = λ passes. literal_tried passes a b ∙ passed_is passes (packed_literal a b) answer h
+unpacked_tried a b (Err e) h = tt

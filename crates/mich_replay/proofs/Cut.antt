@@ -1,0 +1,59 @@
+-- What is answered to the front of a file that is longer than it may be.
+use Rattle.std.proofs.Common.{◌≡◌, ℕ, ◌≤◌, ◌<◌, inl, inr, List, ◌++◌, length, Option, Some, None, Result, Ok, Err, refl, sym, ap, subst, arith}
+use Rattle.std.proofs.lemmas.List.{append-nil}
+use Rattle.std.specs.Prelude.{IfOk}
+use Rattle.std.specs.Io.KnownBytes.{Consumes, IsAtEnd}
+use Rattle.rules_text.specs.Fault.{file_limit}
+use Rattle.rules_replay.specs.Answers.{Answer, status_of}
+use Rattle.rules_replay.specs.Codec.{encode_node, decode_node}
+use Rattle.rules_replay.specs.Commands.{Verb, Replaying, Encoding, Decoding, IsVerbAnswer}
+use Rattle.rules_replay.specs.Replay.{Ending, State, RefusedAt}
+use Rattle.mich_text.proofs.Limited.{split}
+use Rattle.mich_base.specs.declared.memory.Memory.{Memory}
+use Rattle.mich_replay.specs.Fronts.{IsRest, IsReadOf}
+use Rattle.mich_replay.specs.View.{answer_seen}
+use Rattle.mich_replay.specs.declared.answer.Answer.{Answer as Reply}
+use Rattle.mich_replay.proofs.Fronts.{replay_on, codec_on, replay_refused, codec_refused}
+
+-- ---- what was read
+
+pub read_end : (content left : Option (List ℕ)) (read : List ℕ) → Consumes content left read → IsAtEnd left → IsReadOf content read
+read_end None left read p e = tt
+read_end (Some content) None read p e = absurd p
+read_end (Some content) (Some rest) read p e = (rest, p, λ h. e)
+
+pub read_past : (content left : Option (List ℕ)) (read : List ℕ) → Consumes content left read → file_limit < length read → IsReadOf content read
+read_past None left read p far = tt
+read_past (Some content) None read p far = absurd p
+read_past (Some content) (Some rest) read p far = (rest, p, λ h. absurd (omega (arith, h, far)))
+
+-- ---- what is answered
+
+verb_on : (verb : Verb) (file more : List ℕ) (answer : Answer) → file_limit < length file → IsVerbAnswer verb file answer → IsVerbAnswer verb (file ++ more) answer
+verb_on Replaying file more answer past (done, r, e) = (done, replay_on file more past done r, e)
+verb_on Encoding file more answer past p = codec_on file more past encode_node answer p
+verb_on Decoding file more answer past p = codec_on file more past decode_node answer p
+
+pub verb_cut : (verb : Verb) (file more : List ℕ) (answer : Answer) → IsRest file more → IsVerbAnswer verb file answer → IsVerbAnswer verb (file ++ more) answer
+verb_cut verb file more answer rest p = elim (split (length file) file_limit) [
+  | inl short ↦ subst (λ (l : List ℕ). IsVerbAnswer verb (file ++ l) answer) (sym (rest short)) (subst (λ (l : List ℕ). IsVerbAnswer verb l answer) (sym (append-nil file)) p)
+  | inr past ↦ verb_on verb file more answer past p
+]
+
+not_done : (verb : Verb) (file : List ℕ) (answer : Answer) → file_limit < length file → IsVerbAnswer verb file answer → answer.status ≡ 0 → ⊥
+not_done Replaying file answer past (done, r, e) zero = by done.ending refl where
+  by : (x : Ending) → done.ending ≡ x → ⊥
+  by (State w) h = replay_refused file done w past r h
+  by (RefusedAt f place) h = omega (arith, zero, ap (λ (a : Answer). a.status) e, ap status_of h)
+not_done Encoding file answer past p zero = omega (arith, zero, codec_refused encode_node file answer past p)
+not_done Decoding file answer past p zero = omega (arith, zero, codec_refused decode_node file answer past p)
+
+pub verb_done : (verb : Verb) (file : List ℕ) (answer : Answer) → IsVerbAnswer verb file answer → answer.status ≡ 0 → length file ≤ file_limit
+verb_done verb file answer p zero = elim (split (length file) file_limit) [
+  | inl short ↦ short
+  | inr past ↦ absurd (not_done verb file answer past p zero)
+]
+
+pub exact_cut : (verb : Verb) (read : List ℕ) (r : Result Reply Memory) → IfOk r (λ a. IsVerbAnswer verb read (answer_seen a)) → IfOk r (λ a. (more : List ℕ) → IsRest read more → IsVerbAnswer verb (read ++ more) (answer_seen a))
+exact_cut verb read (Ok a) p = λ more rest. verb_cut verb read more (answer_seen a) rest p
+exact_cut verb read (Err e) p = tt

@@ -1,0 +1,30 @@
+//! The ledger of tickets: what was ever minted and burnt of each identity, and how much of it each owner holds.
+//!
+//! Contracts see the ledger as a history of books, which tell the totals of each identity and what each owner holds of it, and
+//! the list of changes since it was last taken.
+#![tactic(auto)]
+
+mod burning;
+mod carrying;
+mod changes;
+mod entry;
+mod errors;
+mod holdings;
+mod ledger;
+mod line;
+mod lines;
+mod minting;
+mod owners;
+mod telling;
+mod tickets;
+mod totals;
+mod views;
+mod writing;
+
+pub use carrying::Collector;
+pub use errors::{DebitError, MintError};
+pub use ledger::Ledger;
+pub use totals::Totals;
+
+#[cfg(test)]
+mod tests;
