@@ -1,6 +1,9 @@
 pub mod Annotations
+pub mod DecodedNodes
+pub mod DecodedParts
 pub mod Fields
 pub mod Integers
+pub mod Lengths
 pub mod Names
 pub mod Nodes
 pub mod Prefixes

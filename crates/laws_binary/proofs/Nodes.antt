@@ -15,7 +15,7 @@ use Rattle.laws_binary.proofs.Integers.{integers_are_spelt}
 use Rattle.laws_binary.proofs.Annotations.{annotations_took, any_annotations_took}
 use Rattle.laws_binary.proofs.Names.{name_took, tag_byte, tag_took}
 
-abbrev Reader : Type 0
+abbrev pub Reader : Type 0
 Reader = Spot → Result (Tree × Spot) Fault
 
 -- what this reader reads is spelt so
@@ -33,7 +33,7 @@ some_application c (suc zero) args notes = some_short 5 c args notes
 some_application c (suc (suc zero)) args notes = some_short 7 c args notes
 some_application c (suc (suc (suc n))) args notes = omega arith
 
-some_spelling : (t : Tree) → 1 ≤ length (spelling t)
+pub some_spelling : (t : Tree) → 1 ≤ length (spelling t)
 some_spelling (int n) = omega arith
 some_spelling (str x) = omega arith
 some_spelling (bytes x) = omega arith

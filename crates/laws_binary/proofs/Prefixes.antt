@@ -7,8 +7,9 @@ use Rattle.std.proofs.lemmas.List.{append-nil}
 use Rattle.std.proofs.lemmas.Nat.{from_be_bytes-to_be_bytes_4}
 use Rattle.rules_base.specs.Tree.{Tree, int, str, bytes, prim, seq, Trees, none, more}
 use Rattle.rules_binary.specs.Spelling.{groups_within, groups, signed_groups, integer, field, joined, short, application, count, code, spelling, spellings}
-use Rattle.laws_binary.specs.Laws.{HasLengths, HaveLengths, NoPrefix}
+use Rattle.laws_binary.specs.Laws.{NoPrefix}
 use Rattle.laws_binary.proofs.Integers.{IsRun, longer_run}
+use Rattle.laws_binary.proofs.Lengths.{HasLengths, HaveLengths, lengths}
 
 abbrev head : List ℕ → ℕ
 head [] = 0
@@ -59,7 +60,7 @@ signed_run : (sign n : ℕ) → sign ≤ 64 → IsRun (signed_groups sign n)
 unfolding groups
 signed_run sign n h = signed_by sign n (groups (n / 64)) (nat_lt n 64) refl h (groups_run (n / 64) (n / 64) (omega arith))
 
-integer_run : (z : ℤ) → IsRun (integer z)
+pub integer_run : (z : ℤ) → IsRun (integer z)
 unfolding integer
 integer_run (pos n) = signed_run 0 n (omega arith)
 integer_run (negsuc n) = signed_run 64 (suc n) (omega arith)
@@ -141,7 +142,7 @@ mutual
   split (int n) (int k) h i x y e = tagged 0 (integer n) (integer k) (λ v w d. run_split (integer n) (integer k) v w (integer_run n) (integer_run k) d) x y e
   split (str a) (str b) h i x y e = fielded 1 a b h i x y e
   split (bytes a) (bytes b) h i x y e = fielded 10 a b h i x y e
-  split (seq ts) (seq us) h i x y e = fielded 2 (spellings ts) (spellings us) h i x y e
+  split (seq ts) (seq us) h i x y e = fielded 2 (spellings ts) (spellings us) h.0 i.0 x y e
   split (prim a notes args) (prim b marks others) h i x y e =
       application_split (code a) (code b) (count args) (count others) (spellings args) (spellings others) (joined notes) (joined marks) h.0 i.0 h.1 i.1 (λ same. splits args others h.2 i.2 same) x y e
   split (prim a notes args) (int k) h i x y e = absurd (other 0 (code a) (count args) (spellings args) (joined notes) y x (integer k) (inl (omega arith)) (sym e))
@@ -164,4 +165,4 @@ mutual
       (cc (a.0, b.0), b.1)
 
 pub no_prefix : NoPrefix
-no_prefix t u m h i e = (split t u h i m [] (e ∙ sym (append-nil (spelling u)))).1
+no_prefix t u m h i e = (split t u (lengths t h) (lengths u i) m [] (e ∙ sym (append-nil (spelling u)))).1

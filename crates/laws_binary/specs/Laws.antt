@@ -1,8 +1,10 @@
 -- What is read stands in the bytes as it is spelt.
-use Rattle.std.specs.Prelude.{◌≡◌, ◌^◌, [], length, ℕ, ◌<◌, ℤ, List, ◌++◌, Ok, slice_index}
-use Rattle.rules_base.specs.Tree.{Tree, int, str, bytes, prim, seq, Trees, none, more}
-use Rattle.rules_binary.specs.Spelling.{field, integer, joined, spelling, spellings}
-use Rattle.rules_binary.specs.Reading.{Spot, field_at, integer_at, decoded}
+use Rattle.std.specs.Prelude.{◌≡◌, ◌^◌, [], length, ℕ, ◌<◌, ◌≤◌, ℤ, pos, negsuc, true, List, ◌++◌, Some, Ok, slice_index}
+use Rattle.std.specs.List.{list_all}
+use Rattle.rules_base.specs.Tree.{Tree, int, str, bytes, prim, seq, Trees, none, more, depth}
+use Rattle.rules_base.specs.Primitives.{code_of_name}
+use Rattle.rules_binary.specs.Spelling.{field, integer, spelling}
+use Rattle.rules_binary.specs.Reading.{Spot, depth_limit, width_limit, is_text, is_annotation, field_at, integer_at, decoded}
 
 -- each element is a byte
 abbrev pub IsBytes : List ℕ → Type 0
@@ -29,19 +31,39 @@ SpellingIsDecoded = (bs : List ℕ) (t : Tree) → IsBytes bs → decoded bs ≡
 abbrev pub OneSpelling : Type 0
 OneSpelling = (bs cs : List ℕ) (t : Tree) → IsBytes bs → IsBytes cs → decoded bs ≡ Ok t → decoded cs ≡ Ok t → bs ≡ cs
 
-abbrev mutual
-  -- what stands in a field of this node's spelling has a length of four bytes
-  pub HasLengths : Tree → Type 0
-  HasLengths (int n) = Unit {0}
-  HasLengths (str s) = length s < 2 ^ 32
-  HasLengths (bytes b) = length b < 2 ^ 32
-  HasLengths (prim name annotations args) = (length (spellings args) < 2 ^ 32) × (length (joined annotations) < 2 ^ 32) × HaveLengths args
-  HasLengths (seq ts) = length (spellings ts) < 2 ^ 32
+-- from -2^127 to 2^127-1
+abbrev pub IsWithinRange : ℤ → Type 0
+IsWithinRange (pos n) = n < 2 ^ 127
+IsWithinRange (negsuc n) = n < 2 ^ 127
 
-  pub HaveLengths : Trees → Type 0
-  HaveLengths none = Unit {0}
-  HaveLengths (more t ts) = HasLengths t × HaveLengths ts
+abbrev pub HasCode : List ℕ → Type 0
+HasCode name = (code : ℕ) × (code_of_name name ≡ Some code)
+
+abbrev mutual
+  -- numbers, texts and bytes within their limits, names with codes, annotations of their form
+  pub HasBinaryForm : Tree → Type 0
+  HasBinaryForm (int z) = IsWithinRange z
+  HasBinaryForm (str s) = (list_all is_text s ≡ true) × (length s ≤ width_limit)
+  HasBinaryForm (bytes b) = length b ≤ width_limit
+  HasBinaryForm (prim name annotations args) = HasCode name × (list_all is_annotation annotations ≡ true) × HaveBinaryForms args
+  HasBinaryForm (seq ts) = HaveBinaryForms ts
+
+  pub HaveBinaryForms : Trees → Type 0
+  HaveBinaryForms none = Unit {0}
+  HaveBinaryForms (more t ts) = HasBinaryForm t × HaveBinaryForms ts
+
+-- a field tells its length in four bytes
+abbrev pub HasShortSpelling : Tree → Type 0
+HasShortSpelling t = length (spelling t) < 2 ^ 32
+
+-- a node that the binary form can hold is decoded from its spelling
+abbrev pub NodesAreDecoded : Type 0
+NodesAreDecoded = (t : Tree) → HasBinaryForm t → depth t ≤ depth_limit → HasShortSpelling t → decoded (spelling t) ≡ Ok t
+
+-- no two such nodes have one spelling
+abbrev pub OneNode : Type 0
+OneNode = (t u : Tree) → HasBinaryForm t → HasBinaryForm u → depth t ≤ depth_limit → depth u ≤ depth_limit → HasShortSpelling t → spelling t ≡ spelling u → t ≡ u
 
 -- no spelling is a proper prefix of another
 abbrev pub NoPrefix : Type 0
-NoPrefix = (t u : Tree) (more_bytes : List ℕ) → HasLengths t → HasLengths u → spelling t ++ more_bytes ≡ spelling u → more_bytes ≡ []
+NoPrefix = (t u : Tree) (more_bytes : List ℕ) → HasShortSpelling t → HasShortSpelling u → spelling t ++ more_bytes ≡ spelling u → more_bytes ≡ []

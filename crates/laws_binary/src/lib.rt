@@ -2,7 +2,7 @@
 // spelling for each node). Each function makes no call; its contract is the law.
 #![tactic(auto)]
 
-ghost use Rattle.laws_binary.specs.Laws.{FieldsAreSpelt, IntegersAreSpelt, DecodedIsSpelt, SpellingIsDecoded, OneSpelling, NoPrefix};
+ghost use Rattle.laws_binary.specs.Laws.{FieldsAreSpelt, IntegersAreSpelt, DecodedIsSpelt, SpellingIsDecoded, OneSpelling, NodesAreDecoded, OneNode, NoPrefix};
 
 /// A field that is read stands in the bytes as its spelling: its length and its content.
 pub fn fields_are_spelt()
@@ -29,7 +29,18 @@ pub fn one_spelling()
     ensures { OneSpelling }
 {}
 
-/// No spelling is a proper prefix of another, where fields are shorter than 2^32 bytes.
+/// A node whose names have codes, whose annotations have their form, whose numbers, strings and bytes are within their limits
+/// and which has at most 1,000 levels is decoded from its spelling, where that is shorter than 2^32 bytes.
+pub fn nodes_are_decoded()
+    ensures { NodesAreDecoded }
+{}
+
+/// No two such nodes have one spelling.
+pub fn one_node()
+    ensures { OneNode }
+{}
+
+/// No spelling is a proper prefix of another, where both are shorter than 2^32 bytes.
 pub fn no_spelling_is_a_prefix()
     ensures { NoPrefix }
 {}

@@ -38,3 +38,4 @@ pub mod Flaws
 pub mod OddBytes
 pub mod OneReading
 pub mod Limits
+pub mod WrittenLines

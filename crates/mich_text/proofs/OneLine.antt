@@ -64,7 +64,7 @@ string_in [] h = (refl, tt)
 string_in (c ∷ s) h = both (spelling c) (string_text s) (spelling_in c h.0) (string_in s h.1)
 
 -- what is read of a token that stands alone
-good : (text : List ℕ) (t : Token) → IsToken text t → IsGood t
+pub good : (text : List ℕ) (t : Token) → IsToken text t → IsGood t
 good text t p = token_good (text ++ []) [] t (p.read [] tt)
 
 int_in : (z : ℤ) → IsInt z → InLine (signed_decimal z)
@@ -91,7 +91,7 @@ parens_in true text p = (refl, both text (41 ∷ []) p (refl, tt))
 parens_in false text p = p
 
 mutual
-  line_in : (t : Tree) → IsPrintable t → InLine (printed t)
+  pub line_in : (t : Tree) → IsPrintable t → InLine (printed t)
   line_in (int n) h = int_in n (good (signed_decimal n) (Token.number n) h)
   line_in (str s) h = (refl, string_in s h.0)
   line_in (Tree.bytes b) h = (refl, (refl, weaker is_ascii_hexdigit is_printing hex_in (bytes_text b) (hexes b h.0)))
@@ -111,9 +111,6 @@ both_true : (a b : Bool) → a ≡ true → b ≡ true → (a && b) ≡ true
 both_true true b p q = q
 both_true false b p q = p
 
-all_of : (xs : List ℕ) → InLine xs → list_all is_printing xs ≡ true
-all_of [] h = refl
-all_of (x ∷ xs) h = both_true (is_printing x) (list_all is_printing xs) h.0 (all_of xs h.1)
-
-pub one_line : (before : ℕ) (text : List ℕ) (tree : Tree) (from end : ℕ) → IsNode before text tree from end → list_all is_printing (printed tree) ≡ true
-one_line before text tree from end n = all_of (printed tree) (line_in tree (node_printable before text tree from end n))
+pub all_of : (p : ℕ → Bool) (xs : List ℕ) → IsAll p xs → list_all p xs ≡ true
+all_of p [] h = refl
+all_of p (x ∷ xs) h = both_true (p x) (list_all p xs) h.0 (all_of p xs h.1)

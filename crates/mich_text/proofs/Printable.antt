@@ -18,7 +18,7 @@ use Rattle.mich_text.proofs.Good.{IsGood, IsInt, IsNote}
 
 -- ---- tokens
 
-name_is : (n : List ℕ) → IsName n → IsToken n (Token.name n)
+pub name_is : (n : List ℕ) → IsName n → IsToken n (Token.name n)
 name_is [] p = absurd (cc p.first)
 name_is (c ∷ n) p = record { gap = λ rest. solid_gap c (n ++ rest) (word_solid c (word_is c p.first)); read = λ rest a. name_token (c ∷ n) rest p a }
 
@@ -37,7 +37,7 @@ note_sign c e = by _ _ _ _ _ _ _ _ _ e where
   by false false false false false false false false true e = absurd cc
   by false false false false false false false false false e = absurd cc
 
-note_is : (a : List ℕ) → IsNote a → IsToken a (Token.annotation a)
+pub note_is : (a : List ℕ) → IsNote a → IsToken a (Token.annotation a)
 note_is [] p = absurd (cc p.first)
 note_is (c ∷ cs) p = record { gap = λ rest. solid_gap c (cs ++ rest) (note_solid c (note_sign c p.first)); read = λ rest a. note_token c cs rest p.first p.all p.short a }
 
@@ -55,7 +55,7 @@ first_solid (d ∷ ds) some h c cs e = subst (λ (x : ℕ). is_solid x ≡ true)
 pub wide : (n : ℕ) → n ≤ 2 ^ 127 → n < 10 ^ 64
 wide n h = omega (arith, h)
 
-number_is : (z : ℤ) → IsInt z → IsToken (signed_decimal z) (Token.number z)
+pub number_is : (z : ℤ) → IsInt z → IsToken (signed_decimal z) (Token.number z)
 number_is (pos n) h =
     let d = decimal_is_IsNumeral_wide n (wide n (omega (arith, h))) in
     record {

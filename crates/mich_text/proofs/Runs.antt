@@ -111,14 +111,14 @@ node_runs before text tree from end n = elim (runs depth_limit start (element_to
   | inr q ↦ absurd (stopped before text tree from end n q.refusal q refl)
 ]
 
-node_depth_within : (before : ℕ) (text : List ℕ) (tree : Tree) (from end : ℕ) → IsNode before text tree from end → element_depth (element_of tree) ≤ depth_limit
-node_depth_within before text tree from end n =
+pub node_depth : (before : ℕ) (text : List ℕ) (tree : Tree) (from end : ℕ) → IsNode before text tree from end → depth tree ≤ depth_limit
+node_depth before text tree from end n =
     let s = n.stands.statement in
     let r = node_runs before text tree from end n in
     let w = statement_within depth_limit r.0 (element_tokens s.element) r.1 (statement_is depth_limit r.0 s.element r.1) in
     let same : tree ≡ element_tree w.0 = s.stands ∙ one_tree s.element w.0 w.1 in
     let shallow : depth tree ≤ element_depth w.0 = subst (λ (t : Tree). depth t ≤ element_depth w.0) (sym same) (element_tree_depth w.0) in
-    omega (arith, element_of_depth tree, shallow, w.2)
+    omega (arith, shallow, w.2)
 
 pub node_printable : (before : ℕ) (text : List ℕ) (tree : Tree) (from end : ℕ) → IsNode before text tree from end → IsPrintable tree
 node_printable before text tree from end n =
@@ -126,9 +126,3 @@ node_printable before text tree from end n =
     let s = p.statement in
     let good : AllByRecursion IsGood (element_tokens s.element) = subst (AllByRecursion IsGood) s.tokens (leads_good text p.tokens (Some p.rest) p.leads) in
     subst IsPrintable (sym s.stands) (element_printable s.element good)
-
--- the line of a node that a text gives is read as that node, where it is no longer than a statement may be
-pub line_again : (before : ℕ) (text : List ℕ) (tree : Tree) (from end : ℕ) → IsNode before text tree from end → length (printed tree) ≤ statement_limit → IsNode 0 (printed tree) tree (length (printed tree)) 0
-line_again before text tree from end n short =
-    let h = node_printable before text tree from end n in
-    node_same 0 (printed tree) (short_unlimited (printed tree) short) tree (length (printed tree)) 0 (printed_again tree (printed tree) h (node_depth_within before text tree from end n) (line_begins tree h))

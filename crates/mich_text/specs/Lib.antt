@@ -10,3 +10,4 @@ pub mod Canonical
 pub mod Shown
 pub mod Limited
 pub mod Parts
+pub mod Written

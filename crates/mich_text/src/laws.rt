@@ -7,6 +7,7 @@ ghost use Rattle.rules_text.specs.Printed.{printed};
 ghost use Rattle.rules_text.specs.Text.{Stands, IsFault, IsNode, IsEnd};
 ghost use Rattle.rules_text.specs.declared.TextKind.{TextKind};
 ghost use Rattle.mich_text.specs.Line.{is_printing};
+ghost use Rattle.mich_text.specs.Written.{CanBeWritten, HasTextForm};
 
 /// A law, with nothing to run: a text is one thing only, ended, one node at one place, or one fault at one place.
 pub fn one_reading()
@@ -21,9 +22,11 @@ pub fn one_reading()
     ensures no_fault_at_end { (before : ℕ) (text : List ℕ) (k : TextKind) (left : ℕ) → IsEnd before text → IsFault before text k left → ⊥ }
 {}
 
-/// The line of a node that a text gives has only bytes that ASCII prints. By itself it is a text of that node, from its first
-/// byte to its last, where it is no longer than a statement may be.
+/// A text gives only nodes whose names, annotations, numbers, strings and bytes have their forms and which have at most 1,000
+/// levels. The line of such a node has only bytes that ASCII prints. By itself it is a text of that node, from its first byte to
+/// its last, where it is no longer than a statement may be.
 pub fn a_line_is_read_again()
-    ensures again { (before : ℕ) (text : List ℕ) (tree : Tree) (start end : ℕ) → IsNode before text tree start end → length (printed tree) ≤ statement_limit → IsNode 0 (printed tree) tree (length (printed tree)) 0 }
-    ensures one_line { (before : ℕ) (text : List ℕ) (tree : Tree) (start end : ℕ) → IsNode before text tree start end → list_all is_printing (printed tree) ≡ true }
+    ensures forms { (before : ℕ) (text : List ℕ) (tree : Tree) (start end : ℕ) → IsNode before text tree start end → CanBeWritten tree }
+    ensures again { (tree : Tree) → CanBeWritten tree → length (printed tree) ≤ statement_limit → IsNode 0 (printed tree) tree (length (printed tree)) 0 }
+    ensures one_line { (tree : Tree) → HasTextForm tree → list_all is_printing (printed tree) ≡ true }
 {}
