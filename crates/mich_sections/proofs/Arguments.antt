@@ -1,11 +1,11 @@
 -- Sections with other arguments than theirs.
-use Rattle.std.proofs.Common.{◌≡◌, ℕ, ◌+◌, true, false, List, [], ◌∷◌, Option, Some, None, refl, ap, sym, ◌∙◌, subst, rules, arith}
+use Rattle.std.proofs.Common.{◌≡◌, ℕ, ◌+◌, true, List, [], ◌∷◌, Option, Some, None, refl, ap, sym, ◌∙◌, subst, rules, arith}
 use Rattle.rules_base.specs.Tree.{Tree, int, str, bytes, prim, seq, Trees, none, more, size}
 use Rattle.rules_base.specs.Primitives.{primitive_of_name}
 use Rattle.rules_base.specs.declared.Primitive.{Primitive}
 use Rattle.rules_base.specs.declared.Primitive.TheVariants as p
 use Rattle.rules_typing.specs.Typing.{Typer}
-use Rattle.rules_typing.specs.Sections.{content_at, content_of, no_section, code_section, a_body, view_content}
+use Rattle.rules_typing.specs.Sections.{content_at, content_of, no_section, view_content}
 use Rattle.rules_typing.specs.Nodes.{body, bodies, inner_bodies}
 use Rattle.mich_base.specs.Counted.{IsNotOne}
 use Rattle.mich_base.specs.View.{tree, trees}
@@ -13,7 +13,7 @@ use Rattle.mich_base.specs.declared.node.App.{App}
 use Rattle.mich_base.specs.declared.node.Node.{Node}
 use Rattle.mich_base.specs.declared.node.Node as nodes
 use Rattle.mich_base.specs.declared.node.Node.TheVariants.{Prim, Str}
-use Rattle.mich_sections.specs.Counted.{IsNoText, IsNotFour, is_sequence}
+use Rattle.mich_sections.specs.Counted.{is_sequence}
 use Rattle.mich_sections.specs.View.{kind_of}
 use Rattle.mich_sections.specs.declared.content.SectionKind.TheVariants as k
 
@@ -39,81 +39,6 @@ no_code [] at t typings h = refl
 no_code (x ∷ []) at t typings h = absurd h
 no_code (x ∷ y ∷ zs) at t typings h = code_many (tree x) (tree y) (trees zs) at t typings
 
--- the one argument as the code
-pub code_is : (u : Tree) (at : ℕ) (t : Tree) → is_sequence u ≡ true → content_of (Some p.SectionCode) at t (more u none) (bodies (more u none) (at + 1)) ≡ code_section (a_body (at + 1) u (body u (at + 1)))
-code_is (int n) at t h = absurd cc
-code_is (str s) at t h = absurd cc
-code_is (bytes b) at t h = absurd cc
-code_is (prim name annots us) at t h = absurd cc
-code_is (seq us) at t h = refl
-
-pub code_not : (u : Tree) (at : ℕ) (t : Tree) (typings : List Typer) → is_sequence u ≡ false → content_of (Some p.SectionCode) at t (more u none) typings ≡ no_section
-code_not (int n) at t typings h = refl
-code_not (str s) at t typings h = refl
-code_not (bytes b) at t typings h = refl
-code_not (prim name annots us) at t typings h = refl
-code_not (seq us) at t typings h = absurd cc
-
--- ---- views
-
-module _ (at : ℕ) (t : Tree) (typings : List Typer) where
-  view_one : (x : Tree) → content_of (Some p.SectionView) at t (more x none) typings ≡ no_section
-  view_one (int n) = refl
-  view_one (str s) = refl
-  view_one (bytes b) = refl
-  view_one (prim name annots us) = refl
-  view_one (seq us) = refl
-
-  view_two : (x y : Tree) → content_of (Some p.SectionView) at t (more x (more y none)) typings ≡ no_section
-  view_two (int n) y = refl
-  view_two (str s) y = refl
-  view_two (bytes b) y = refl
-  view_two (prim name annots us) y = refl
-  view_two (seq us) y = refl
-
-  view_three : (x y z : Tree) → content_of (Some p.SectionView) at t (more x (more y (more z none))) typings ≡ no_section
-  view_three (int n) y z = refl
-  view_three (str s) y z = refl
-  view_three (bytes b) y z = refl
-  view_three (prim name annots us) y z = refl
-  view_three (seq us) y z = refl
-
-  named_many : (name : List ℕ) (y z w v : Tree) (vs : Trees) → content_of (Some p.SectionView) at t (more (str name) (more y (more z (more w (more v vs))))) typings ≡ no_section
-  named_many name y z (int n) v vs = refl
-  named_many name y z (str s) v vs = refl
-  named_many name y z (bytes b) v vs = refl
-  named_many name y z (prim n annots us) v vs = refl
-  named_many name y z (seq us) v vs = refl
-
-  view_many : (x y z w v : Tree) (vs : Trees) → content_of (Some p.SectionView) at t (more x (more y (more z (more w (more v vs))))) typings ≡ no_section
-  view_many (int n) y z w v vs = refl
-  view_many (str s) y z w v vs = named_many s y z w v vs
-  view_many (bytes b) y z w v vs = refl
-  view_many (prim name annots us) y z w v vs = refl
-  view_many (seq us) y z w v vs = refl
-
-  pub view_not_four : (ns : List Node) → IsNotFour ns → content_of (Some p.SectionView) at t (trees ns) typings ≡ no_section
-  view_not_four [] h = refl
-  view_not_four (x ∷ []) h = view_one (tree x)
-  view_not_four (x ∷ y ∷ []) h = view_two (tree x) (tree y)
-  view_not_four (x ∷ y ∷ z ∷ []) h = view_three (tree x) (tree y) (tree z)
-  view_not_four (x ∷ y ∷ z ∷ w ∷ []) h = absurd h
-  view_not_four (x ∷ y ∷ z ∷ w ∷ v ∷ vs) h = view_many (tree x) (tree y) (tree z) (tree w) (tree v) (trees vs)
-
-  pub view_unnamed : (x : Tree) (us : Trees) → IsNoText x → content_of (Some p.SectionView) at t (more x us) typings ≡ no_section
-  view_unnamed (int n) us h = refl
-  view_unnamed (str s) us h = absurd h
-  view_unnamed (bytes b) us h = refl
-  view_unnamed (prim name annots vs) us h = refl
-  view_unnamed (seq vs) us h = refl
-
-  pub view_without_code : (name : List ℕ) (u w b : Tree) → is_sequence b ≡ false → content_of (Some p.SectionView) at t (more (str name) (more u (more w (more b none)))) typings ≡ no_section
-  view_without_code name u w (int n) h = refl
-  view_without_code name u w (str s) h = refl
-  view_without_code name u w (bytes b) h = refl
-  view_without_code name u w (prim n annots vs) h = refl
-  view_without_code name u w (seq vs) h = absurd cc
-
 -- the four arguments as the view
 pub view_is : (name : List ℕ) (u w b : Tree) (at : ℕ) (t : Tree) → is_sequence b ≡ true →
     content_of (Some p.SectionView) at t (more (str name) (more u (more w (more b none)))) (bodies (more (str name) (more u (more w (more b none)))) (at + 1))
@@ -127,10 +52,6 @@ view_is name u w (seq vs) at t h =
     ap (λ n. view_content at name u w (seq vs) (body (seq vs) (n + size u + size w))) e
 
 -- ---- the same of nodes
-
-pub code_whole : (ns : List Node) (u : Node) (at : ℕ) (t : Tree) → ns ≡ u ∷ [] → is_sequence (tree u) ≡ true →
-    content_of (Some p.SectionCode) at t (trees ns) (bodies (trees ns) (at + 1)) ≡ code_section (a_body (at + 1) (tree u) (body (tree u) (at + 1)))
-code_whole ns u at t e h = ap (λ ms. content_of (Some p.SectionCode) at t (trees ms) (bodies (trees ms) (at + 1))) e ∙ code_is (tree u) at t h
 
 pub view_whole : (ns : List Node) (x u w b : Node) (name : List ℕ) (at : ℕ) (t : Tree) → ns ≡ x ∷ u ∷ w ∷ b ∷ [] → tree x ≡ str name → is_sequence (tree b) ≡ true →
     content_of (Some p.SectionView) at t (trees ns) (bodies (trees ns) (at + 1)) ≡ view_content at name (tree u) (tree w) (tree b) (body (tree b) (at + 2 + size (tree u) + size (tree w)))

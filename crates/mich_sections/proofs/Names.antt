@@ -1,5 +1,5 @@
 -- The names of views, in a set beside them.
-use Rattle.std.proofs.Common.{◌≡◌, ℕ, Bool, true, false, ◌||◌, not, List, [], ◌∷◌, ◌++◌, map, is_some, Option, Some, None, refl, ap, sym, ◌∙◌}
+use Rattle.std.proofs.Common.{◌≡◌, ℕ, Bool, true, false, ◌||◌, List, [], ◌∷◌, ◌++◌, map, is_some, Some, None, refl, ap, sym, ◌∙◌}
 use Rattle.std.specs.Prelude.{if◌then◌else◌}
 use Rattle.std.specs.Borrow.{Bor}
 use Rattle.std.specs.BTreeMap.{is_at}
@@ -14,8 +14,7 @@ use Rattle.std.proofs.lemmas.List.{map-append}
 use Rattle.std.proofs.lemmas.Map.Lookups.{exact_bytes}
 use Rattle.std.proofs.lemmas.Map.Text.{is_eq-slice_cmp}
 use Rattle.std.proofs.lemmas.Slice.Eq.{bytes_eq-Decides}
-use Rattle.rules_instructions.specs.Arguments.{found, fault}
-use Rattle.rules_typing.specs.Sections.{WrittenView, Contents, once, view_named}
+use Rattle.rules_typing.specs.Sections.{WrittenView, view_named}
 use Rattle.mich_sections.specs.View.{written_of}
 use Rattle.mich_sections.specs.declared.content.WrittenView.{WrittenView as CodeView}
 
@@ -82,11 +81,3 @@ named_more q (v ∷ vs) w = by (bytes_eq v.name q) (bytes_eq w.name q) (named_mo
 pub views_more : (vs : List CodeView) (v : CodeView) (q : List ℕ) →
     is_some (view_named q (map written_of (vs ++ v ∷ []))) ≡ bytes_eq v.name.now q || is_some (view_named q (map written_of vs))
 views_more vs v q = ap (λ ws. is_some (view_named q ws)) (map-append written_of vs (v ∷ [])) ∙ named_more q (map written_of vs) (written_of v)
-
-pub once_new : (at : ℕ) (o : Option WrittenView) (c : Contents) → true ≡ not (is_some o) → once at o c ≡ found c
-once_new at None c e = refl
-once_new at (Some w) c e = absurd cc
-
-pub once_again : (at : ℕ) (o : Option WrittenView) (c : Contents) → false ≡ not (is_some o) → once at o c ≡ fault at
-once_again at None c e = absurd cc
-once_again at (Some w) c e = refl
