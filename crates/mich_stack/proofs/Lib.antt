@@ -1,0 +1,6 @@
+pub mod Burnt
+pub mod Comparable
+pub mod Compared
+pub mod Contents
+pub mod Depths
+pub mod Tops
