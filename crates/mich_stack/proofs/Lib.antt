@@ -3,4 +3,5 @@ pub mod Comparable
 pub mod Compared
 pub mod Contents
 pub mod Depths
+pub mod Pairs
 pub mod Tops

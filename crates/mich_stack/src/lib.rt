@@ -5,12 +5,14 @@
 #![tactic(auto)]
 
 mod error;
+mod given;
 mod keys;
 mod stack;
 
 pub use error::{StepError, StepFailure, past};
+pub use given::nothing;
 pub use keys::{content_value, take_key};
 pub use stack::{
-    insert_at, optional_value, pop, push, put, put_limited, read_at, split_top, take_at, take_off,
-    three_on_top, two_on_top,
+    insert_at, optional_value, pop, push, put, read_at, split_top, take_at, take_off, three_on_top,
+    two_on_top,
 };

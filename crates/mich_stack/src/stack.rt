@@ -1,14 +1,9 @@
 // Stacks of values, whose last element is on top.
 ghost use Rattle.std.specs.Prelude.{◌≡◌, [], ◌∷◌, ◌<◌, ◌≤◌, length, drop, insert, remove, slice_get, option_map, Some, IfOk, MatchOption};
-ghost use Rattle.rules_steps.specs.Step.{optional, within_limit};
-ghost use Rattle.rules_steps.specs.Numbers.{give_number};
-ghost use Rattle.mich_num.specs.View.{limited};
+ghost use Rattle.rules_steps.specs.Step.{optional};
 ghost use Rattle.mich_stack.specs.Views.{Sight, seen, values, IsBelowTwo, IsBelowThree};
-ghost use Rattle.mich_stack.specs.Ends.{IsKept};
 
-use crate::error::{StepError, past};
 use mich_base::{Link, Memory, Rows};
-use mich_num::NumFault;
 use mich_term::Value;
 use std::alloc::Global;
 use std::mem;
@@ -61,23 +56,6 @@ pub fn put(stack: &mut Rows<Value>, taken: usize, value: Value) -> Result<(), Me
     take_off(stack, taken);
     push(stack, value)?;
     Ok(())
-}
-
-/// Puts a number in place of so many on top, or fails where it passed a limit. Memory where there is no room for it.
-pub fn put_limited(
-    stack: &mut Rows<Value>,
-    taken: usize,
-    number: Result<i128, NumFault>,
-) -> Result<(), StepError>
-    ensures { (big : Sight) → IsKept (within_limit (limited number) (give_number (drop taken (values big stack.old)))) (values big stack.new) result }
-{
-    match number {
-        Ok(z) => {
-            put(stack, taken, Value::Number(z))?;
-            Ok(())
-        }
-        Err(fault) => Err(StepError::Failed(past(fault))),
-    }
 }
 
 /// The value at a depth. None where there is none.
