@@ -1,0 +1,15 @@
+use Rattle.std.proofs.Common.{◌∷◌, ap, sym, ◌∙◌}
+use Rattle.std.specs.Prelude.{option_map}
+use Rattle.rules_values.specs.Val.{set, table, list, truth, number}
+use Rattle.rules_steps.specs.Step.{optional}
+use Rattle.mich_term.specs.View.{datum, datums}
+use Rattle.mich_stack.specs.Views.{seen, values}
+use Rattle.mich_collections.specs.Seen.{vals_by, pairs_by}
+use Rattle.mich_collections.proofs.Steps.{mem_map_is}
+use Rattle.mich_collections.proofs.Opened.{map_seen}
+use Rattle.mich_collections.proofs.maps.mem_map.Goals as goal
+
+pub returns : goal.returns
+returns c = λ big. mem_map_is (values big c.args.stack.now) (datum c.in_ok-key.key) (pairs_by big c.take_map-table.result) (values big c.take_map-table.new.stack) (values big c.push.new.stack) c.has_key.result (seen big c.map_value.result)
+    (c.in_ok-key.ensures big ∙ ap (λ V. datum c.in_ok-key.key ∷ V) (c.take_map-table.ensures big ∙ ap (λ v. v ∷ values big c.take_map-table.new.stack) (map_seen big c.take_map-table.result))) (c.has_key.ensures big)
+    (c.in_ok-push.ensures big ∙ ap (λ v. v ∷ values big c.take_map-table.new.stack) (c.truth_value-found.ensures big)) (c.map_value.ensures big)

@@ -1,0 +1,12 @@
+use Rattle.std.proofs.Common.{◌∷◌, ap, ◌∙◌}
+use Rattle.std.specs.Prelude.{pos}
+use Rattle.rules_steps.specs.Sets.{element_count, entry_count}
+use Rattle.mich_term.specs.View.{datums}
+use Rattle.mich_stack.specs.Views.{seen, values}
+use Rattle.mich_collections.specs.Seen.{vals_by, pairs_by}
+use Rattle.mich_collections.proofs.Steps.{size_list_is}
+use Rattle.mich_collections.proofs.maps.size_list.Goals as goal
+
+pub returns : goal.returns
+returns c = λ big. size_list_is (values big c.args.stack.now) (vals_by big c.take_list-list.result) (values big c.take_list-list.new.stack) (values big c.push.new.stack) (pos (element_count (vals_by big c.take_list-list.result))) (seen big c.list_value.result)
+    (c.take_list-list.ensures big) (c.list_size-size.ensures.fits big) (c.in_ok-push.ensures big ∙ ap (λ v. v ∷ values big c.take_list-list.new.stack) (c.list_size-size.ensures.value big)) (c.list_value.ensures big)

@@ -1,0 +1,14 @@
+use Rattle.std.proofs.Common.{◌∷◌, ap, sym, ◌∙◌}
+use Rattle.std.specs.Prelude.{option_map}
+use Rattle.rules_values.specs.Val.{set, table, list, truth, number}
+use Rattle.rules_steps.specs.Step.{optional}
+use Rattle.mich_term.specs.View.{datum, datums}
+use Rattle.mich_stack.specs.Views.{seen, values}
+use Rattle.mich_collections.specs.Seen.{vals_by, pairs_by}
+use Rattle.mich_collections.proofs.Steps.{mem_set_is}
+use Rattle.mich_collections.proofs.sets.mem_set.Goals as goal
+
+pub returns : goal.returns
+returns c = λ big. mem_set_is (values big c.args.stack.now) (datum c.in_ok-element.element) (datums c.take_set-set.result) (values big c.take_set-set.new.stack) (values big c.push.new.stack) c.has.result
+    (c.in_ok-element.ensures big ∙ ap (λ V. datum c.in_ok-element.element ∷ V) (c.take_set-set.ensures big)) c.has.ensures
+    (c.in_ok-push.ensures big ∙ ap (λ v. v ∷ values big c.take_set-set.new.stack) (c.truth_value-found.ensures big))

@@ -1,0 +1,24 @@
+use Rattle.std.proofs.Common.{ℕ, ◌∷◌, Vec, Global, ap, sym, subst, ◌∙◌}
+use Rattle.std.specs.Prelude.{option_map}
+use Rattle.rules_values.specs.Val.{list}
+use Rattle.rules_steps.specs.Texts.{joined}
+use Rattle.mich_stack.specs.Views.{seen, values}
+use Rattle.mich_collections.specs.Seen.{vals_by}
+use Rattle.mich_collections.specs.Sizes.{IsWithinSize}
+use Rattle.mich_collections.proofs.Steps.{string_list_is, string_list_over}
+use Rattle.mich_collections.proofs.texts.concat_string_list.Goals as goal
+
+pub returns-in_ok-push-in-Some : goal.returns-in_ok-push-in-Some
+returns-in_ok-push-in-Some c = λ big.
+    let xs = vals_by big c.as_slice.result.now in
+    let w = subst (λ o. IsWithinSize (joined xs) (option_map (λ (v : Vec ℕ Global). v.items) o)) c.in-Some.is (c.in_ok-joined.ensures big) in
+    string_list_is (values big c.args.stack.now) xs (values big c.take_list-list.new.stack) (values big c.push.new.stack) c.in-Some.bytes.items
+    (c.take_list-list.ensures big ∙ ap (λ l. list (vals_by big l) ∷ values big c.take_list-list.new.stack) (sym c.as_slice.ensures)) w.0 w.1
+    (c.in_ok-push-in-Some.ensures big ∙ ap (λ v. v ∷ values big c.take_list-list.new.stack) (c.text_value.ensures big))
+
+pub returns-in-None : goal.returns-in-None
+returns-in-None c = λ big.
+    let xs = vals_by big c.as_slice.result.now in
+    string_list_over (values big c.args.stack.now) xs (values big c.take_list-list.new.stack)
+    (c.take_list-list.ensures big ∙ ap (λ l. list (vals_by big l) ∷ values big c.take_list-list.new.stack) (sym c.as_slice.ensures))
+    (subst (λ o. IsWithinSize (joined xs) (option_map (λ (v : Vec ℕ Global). v.items) o)) c.in-None.is (c.in_ok-joined.ensures big))

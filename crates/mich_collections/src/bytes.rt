@@ -1,0 +1,68 @@
+// Bytes that are joined and cut.
+ghost use Rattle.std.specs.Prelude.{◌≡◌, ◌++◌, ◌<◌, ◌≤◌, ◌+◌, ◌≤ℤ◌, pos, length, take, drop, option_map, unsigned_abs, IfOk};
+ghost use Rattle.rules_values.specs.Literals.{byte_limit};
+ghost use Rattle.rules_steps.specs.Texts.{bytes_of, joined, slice};
+ghost use Rattle.mich_stack.specs.Views.{Sight, seen};
+ghost use Rattle.mich_collections.specs.Seen.{vals_by};
+ghost use Rattle.mich_collections.specs.Sizes.{IsWithinSize};
+
+use mich_base::Memory;
+use mich_term::Value;
+use std::alloc::Global;
+
+/// The most bytes that a string and bytes have.
+const SIZE_LIMIT: usize = 1_048_576;
+
+// Bytes, one list behind the other. None where they are over the limit.
+pub(crate) fn join(alloc: Global, first: &[u8], second: &[u8]) -> Result<Option<Vec<u8>>, Memory>
+    ensures { IfOk result (λ o. IsWithinSize (first.now ++ second.now) (option_map (λ v. v.items) o)) }
+{
+    if first.len() + second.len() > SIZE_LIMIT {
+        return Ok(None);
+    }
+    let mut bytes = Vec::with_capacity(alloc, first.len() + second.len())?;
+    bytes.extend_from_slice(first)?;
+    bytes.extend_from_slice(second)?;
+    Ok(Some(bytes))
+}
+
+// The bytes of a string or of bytes.
+fn bytes_of(value: &Value) -> &[u8]
+    ensures { (big : Sight) → result.now ≡ bytes_of (seen big value.now) }
+{
+    match value {
+        Value::Text(text) => text.as_slice(),
+        Value::Bytes(bytes) => bytes.as_slice(),
+        _ => &[],
+    }
+}
+
+// The bytes of the elements of a list, one behind the other. None where they are over the limit.
+pub(crate) fn join_all(alloc: Global, list: &[Value]) -> Result<Option<Vec<u8>>, Memory>
+    ensures { IfOk result (λ o. (big : Sight) → IsWithinSize (joined (vals_by big list.now)) (option_map (λ v. v.items) o)) }
+{
+    let mut bytes = Vec::new(alloc);
+    for value in list {
+        let more = bytes_of(value);
+        if bytes.len() + more.len() > SIZE_LIMIT {
+            return Ok(None);
+        }
+        bytes.extend_from_slice(more)?;
+    }
+    Ok(Some(bytes))
+}
+
+// So many bytes from an offset. None where they don't lie within.
+pub(crate) fn cut(bytes: &[u8], offset: i128, count: i128) -> Option<&[u8]>
+    requires offset { pos 0 ≤ℤ offset }
+    requires count { pos 0 ≤ℤ count }
+    ensures { option_map (λ s. s.now) result ≡ slice (unsigned_abs offset) (unsigned_abs count) bytes.now }
+{
+    let len = bytes.len();
+    if offset >= len as i128 || count > len as i128 - offset {
+        return None;
+    }
+    let start = offset as usize;
+    let end = start + count as usize;
+    Some(&bytes[start..end])
+}

@@ -1,0 +1,45 @@
+-- The stacks and failures that those of the code stand for.
+use Rattle.std.specs.Prelude.{List, [], ◌∷◌, map, reverse}
+use Rattle.rules_values.specs.Val.{Val, Pairs}
+use Rattle.rules_steps.specs.Failure.{Failure}
+use Rattle.rules_steps.specs.Failure as f
+use Rattle.mich_term.specs.declared.value.Value.{Value, fold-Value}
+use Rattle.mich_term.specs.declared.value.Value.TheOpen.{BigMap-F}
+use Rattle.mich_term.specs.ValueView.{val, value_step}
+use Rattle.mich_stack.specs.declared.error.StepFailure.{StepFailure}
+use Rattle.mich_stack.specs.declared.error.StepFailure.TheVariants.{IntegerLimit, MutezOverflow, ShiftLimit, SizeLimit}
+
+-- how a big map is seen, with the values that lie in it already seen: by its overlay alone, or over the bases of a store
+abbrev pub Sight : Type 0
+Sight = BigMap-F Val Pairs → Pairs
+
+-- the value that any value stands for, where big maps are seen so
+abbrev pub seen : Sight → Value → Val
+seen big = fold-Value Val Pairs value_step big
+
+-- a stack of values, whose last element is on top, as it is written: the top first
+abbrev pub values : Sight → List Value → List Val
+values big vs = map (seen big) (reverse vs)
+
+-- the same with big maps seen by what lies in them
+abbrev pub plain : List Value → List Val
+plain vs = map val (reverse vs)
+
+abbrev pub failure : StepFailure → Failure
+failure IntegerLimit = f.integer_limit
+failure MutezOverflow = f.mutez_overflow
+failure ShiftLimit = f.shift_limit
+failure SizeLimit = f.size_limit
+
+-- fewer than two values
+abbrev pub IsBelowTwo : List Val → Type 0
+IsBelowTwo [] = Unit {0}
+IsBelowTwo (v ∷ []) = Unit {0}
+IsBelowTwo (v ∷ w ∷ V) = ⊥
+
+-- fewer than three values
+abbrev pub IsBelowThree : List Val → Type 0
+IsBelowThree [] = Unit {0}
+IsBelowThree (v ∷ []) = Unit {0}
+IsBelowThree (v ∷ w ∷ []) = Unit {0}
+IsBelowThree (v ∷ w ∷ x ∷ V) = ⊥

@@ -1,0 +1,3 @@
+pub mod Combs
+pub mod Ended
+pub mod Gone
