@@ -4,7 +4,7 @@ use Rattle.rules_values.specs.Val.{Val, Pairs, truth, number, text, set}
 use Rattle.mich_term.specs.View.{datums}
 use Rattle.mich_term.specs.ValueView.{value_step}
 use Rattle.mich_term.specs.declared.elements.Elements.{Elements}
-use Rattle.mich_term.specs.declared.value.Value.{Value, fold-roll-Value}
+use Rattle.mich_term.specs.declared.value.Value.{fold-roll-Value}
 use Rattle.mich_term.specs.declared.value.Value.TheOpen.{Value-F}
 use Rattle.mich_term.specs.declared.value.Value.TheVariants as value
 use Rattle.mich_term.specs.declared.value.Value.TheVariants.{rolls-Bool, rolls-Number, rolls-Text, rolls-Set}
