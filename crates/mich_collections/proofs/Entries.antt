@@ -1,10 +1,10 @@
 -- What the code does to entries is what the definitions do to pairs, however big maps are seen.
 use Rattle.std.proofs.Common.{◌≡◌, Bool, true, false, List, [], ◌∷◌, length, refl, ap, ◌∙◌}
-use Rattle.std.specs.Prelude.{ℕ, suc, Option, Some, None, option_map, is_some, if◌then◌else◌}
+use Rattle.std.specs.Prelude.{suc, Option, Some, None, option_map, is_some, if◌then◌else◌}
 use Rattle.std.specs.declared.cmp.Ordering.{Ordering}
 use Rattle.std.specs.declared.cmp.Ordering.TheVariants.{Less, Equal, Greater}
 use Rattle.std.specs.Ordering.{match_ordering, is_eq}
-use Rattle.rules_values.specs.Val.{Val, Pairs, more_pairs}
+use Rattle.rules_values.specs.Val.{more_pairs}
 use Rattle.rules_values.specs.Tables.{value_at, with_value, without_key}
 use Rattle.rules_steps.specs.Sets.{element_count, entry_count}
 use Rattle.mich_term.specs.Keyed.{found, with, without, by}

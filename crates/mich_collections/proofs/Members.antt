@@ -1,10 +1,10 @@
 -- What the code does to elements is what the definitions do to values.
 use Rattle.std.proofs.Common.{◌≡◌, Bool, true, false, List, [], ◌∷◌, length, refl, ap, ◌∙◌}
-use Rattle.std.specs.Prelude.{ℕ, suc, ◌||◌, if◌then◌else◌}
+use Rattle.std.specs.Prelude.{suc, ◌||◌, if◌then◌else◌}
 use Rattle.std.specs.declared.cmp.Ordering.{Ordering}
 use Rattle.std.specs.declared.cmp.Ordering.TheVariants.{Less, Equal, Greater}
 use Rattle.std.specs.Ordering.{match_ordering, is_eq}
-use Rattle.rules_values.specs.Val.{Val, Vals, more_vals}
+use Rattle.rules_values.specs.Val.{more_vals}
 use Rattle.rules_steps.specs.Sets.{has_element, with_element, without_element, element_count}
 use Rattle.mich_term.specs.Keyed.{by, has, put, taken}
 use Rattle.mich_term.specs.View.{datum, datums}

@@ -1,6 +1,6 @@
 -- Rules of instructions on a stack whose top is known.
-use Rattle.std.proofs.Common.{◌≡◌, ℕ, ◌<◌, ◌≤◌, true, false, Ok, List, [], ◌∷◌, length, refl, sym, ap, ◌∙◌, arith}
-use Rattle.std.specs.Prelude.{ℤ, pos, Bool, Option, is_some, nat_le, if◌then◌else◌}
+use Rattle.std.proofs.Common.{◌≡◌, ℕ, ◌<◌, ◌≤◌, Ok, List, [], ◌∷◌, length, sym, ap, ◌∙◌}
+use Rattle.std.specs.Prelude.{ℤ, pos, Bool, Option, is_some, if◌then◌else◌}
 use Rattle.std.proofs.lemmas.List.{append-nil}
 use Rattle.rules_numbers.specs.Limits.{int_or_limit}
 use Rattle.rules_values.specs.Val.{Val, Vals, Pairs, truth, number, text, bytes, list, set, table}
@@ -12,7 +12,7 @@ use Rattle.rules_steps.specs.Changes.{burns}
 use Rattle.rules_steps.specs.Failure as why
 use Rattle.rules_steps.specs.Collections.{collection_step}
 use Rattle.rules_steps.specs.Sets.{has_element, element_count, entry_count}
-use Rattle.rules_steps.specs.Step.{Step, done, fails, kept, discarding, optional, within_limit}
+use Rattle.rules_steps.specs.Step.{done, fails, kept, discarding, optional, within_limit}
 use Rattle.rules_steps.specs.Texts.{text_step, joined}
 use Rattle.mich_collections.proofs.Sizes.{within_is, over_is}
 

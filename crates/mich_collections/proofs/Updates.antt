@@ -1,5 +1,5 @@
 -- What UPDATE and GET_AND_UPDATE find on a stack.
-use Rattle.std.proofs.Common.{rules, ◌≡◌, List, ◌∷◌, refl, ap, subst, sym, ◌∙◌}
+use Rattle.std.proofs.Common.{rules, ◌≡◌, List, ◌∷◌, ap, subst, sym}
 use Rattle.std.specs.Prelude.{Option, Some, None, option_to_list}
 use Rattle.rules_values.specs.Val.{Val, Pairs, nothing, some, table}
 use Rattle.rules_values.specs.Tables.{value_at}

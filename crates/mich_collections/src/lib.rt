@@ -12,3 +12,6 @@ mod texts;
 
 pub use collections::collection_step;
 pub use texts::text_step;
+
+#[cfg(test)]
+mod tests;

@@ -2,7 +2,7 @@
 use Rattle.std.proofs.Common.{◌≡◌, Err, List, [], ◌∷◌, refl, ap, sym, ◌∙◌}
 use Rattle.rules_values.specs.Val.{Val}
 use Rattle.rules_values.specs.Tickets.{Held}
-use Rattle.rules_steps.specs.Changes.{burnt, burns}
+use Rattle.rules_steps.specs.Changes.{burns}
 use Rattle.rules_steps.specs.Step.{Step, done}
 use Rattle.mich_stack.specs.Ends.{burnt_among, gone, IsKept, IsEnd}
 use Rattle.mich_stack.specs.Given.{IsGiven}

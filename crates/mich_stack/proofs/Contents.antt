@@ -1,5 +1,5 @@
 -- Each key and content is comparable.
-use Rattle.std.proofs.Common.{◌≡◌, true, ap, sym, ◌∙◌, subst}
+use Rattle.std.proofs.Common.{◌≡◌, true, ap, ◌∙◌, subst}
 use Rattle.std.proofs.lemmas.Bool.{and_from}
 use Rattle.rules_values.specs.Val.{Val, is_comparable}
 use Rattle.mich_term.specs.View.{datum, datum_step}

@@ -1,11 +1,10 @@
 -- Values at a depth of a stack, whose last element is on top.
-use Rattle.std.proofs.Common.{◌≡◌, ℕ, zero, suc, ◌+◌, ◌-◌, ◌≤◌, ◌<◌, List, [], ◌∷◌, ◌++◌, length, take, drop, map, reverse, insert, remove, slice_get, Option, Some, None, option_map, append_assoc, refl, sym, ap, ◌∙◌, arith}
-use Rattle.std.proofs.lemmas.List.{reverse-append, length-reverse, length-drop, length-map, map-append, take-append-drop, take_at, get_or-reverse}
-use Rattle.std.proofs.lemmas.Option.{slice_get-map, slice_get-get_or, slice_get_past}
-use Rattle.rules_values.specs.Val.{Val}
+use Rattle.std.proofs.Common.{◌≡◌, ℕ, zero, suc, ◌-◌, ◌<◌, List, [], ◌∷◌, ◌++◌, length, take, drop, map, reverse, insert, remove, slice_get, Some, option_map, append_assoc, refl, sym, ap, ◌∙◌, arith}
+use Rattle.std.proofs.lemmas.List.{reverse-append, length-reverse, length-drop, map-append, take-append-drop, take_at, get_or-reverse}
+use Rattle.std.proofs.lemmas.Option.{slice_get-map, slice_get-get_or}
 use Rattle.mich_term.specs.declared.value.Value.{Value}
 use Rattle.mich_stack.specs.Views.{Sight, seen, values}
-use Rattle.mich_stack.proofs.Tops.{reverse_take, drop_map, length_values}
+use Rattle.mich_stack.proofs.Tops.{reverse_take, drop_map}
 
 reverse_drop : (vs : List Value) (m n : ℕ) → length vs - m ≡ n → reverse (drop m vs) ≡ take n (reverse vs)
 reverse_drop vs m n e =

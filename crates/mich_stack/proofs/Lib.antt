@@ -4,4 +4,5 @@ pub mod Compared
 pub mod Contents
 pub mod Depths
 pub mod Pairs
+pub mod Standing
 pub mod Tops

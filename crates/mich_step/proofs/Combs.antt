@@ -1,7 +1,7 @@
 -- Parts of combs.
 use Rattle.std.proofs.Common.{arith, ◌≡◌, ℕ, suc, ◌+◌, true, is_some, Option, Some, None, option_map, refl, ap, sym, ◌∙◌, subst}
 use Rattle.std.proofs.lemmas.List.{append-nil}
-use Rattle.std.specs.Prelude.{◌++◌, ◌∷◌, [], List, flat_map}
+use Rattle.std.specs.Prelude.{◌++◌, ◌∷◌, [], List}
 use Rattle.rules_instructions.specs.Straight as i
 use Rattle.rules_steps.specs.Changes.{burns}
 use Rattle.rules_steps.specs.Step.{done, discarding, on_some}

@@ -1,11 +1,8 @@
 -- What is kept ends so.
-use Rattle.std.proofs.Common.{◌≡◌, Result, Ok, Err, List, [], ap, sym, ◌∙◌}
+use Rattle.std.proofs.Common.{Result, Ok, Err, List, []}
 use Rattle.rules_values.specs.Val.{Val}
-use Rattle.rules_instructions.specs.Straight as i
-use Rattle.rules_steps.specs.Changes.{burns}
-use Rattle.rules_steps.specs.Step.{Step, kept, done}
-use Rattle.rules_steps.specs.Stack.{stack_step}
-use Rattle.mich_stack.specs.Ends.{IsFitting, IsKept, IsEnd, gone}
+use Rattle.rules_steps.specs.Step.{Step}
+use Rattle.mich_stack.specs.Ends.{IsKept, IsEnd}
 use Rattle.mich_stack.specs.declared.error.StepError.{StepError}
 use Rattle.mich_stack.specs.declared.error.StepError.TheVariants.{Failed, Memory}
 use Rattle.mich_stack.proofs.Burnt.{given_ends}

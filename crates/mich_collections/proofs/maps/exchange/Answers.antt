@@ -1,10 +1,9 @@
 use Rattle.std.proofs.Common.{◌∷◌, ap, sym, subst, ◌∙◌}
 use Rattle.std.specs.Prelude.{option_map}
-use Rattle.rules_values.specs.Val.{set, table, list, truth, number}
 use Rattle.rules_steps.specs.Step.{optional}
-use Rattle.mich_term.specs.View.{datum, datums}
+use Rattle.mich_term.specs.View.{datum}
 use Rattle.mich_stack.specs.Views.{seen, values}
-use Rattle.mich_collections.specs.Seen.{vals_by, pairs_by}
+use Rattle.mich_collections.specs.Seen.{pairs_by}
 use Rattle.mich_collections.specs.Shapes.{IsExchange}
 use Rattle.mich_collections.proofs.Updates.{exchange_is}
 use Rattle.mich_collections.proofs.Opened.{map_seen}

@@ -1,9 +1,8 @@
 use Rattle.std.proofs.Common.{◌∷◌, ap, ◌∙◌}
 use Rattle.std.specs.Prelude.{pos}
-use Rattle.rules_steps.specs.Sets.{element_count, entry_count}
-use Rattle.mich_term.specs.View.{datums}
+use Rattle.rules_steps.specs.Sets.{entry_count}
 use Rattle.mich_stack.specs.Views.{seen, values}
-use Rattle.mich_collections.specs.Seen.{vals_by, pairs_by}
+use Rattle.mich_collections.specs.Seen.{pairs_by}
 use Rattle.mich_collections.proofs.Opened.{map_seen}
 use Rattle.mich_collections.proofs.Steps.{size_map_is}
 use Rattle.mich_collections.proofs.maps.size_map.Goals as goal

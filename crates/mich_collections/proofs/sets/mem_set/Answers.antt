@@ -1,10 +1,6 @@
-use Rattle.std.proofs.Common.{◌∷◌, ap, sym, ◌∙◌}
-use Rattle.std.specs.Prelude.{option_map}
-use Rattle.rules_values.specs.Val.{set, table, list, truth, number}
-use Rattle.rules_steps.specs.Step.{optional}
+use Rattle.std.proofs.Common.{◌∷◌, ap, ◌∙◌}
 use Rattle.mich_term.specs.View.{datum, datums}
-use Rattle.mich_stack.specs.Views.{seen, values}
-use Rattle.mich_collections.specs.Seen.{vals_by, pairs_by}
+use Rattle.mich_stack.specs.Views.{values}
 use Rattle.mich_collections.proofs.Steps.{mem_set_is}
 use Rattle.mich_collections.proofs.sets.mem_set.Goals as goal
 

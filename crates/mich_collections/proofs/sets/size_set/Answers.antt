@@ -1,9 +1,8 @@
 use Rattle.std.proofs.Common.{◌∷◌, ap, ◌∙◌}
 use Rattle.std.specs.Prelude.{pos}
-use Rattle.rules_steps.specs.Sets.{element_count, entry_count}
+use Rattle.rules_steps.specs.Sets.{element_count}
 use Rattle.mich_term.specs.View.{datums}
-use Rattle.mich_stack.specs.Views.{seen, values}
-use Rattle.mich_collections.specs.Seen.{vals_by, pairs_by}
+use Rattle.mich_stack.specs.Views.{values}
 use Rattle.mich_collections.proofs.Steps.{size_set_is}
 use Rattle.mich_collections.proofs.sets.size_set.Goals as goal
 

@@ -2,7 +2,7 @@ use Rattle.std.proofs.Common.{ℕ, ◌∷◌, Vec, Global, ap, sym, subst, ◌�
 use Rattle.std.specs.Prelude.{option_map}
 use Rattle.rules_values.specs.Val.{list}
 use Rattle.rules_steps.specs.Texts.{joined}
-use Rattle.mich_stack.specs.Views.{seen, values}
+use Rattle.mich_stack.specs.Views.{values}
 use Rattle.mich_collections.specs.Seen.{vals_by}
 use Rattle.mich_collections.specs.Sizes.{IsWithinSize}
 use Rattle.mich_collections.proofs.Steps.{string_list_is, string_list_over}

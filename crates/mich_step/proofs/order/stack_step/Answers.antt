@@ -1,4 +1,4 @@
-use Rattle.std.proofs.Common.{sym, subst, refl}
+use Rattle.std.proofs.Common.{sym, subst}
 use Rattle.rules_steps.specs.Stack.{stack_step}
 use Rattle.mich_overload.specs.View.{stack_row}
 use Rattle.mich_stack.specs.Ends.{IsEnd}

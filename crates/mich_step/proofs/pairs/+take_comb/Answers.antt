@@ -1,4 +1,4 @@
-use Rattle.std.proofs.Common.{rules, ◌≡◌, Some, sym, subst}
+use Rattle.std.proofs.Common.{rules, ◌≡◌, Some, subst}
 use Rattle.rules_values.specs.Val.{both}
 use Rattle.rules_steps.specs.Stack.{comb}
 use Rattle.mich_term.specs.declared.value.Value.TheVariants as value
