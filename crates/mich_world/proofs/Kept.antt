@@ -1,0 +1,63 @@
+-- What is kept stands.
+use Rattle.std.specs.Prelude.{if◌then◌else◌}
+use Rattle.std.proofs.Common.{◌≡◌, ℕ, Bool, true, false, ◌||◌, ◌&&◌, List, [], ◌∷◌, map, Some, refl, sym, ap, ◌∙◌, subst}
+use Rattle.std.specs.List.{AllByRecursion}
+use Rattle.mich_bigmap.specs.Bases.{Bases}
+use Rattle.mich_bigmap.specs.Formed.{is_there}
+use Rattle.mich_bigmap.specs.Kept.{has, kept_of, with_over, all_of, names}
+use Rattle.mich_bigmap.specs.Notes.{Notes}
+use Rattle.mich_bigmap.specs.Stored.{Stored, with_kept}
+use Rattle.mich_bigmap.specs.Ticketless.{HoldNoTickets}
+use Rattle.mich_bigmap.proofs.Kept.{has_append}
+use Rattle.mich_bigmap.proofs.Named.{kept_based}
+use Rattle.mich_world.specs.Storages.{named_in, IsStored, Stands}
+use Rattle.mich_world.specs.declared.contract.Contract.{Contract}
+
+first : (a b : Bool) → a ≡ true → (a || b) ≡ true
+first true b h = refl
+first false b h = cc
+
+second : (a b : Bool) → b ≡ true → (a || b) ≡ true
+second true b h = refl
+second false b h = h
+
+stand : (bs : Bases) (ns : List ℕ) (cs : List (List ℕ × Contract))
+    → ((k : ℕ) → has k (all_of (map named_in cs)) ≡ true → is_there bs (Some k) ≡ true → has k ns ≡ true)
+    → AllByRecursion (Stands bs (kept_of ns bs)) cs
+stand bs ns [] h = tt
+stand bs ns (c ∷ cs) h = (
+  (λ based. kept_based bs ns c.1.storage based
+      (λ k n. h k (has_append k (named_in c) (all_of (map named_in cs)) ∙ first (has k (named_in c)) (has k (all_of (map named_in cs))) n))),
+  stand bs ns cs (λ k n. h k (has_append k (named_in c) (all_of (map named_in cs)) ∙ second (has k (named_in c)) (has k (all_of (map named_in cs))) n)),
+)
+
+noted : (a b t : Bool) → b ≡ true → t ≡ true → (a || (b && t)) ≡ true
+noted true b t p q = refl
+noted false true true p q = refl
+noted false true false p q = cc
+noted false false t p q = cc
+
+-- after the storages' bases were noted
+pub all_stand : (cs : List (List ℕ × Contract)) (old mid new : Stored) → Notes (all_of (map named_in cs)) old mid → new ≡ with_kept mid
+    → AllByRecursion (Stands old.bases.present new.bases.present) cs
+all_stand cs old mid new notes e =
+    let bs = old.bases.present in
+    let kept : new.bases.present ≡ kept_of mid.noted bs = ap (λ (s : Stored). s.bases.present) e ∙ ap (λ h. kept_of mid.noted h.present) notes.bases in
+    subst (λ (x : Bases). AllByRecursion (Stands bs x) cs) (sym kept)
+    (stand bs mid.noted cs (λ k n there. notes.noted k ∙ noted (has k old.noted) (has k (all_of (map named_in cs))) (is_there bs (Some k)) n there))
+
+-- settled storages stay so
+pub stored_standing : (old new : Bases) (cs : List (List ℕ × Contract)) → AllByRecursion (Stands old new) cs → AllByRecursion (λ c. IsStored old c.1) cs → AllByRecursion (λ c. IsStored new c.1) cs
+stored_standing old new [] s h = tt
+stored_standing old new (c ∷ cs) s h = (record { settled = h.0.settled; based = (s.0 h.0.based).0 }, stored_standing old new cs s.1 h.1)
+
+ticketless : (ns : List ℕ) (bs : Bases) → HoldNoTickets bs → HoldNoTickets (kept_of ns bs)
+ticketless ns [] h = tt
+ticketless ns (b ∷ bs) h =
+    elim (has b.number ns) as (λ t. HoldNoTickets (if t then b ∷ kept_of (with_over b.over ns) bs else kept_of ns bs))
+    [ true ↦ (h.0, ticketless (with_over b.over ns) bs h.1) | false ↦ ticketless ns bs h.1 ]
+
+pub kept_ticketless : (old mid new : Stored) (ns : List ℕ) → Notes ns old mid → new ≡ with_kept mid → HoldNoTickets old.bases.present → HoldNoTickets new.bases.present
+kept_ticketless old mid new ns notes e h =
+    let kept : new.bases.present ≡ kept_of mid.noted old.bases.present = ap (λ (s : Stored). s.bases.present) e ∙ ap (λ x. kept_of mid.noted x.present) notes.bases in
+    subst HoldNoTickets (sym kept) (ticketless mid.noted old.bases.present h)

@@ -1,0 +1,10 @@
+pub mod Agreeing
+pub mod Kept
+pub mod Lengths
+pub mod Marks
+pub mod Moves
+pub mod Noting
+pub mod Replacing
+pub mod Seen
+pub mod Stored
+pub mod Sums

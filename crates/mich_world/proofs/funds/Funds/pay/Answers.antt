@@ -1,0 +1,5 @@
+use Rattle.mich_undo.proofs.Histories.{keeps_to}
+use Rattle.mich_world.proofs.funds.Funds.pay.Goals as goal
+
+pub returns-clause-keeps : goal.returns-clause-keeps
+returns-clause-keeps c = keeps_to _ _ _ c.in_ok-write.ensures.new

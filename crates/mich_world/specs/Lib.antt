@@ -1,0 +1,10 @@
+pub mod Answers
+pub mod Before
+pub mod Holders
+pub mod Journal
+pub mod Laws
+pub mod Lending
+pub mod Marks
+pub mod Standing
+pub mod Storages
+pub mod World

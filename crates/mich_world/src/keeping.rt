@@ -1,0 +1,45 @@
+// The end of all marks.
+ghost use Rattle.std.specs.Prelude.{◌≡◌, [], map};
+ghost use Rattle.std.specs.List.{AllByRecursion};
+ghost use Rattle.mich_bigmap.specs.Kept.{all_of};
+ghost use Rattle.mich_bigmap.specs.Notes.{Notes};
+ghost use Rattle.mich_bigmap.specs.Ticketless.{HoldNoTickets};
+ghost use Rattle.mich_undo.specs.History.{kept};
+ghost use Rattle.mich_world.specs.Storages.{Stands, AreStored, named_in};
+
+use crate::maps::Contracts;
+use crate::world::World;
+use mich_bigmap::Store;
+
+// Notes the bases that storages name.
+fn note_storages(store: &mut Store, contracts: &Contracts)
+    ensures { Notes (all_of (map named_in contracts.now.entries)) store.old store.new }
+{
+    'contracts: for (hash, contract) in contracts {
+        let _hash = hash;
+        store.note(&contract.storage);
+    }
+}
+
+impl World {
+    /// Ends all marks: drops the journals, and gives up each base of the store that no storage names, directly or through others; all
+    /// else stays, and storages stand for what they stood for. It takes no memory.
+    pub fn keep(&mut self)
+        ensures chain { self.new.chain ≡ self.old.chain }
+        ensures level { self.new.level ≡ self.old.level }
+        ensures moment { self.new.moment ≡ self.old.moment }
+        ensures funds { self.new.funds ≡ kept self.old.funds }
+        ensures books { self.new.ledger.books ≡ kept self.old.ledger.books }
+        ensures changes { self.new.ledger.changes ≡ self.old.ledger.changes }
+        ensures bases { self.new.store.bases.past ≡ [] }
+        ensures noted { self.new.store.noted ≡ [] }
+        ensures stands { AllByRecursion (Stands self.old.store.bases.present self.new.store.bases.present) self.old.funds.present.contracts }
+        ensures stored { AreStored self.old → AreStored self.new }
+        ensures ticketless { HoldNoTickets self.old.store.bases.present → HoldNoTickets self.new.store.bases.present }
+    {
+        note_storages(&mut self.store, self.funds.contracts());
+        self.store.keep();
+        self.ledger.keep();
+        self.funds.keep();
+    }
+}
