@@ -1,6 +1,5 @@
-// What no clause says: that the calls answer with ample memory, that undoing brings back every kind of write, and that a mark and
-// undoing to it cost little.
-use crate::{Contract, GrantError, Mark, MoveError, World};
+// What no clause says: that the calls answer with ample memory, and that a mark and undoing to it cost little.
+use crate::{Contract, GrantError, MoveError, World};
 use mich_base::{Memory, Node, Rows, Shared, Ty};
 use mich_forms::{ChainId, KeyHash, Place};
 use mich_instr::Script;
