@@ -16,3 +16,6 @@ pub mod LambdaTyping
 pub mod Within
 pub mod PushTyping
 pub mod LiteralTyping
+pub mod OriginStacks
+pub mod ScriptTyping
+pub mod CreateTyping

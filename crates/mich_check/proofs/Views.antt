@@ -12,10 +12,12 @@ use Rattle.mich_overload.specs.declared.simple.Simple.{Simple}
 use Rattle.mich_overload.specs.View.{straight}
 use Rattle.mich_instr.specs.Plain.{bare, bares}
 use Rattle.mich_instr.specs.Code as made
-use Rattle.mich_instr.specs.View.{code, codes}
+use Rattle.mich_instr.specs.View.{code, codes, script_code, storage_of}
 use Rattle.mich_instr.specs.declared.instr.Instr.{Instr}
 use Rattle.mich_instr.specs.declared.instr.Instr as instrs
 use Rattle.mich_instr.specs.declared.instr.Instr.TheVariants as instr
+use Rattle.mich_instr.specs.declared.instr.Script.{Script, out-Script}
+use Rattle.mich_instr.specs.declared.instr.Script as scripts
 
 pub tree_seq : (ns : List Node) → tree (node.Seq ns) ≡ seq (trees ns)
 tree_seq ns = search (rules, nodes.the_lemmas)
@@ -50,3 +52,9 @@ code_lambda recursive arg ret written body is = search (rules, instrs.the_lemmas
 
 pub code_push : (ty : Ty) (written literal : Node) → code (instr.Push ty written literal) ≡ made.push (kind ty) (tree written) (tree literal)
 code_push ty written literal = search (rules, instrs.the_lemmas)
+
+pub code_create : (s : Script) → code (instr.CreateContract s) ≡ made.create_contract (script_code s)
+code_create s = search (rules, instrs.the_lemmas)
+
+pub storage_kind : (s : Script) → kind (out-Script s).storage ≡ storage_of (script_code s)
+storage_kind s = search (rules, scripts.the_lemmas)

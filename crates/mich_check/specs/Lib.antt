@@ -6,3 +6,4 @@ pub mod Arrows
 pub mod Dips
 pub mod Maps
 pub mod Pending
+pub mod Scripts

@@ -6,7 +6,9 @@
 
 mod arrows;
 mod bodiless;
+mod creating;
 mod dips;
+mod ends;
 mod error;
 mod form;
 mod joining;
@@ -20,6 +22,7 @@ mod place;
 mod plain;
 mod pushes;
 mod reading;
+mod scripts;
 mod selves;
 mod shapes;
 mod stacks;
@@ -27,6 +30,7 @@ mod stacks;
 pub use error::CheckError;
 pub use lambdas::check_body;
 pub use literals::{Checked, check_literal};
+pub use scripts::check_script;
 
 #[cfg(test)]
 mod tests;

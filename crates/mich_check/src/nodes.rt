@@ -29,6 +29,7 @@ use crate::maps::{map_stacks, mapped};
 use crate::place::Place;
 use crate::pushes::push_made;
 use crate::reading::type_with;
+use crate::scripts::check_create;
 use crate::selves::check_self;
 use crate::shapes::{branch_instr, branch_stacks, loop_instr, loop_stacks};
 use mich_base::{App, Node, Nodes, Rows, Shared, Ty};
@@ -134,7 +135,7 @@ fn check_app(
         Form::Lambda => check_lambda(alloc, false, app, at, place, types),
         Form::LambdaRec => check_lambda(alloc, true, app, at, place, types),
         Form::Push => check_push(alloc, app, at, place, types),
-        Form::CreateContract => Err(CheckError::Memory),
+        Form::CreateContract => check_create(alloc, app, at, place, types),
     }
 }
 

@@ -1,6 +1,6 @@
 // What the calls give with ample memory, by texts. Locations are counted in pre-order from the body, which is 0.
 use crate::place::Place;
-use crate::{CheckError, check_body, check_literal, nodes};
+use crate::{CheckError, check_body, check_literal, check_script, nodes};
 use mich_base::{Node, Rows, Ty, size_within};
 use mich_data::Pending;
 use mich_text::read_statement;
@@ -347,5 +347,57 @@ fn literals_claim_their_contracts(rt: HostRuntime) -> Result<(), Fail> {
     let address = "0x00000000000000000000000000000000000000000000";
     assert!(rt; is_claiming(rt.alloc(), "contract unit", address, 1)?);
     assert!(rt; is_claiming(rt.alloc(), "address", address, 0)?);
+    Ok(())
+}
+
+fn script_fault(alloc: Global, text: &str) -> Result<Option<u32>, Fail> {
+    let script = node(alloc, text)?;
+    if !size_within(&script, 10_000) {
+        return Err(Fail::from("too large"));
+    }
+    fault(check_script(alloc, &script))
+}
+
+// The first script whose fault isn't where its row says.
+fn misplaced_scripts(alloc: Global, rows: &[BodyRow]) -> Result<Option<&'static str>, Fail> {
+    for (script, at) in rows {
+        if script_fault(alloc, script)? != *at {
+            return Ok(Some(script));
+        }
+    }
+    Ok(None)
+}
+
+const SCRIPTS: [BodyRow; 7] = [
+    (
+        "{ parameter unit; storage unit; code { CDR; NIL operation; PAIR } }",
+        None,
+    ),
+    (
+        "{ parameter unit; code { CDR; NIL operation; PAIR } }",
+        Some(0),
+    ),
+    ("{ parameter unit; storage unit; code { CAR } }", Some(6)),
+    (
+        "{ parameter unit; storage unit; code { CDR; NIL operation; PAIR }; view \"v\" unit nat { CAR } }",
+        Some(15),
+    ),
+    (
+        "{ parameter unit; storage unit; code { DROP; UNIT; PUSH mutez 0; NONE key_hash; CREATE_CONTRACT { parameter unit; storage unit; code { CDR; NIL operation; PAIR } }; DROP 2; UNIT; NIL operation; PAIR } }",
+        None,
+    ),
+    (
+        "{ parameter unit; storage unit; code { DROP; UNIT; PUSH mutez 0; NONE key_hash; CREATE_CONTRACT { parameter unit; storage unit; code { CAR } } } }",
+        Some(21),
+    ),
+    (
+        "{ parameter unit; storage unit; code { DROP; UNIT; PUSH mutez 0; NONE key_hash; CREATE_CONTRACT { parameter unit; storage nat; code { CDR; NIL operation; PAIR } } } }",
+        Some(14),
+    ),
+];
+
+#[test]
+fn scripts_are_checked_with_those_that_they_create(rt: HostRuntime) -> Result<(), Fail> {
+    assert_eq!(rt; misplaced_scripts(rt.alloc(), &SCRIPTS)?, None);
     Ok(())
 }

@@ -1,19 +1,19 @@
 -- What is answered to the front of a file that is longer than it may be.
 use Rattle.std.proofs.Common.{◌≡◌, ℕ, ◌≤◌, ◌<◌, inl, inr, List, ◌++◌, length, Option, Some, None, Result, Ok, Err, refl, sym, ap, subst, arith}
 use Rattle.std.proofs.lemmas.List.{append-nil}
-use Rattle.std.specs.Prelude.{IfOk}
+use Rattle.std.specs.Prelude.{IfOk, IsSome}
 use Rattle.std.specs.Io.KnownBytes.{Consumes, IsAtEnd}
 use Rattle.rules_text.specs.Fault.{file_limit}
-use Rattle.rules_replay.specs.Answers.{Answer, status_of}
+use Rattle.rules_replay.specs.Answers.{Answer, status_of, usage_answer}
 use Rattle.rules_replay.specs.Codec.{encode_node, decode_node}
-use Rattle.rules_replay.specs.Commands.{Verb, Replaying, Encoding, Decoding, IsVerbAnswer}
+use Rattle.rules_replay.specs.Commands.{Verb, Replaying, Checking, Encoding, Decoding, Command, OnFile, NoCommand, IsVerbAnswer, IsTold, IsAnswer}
 use Rattle.rules_replay.specs.Replay.{Ending, State, RefusedAt}
 use Rattle.mich_text.proofs.Limited.{split}
 use Rattle.mich_base.specs.declared.memory.Memory.{Memory}
 use Rattle.mich_replay.specs.Fronts.{IsRest, IsReadOf}
 use Rattle.mich_replay.specs.View.{answer_seen}
 use Rattle.mich_replay.specs.declared.answer.Answer.{Answer as Reply}
-use Rattle.mich_replay.proofs.Fronts.{replay_on, codec_on, replay_refused, codec_refused}
+use Rattle.mich_replay.proofs.Fronts.{replay_on, codec_on, check_on, replay_refused, codec_refused, check_refused}
 
 -- ---- what was read
 
@@ -31,6 +31,7 @@ read_past (Some content) (Some rest) read p far = (rest, p, λ h. absurd (omega 
 
 verb_on : (verb : Verb) (file more : List ℕ) (answer : Answer) → file_limit < length file → IsVerbAnswer verb file answer → IsVerbAnswer verb (file ++ more) answer
 verb_on Replaying file more answer past (done, r, e) = (done, replay_on file more past done r, e)
+verb_on Checking file more answer past p = check_on file more past answer p
 verb_on Encoding file more answer past p = codec_on file more past encode_node answer p
 verb_on Decoding file more answer past p = codec_on file more past decode_node answer p
 
@@ -45,6 +46,7 @@ not_done Replaying file answer past (done, r, e) zero = by done.ending refl wher
   by : (x : Ending) → done.ending ≡ x → ⊥
   by (State w) h = replay_refused file done w past r h
   by (RefusedAt f place) h = omega (arith, zero, ap (λ (a : Answer). a.status) e, ap status_of h)
+not_done Checking file answer past p zero = omega (arith, zero, check_refused file answer past p)
 not_done Encoding file answer past p zero = omega (arith, zero, codec_refused encode_node file answer past p)
 not_done Decoding file answer past p zero = omega (arith, zero, codec_refused decode_node file answer past p)
 
@@ -57,3 +59,18 @@ verb_done verb file answer p zero = elim (split (length file) file_limit) [
 pub exact_cut : (verb : Verb) (read : List ℕ) (r : Result Reply Memory) → IfOk r (λ a. IsVerbAnswer verb read (answer_seen a)) → IfOk r (λ a. (more : List ℕ) → IsRest read more → IsVerbAnswer verb (read ++ more) (answer_seen a))
 exact_cut verb read (Ok a) p = λ more rest. verb_cut verb read more (answer_seen a) rest p
 exact_cut verb read (Err e) p = tt
+
+-- the answer to what was read of a file is the answer of its command
+pub on_read : (command : Command) (verb : Verb) (path : List ℕ) (content : List ℕ → Option (List ℕ)) (read : List ℕ) (answer : Answer) → OnFile verb path ≡ command →
+    IsReadOf (content path) read → ((more : List ℕ) → IsRest read more → IsVerbAnswer verb (read ++ more) answer) → IsTold command content → IsAnswer command content answer
+on_read command verb path content read answer e r h = subst (λ (c : Command). IsTold c content → IsAnswer c content answer) e (λ t. by (content path) refl r t)
+  where
+    by : (o : Option (List ℕ)) → content path ≡ o → IsReadOf o read → IsSome o → IsAnswer (OnFile verb path) content answer
+    by None f r t = absurd cc
+    by (Some file) f (more, g, rest) t = (file, f, subst (λ (l : List ℕ). IsVerbAnswer verb l answer) (sym g) (h more rest))
+
+pub on_none : (command : Command) (content : List ℕ → Option (List ℕ)) (answer : Answer) → NoCommand ≡ command → answer ≡ usage_answer → IsTold command content → IsAnswer command content answer
+on_none command content answer e h = subst (λ (c : Command). IsTold c content → IsAnswer c content answer) e (λ t. h)
+
+pub at_ok : (P : Reply → Type 0) (r : Result Reply Memory) (a : Reply) → r ≡ Ok a → IfOk r P → P a
+at_ok P r a e h = subst (λ (q : Result Reply Memory). IfOk q P) e h

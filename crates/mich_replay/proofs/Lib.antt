@@ -1,3 +1,4 @@
+pub mod Wholes
 pub mod Conserved
 pub mod Entries
 pub mod Failures

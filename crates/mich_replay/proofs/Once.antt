@@ -8,8 +8,9 @@ use Rattle.rules_replay.specs.Places.{Placed, IsNodeAt, IsFaultAt, IsEndAt, AreS
 use Rattle.rules_replay.specs.Receipts.{Receipt}
 use Rattle.rules_replay.specs.Replay.{Replay, Closes, FileFault, TextFault, RefusedAt, Run, going, stopped, run_one, run_all}
 use Rattle.rules_replay.specs.Answers.{Answer, replay_answer}
-use Rattle.rules_replay.specs.Codec.{IsCodecAnswer, of_listing, encode_node, decode_node}
-use Rattle.rules_replay.specs.Commands.{Command, OnFile, NoCommand, Verb, Replaying, Encoding, Decoding, IsVerbAnswer, IsAnswer}
+use Rattle.rules_replay.specs.Codec.{of_text, IsCodecAnswer, of_listing, encode_node, decode_node}
+use Rattle.rules_replay.specs.Scripts.{check_statements, IsCheckAnswer}
+use Rattle.rules_replay.specs.Commands.{Command, OnFile, NoCommand, Verb, Replaying, Checking, Encoding, Decoding, IsVerbAnswer, IsAnswer}
 
 -- ---- what stands at a place
 
@@ -114,9 +115,16 @@ codec-one command file a b m n =
     m.2 ∙ ap (λ (ss : List Placed). of_listing command (length file) (record { statements = ss; fault = m.0.fault })) same.statements
     ∙ ap (λ (f : Option (TextKind × ℕ)). of_listing command (length file) (record { statements = n.0.statements; fault = f })) same.fault ∙ sym n.2
 
+check-one : (file : List ℕ) (a b : Answer) → IsCheckAnswer file a → IsCheckAnswer file b → a ≡ b
+check-one file a b m n =
+    let same = listings-one file 0 m.0.statements n.0.statements m.1.0 n.1.0 m.0.fault n.0.fault m.1.1 n.1.1 m.1.2 n.1.2 in
+    m.2 ∙ ap (λ (ss : List Placed). of_text m.0.fault (check_statements ss)) same.statements
+    ∙ ap (λ (f : Option (TextKind × ℕ)). of_text f (check_statements n.0.statements)) same.fault ∙ sym n.2
+
 verbs-one : (verb : Verb) (file : List ℕ) (a b : Answer) → IsVerbAnswer verb file a → IsVerbAnswer verb file b → a ≡ b
 verbs-one Replaying file a b m n =
     m.2 ∙ ap replay_answer (replays-one file 0 (going [] None) m.0 n.0 m.1.statements n.1.statements m.1.to n.1.to m.1.stand n.1.stand m.1.closes n.1.closes) ∙ sym n.2
+verbs-one Checking file a b m n = check-one file a b m n
 verbs-one Encoding file a b m n = codec-one encode_node file a b m n
 verbs-one Decoding file a b m n = codec-one decode_node file a b m n
 

@@ -27,6 +27,7 @@ use Rattle.mich_replay.specs.declared.answer.Answer.{Answer as Reply}
 
 abbrev pub verb_seen : Verb → commands.Verb
 verb_seen verbs.Replay = commands.Replaying
+verb_seen verbs.Check = commands.Checking
 verb_seen verbs.Encode = commands.Encoding
 verb_seen verbs.Decode = commands.Decoding
 

@@ -8,6 +8,7 @@ ghost use Rattle.rules_replay.specs.Answers.{done_with, refused_with, misplaced,
 ghost use Rattle.rules_replay.specs.Commands.{IsVerbAnswer, IsTold, IsAnswer, command_of, file_of, IsOwn};
 ghost use Rattle.mich_replay.specs.View.{verb_seen, answer_seen, IsDoneOrRefused};
 
+use crate::checking::answer_check;
 use crate::codec::{Codec, answer_codec};
 use crate::command::{Command, Verb, read_words};
 use crate::lines::{as_text, file_fault_name, refusal_line, usage_line};
@@ -66,6 +67,7 @@ fn answer_file(alloc: Global, verb: Verb, file: &[u8]) -> Result<Answer, Memory>
 {
     match verb {
         Verb::Replay => replay(alloc, file),
+        Verb::Check => answer_check(alloc, file),
         Verb::Encode => answer_codec(alloc, Codec::Encode, file),
         Verb::Decode => answer_codec(alloc, Codec::Decode, file),
     }

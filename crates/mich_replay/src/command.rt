@@ -11,6 +11,7 @@ use std::str;
 #[derive(Clone, Copy)]
 pub enum Verb {
     Replay,
+    Check,
     Encode,
     Decode,
 }
@@ -37,6 +38,8 @@ fn verb_of(word: &[u8]) -> Option<Verb>
 {
     if word == b"replay".as_slice() {
         Some(Verb::Replay)
+    } else if word == b"check".as_slice() {
+        Some(Verb::Check)
     } else if word == b"encode".as_slice() {
         Some(Verb::Encode)
     } else if word == b"decode".as_slice() {

@@ -5,6 +5,7 @@ ghost use Rattle.rules_text.specs.Fault.{file_limit};
 ghost use Rattle.rules_replay.specs.Answers.{Answer};
 ghost use Rattle.rules_replay.specs.Codec.{IsCodecAnswer};
 ghost use Rattle.rules_replay.specs.Replay.{Replay, State, IsReplay};
+ghost use Rattle.rules_replay.specs.Scripts.{IsCheckAnswer};
 ghost use Rattle.rules_replay.specs.World.{World};
 ghost use Rattle.mich_replay.specs.Laws.{ConservesMutez, RefusalChangesNothing, FailureTakesFeeAlone};
 
@@ -26,6 +27,8 @@ pub fn long_files_are_decided_by_their_fronts()
     ensures refused { (file : List ℕ) (done : Replay) (w : World) → file_limit < length file → IsReplay file done → done.ending ≡ State w → ⊥ }
     ensures codec { (command : Tree → Option Answer) (file more : List ℕ) (answer : Answer) → file_limit < length file
         → IsCodecAnswer command file answer → IsCodecAnswer command (file ++ more) answer }
+    ensures check { (file more : List ℕ) (answer : Answer) → file_limit < length file → IsCheckAnswer file answer → IsCheckAnswer (file ++ more) answer }
     ensures status { (command : Tree → Option Answer) (file : List ℕ) (answer : Answer) → file_limit < length file
         → IsCodecAnswer command file answer → answer.status ≡ 2 }
+    ensures check_status { (file : List ℕ) (answer : Answer) → file_limit < length file → IsCheckAnswer file answer → answer.status ≡ 2 }
 {}

@@ -2,6 +2,7 @@
 #![tactic(auto)]
 
 mod answer;
+mod checking;
 mod codec;
 mod command;
 mod failing;

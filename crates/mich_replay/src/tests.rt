@@ -488,6 +488,23 @@ fn nodes_at_the_limits(rt: HostRuntime) -> Result<(), Fail> {
     Ok(())
 }
 
+// What is no text is refused before the script is typed.
+#[test]
+fn files_without_a_text_are_not_checked(rt: HostRuntime) -> Result<(), Fail> {
+    let rows = [
+        ("parameter unit; \"ab", "Refused Unclosed 19\n"),
+        ("parameter unit; foo; )", "Refused Unexpected 21\n"),
+        ("{ parameter unit", "Refused Unclosed 16\n"),
+    ];
+    for (file, written) in rows {
+        assert!(rt;
+            is_answered(rt.alloc(), "check", file, 2, written)?,
+            "{file}"
+        );
+    }
+    Ok(())
+}
+
 #[test]
 fn no_command(rt: HostRuntime) -> Result<(), Fail> {
     let alloc = rt.alloc();

@@ -5,10 +5,12 @@ use Rattle.std.specs.Str.{bytes_eq, is_utf8}
 use Rattle.rules_replay.specs.Replay.{Replay, IsReplay}
 use Rattle.rules_replay.specs.Answers.{Answer, replay_answer, usage_answer}
 use Rattle.rules_replay.specs.Codec.{IsCodecAnswer, encode_node, decode_node}
+use Rattle.rules_replay.specs.Scripts.{IsCheckAnswer}
 
 -- the commands that take a file
 pub data Verb : Type 0 where
   Replaying : Verb
+  Checking : Verb
   Encoding : Verb
   Decoding : Verb
 
@@ -24,6 +26,7 @@ is_path word = is_utf8 word && not (slice_index word 0 == 45)
 abbrev pub verb_of : List ℕ → Option Verb
 verb_of word =
     if bytes_eq word (codes "replay") then Some Replaying
+    else if bytes_eq word (codes "check") then Some Checking
     else if bytes_eq word (codes "encode") then Some Encoding
     else if bytes_eq word (codes "decode") then Some Decoding
     else None
@@ -48,6 +51,7 @@ file_of NoCommand = None
 -- the answer to the bytes of a file
 abbrev pub IsVerbAnswer : Verb → List ℕ → Answer → Type 0
 IsVerbAnswer Replaying file answer = (done : Replay) × IsReplay file done × (answer ≡ replay_answer done)
+IsVerbAnswer Checking file answer = IsCheckAnswer file answer
 IsVerbAnswer Encoding file answer = IsCodecAnswer encode_node file answer
 IsVerbAnswer Decoding file answer = IsCodecAnswer decode_node file answer
 

@@ -6,5 +6,7 @@ pub mod Replay
 pub mod Lines
 pub mod Answers
 pub mod Codec
+pub mod Nodes
+pub mod Scripts
 pub mod Commands
 pub mod Promise
