@@ -63,14 +63,14 @@ exact_cut verb read (Err e) p = tt
 -- the answer to what was read of a file is the answer of its command
 pub on_read : (command : Command) (verb : Verb) (path : List ℕ) (content : List ℕ → Option (List ℕ)) (read : List ℕ) (answer : Answer) → OnFile verb path ≡ command →
     IsReadOf (content path) read → ((more : List ℕ) → IsRest read more → IsVerbAnswer verb (read ++ more) answer) → IsTold command content → IsAnswer command content answer
-on_read command verb path content read answer e r h = subst (λ (c : Command). IsTold c content → IsAnswer c content answer) e (λ t. by (content path) refl r t)
+on_read _ verb path content read answer e r h = subst (λ (c : Command). IsTold c content → IsAnswer c content answer) e (λ t. by (content path) refl r t)
   where
     by : (o : Option (List ℕ)) → content path ≡ o → IsReadOf o read → IsSome o → IsAnswer (OnFile verb path) content answer
     by None f r t = absurd cc
     by (Some file) f (more, g, rest) t = (file, f, subst (λ (l : List ℕ). IsVerbAnswer verb l answer) (sym g) (h more rest))
 
 pub on_none : (command : Command) (content : List ℕ → Option (List ℕ)) (answer : Answer) → NoCommand ≡ command → answer ≡ usage_answer → IsTold command content → IsAnswer command content answer
-on_none command content answer e h = subst (λ (c : Command). IsTold c content → IsAnswer c content answer) e (λ t. h)
+on_none _ content answer e h = subst (λ (c : Command). IsTold c content → IsAnswer c content answer) e (λ t. h)
 
 pub at_ok : (P : Reply → Type 0) (r : Result Reply Memory) (a : Reply) → r ≡ Ok a → IfOk r P → P a
 at_ok P r a e h = subst (λ (q : Result Reply Memory). IfOk q P) e h
