@@ -29,7 +29,7 @@ mod stacks;
 
 pub use error::CheckError;
 pub use lambdas::check_body;
-pub use literals::{Checked, check_literal};
+pub use literals::{Checked, check_literal, check_literal_at};
 pub use scripts::check_script;
 
 #[cfg(test)]

@@ -8,5 +8,6 @@ pub mod Answers
 pub mod Codec
 pub mod Nodes
 pub mod Scripts
+pub mod Packs
 pub mod Commands
 pub mod Promise
