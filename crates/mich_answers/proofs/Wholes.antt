@@ -8,15 +8,12 @@ use Rattle.rules_instructions.specs.Arguments.{Found, found, fault}
 use Rattle.rules_typing.specs.Scripts.{Script}
 use Rattle.rules_typing.specs.Nodes.{script}
 use Rattle.rules_replay.specs.Answers.{Answer, done_with}
-use Rattle.rules_replay.specs.Codec.{node_line, of_text}
-use Rattle.rules_replay.specs.Nodes.{word}
+use Rattle.rules_replay.specs.Codec.{of_text}
+use Rattle.rules_lines.specs.Nodes.{line, word}
 use Rattle.rules_replay.specs.Places.{Placed, IsNodeAt, IsEndAt, IsFaultAt}
 use Rattle.rules_replay.specs.Scripts.{script_of, checking_answer, check_statements, IsCheckAnswer}
 use Rattle.mich_base.specs.View.{tree, trees}
-use Rattle.mich_base.specs.declared.node.App.{App}
 use Rattle.mich_base.specs.declared.node.Node.{Node}
-use Rattle.mich_base.specs.declared.node.Node as nodes
-use Rattle.mich_base.specs.declared.node.Node.TheVariants.{Prim}
 use Rattle.mich_instr.specs.Code.{ScriptCode}
 use Rattle.mich_instr.specs.Typed.{IsScript, is_script}
 use Rattle.mich_base.specs.declared.memory.Memory.{Memory}
@@ -135,14 +132,11 @@ whole_answer file l answer h e = (
       ∙ ap (λ (f : Option (TextKind × ℕ)). of_text f (check_statements h.found.statements)) h.fault_is,
 )
 
-pub tree_prim : (a : App) → tree (Prim a) ≡ prim a.name a.annots (trees a.args)
-tree_prim a = search (rules, nodes.the_lemmas)
-
 -- a typed script is accepted
 pub accepted : (t : Tree) (c : ScriptCode) → IsScript t c → (a : Script) × (script t ≡ found a)
 accepted t c (is_script e code views) = (_, e)
 
-pub well_answer : (r : Result Reply Memory) (t : Tree) → (a : Script) × (script t ≡ found a) → IfOk r (λ x. answer_seen x ≡ done_with (node_line (word (codes "WellTyped")))) →
+pub well_answer : (r : Result Reply Memory) (t : Tree) → (a : Script) × (script t ≡ found a) → IfOk r (λ x. answer_seen x ≡ done_with (line (word (codes "WellTyped")))) →
     IfOk r (λ x. answer_seen x ≡ checking_answer (script t))
 well_answer (Ok x) t (a, e) h = h ∙ sym (ap checking_answer e)
 well_answer (Err x) t (a, e) h = tt

@@ -1,9 +1,9 @@
 // A file whose script is typed.
 ghost use Rattle.std.specs.Prelude.{◌≡◌, ◌<◌, ◌≤◌, ◌^◌, ◌+◌, [], IfOk, length, map, codes};
-ghost use Rattle.rules_base.specs.Tree.{size, sizes, trees_of, prim};
-ghost use Rattle.rules_replay.specs.Codec.{node_line, of_text};
+ghost use Rattle.rules_base.specs.Tree.{size, sizes, trees_of};
+ghost use Rattle.rules_replay.specs.Codec.{of_text};
 ghost use Rattle.rules_replay.specs.Answers.{done_with};
-ghost use Rattle.rules_replay.specs.Nodes.{word};
+ghost use Rattle.rules_lines.specs.Nodes.{line, word};
 ghost use Rattle.rules_replay.specs.Scripts.{IsCheckAnswer, checking_answer, script_of};
 ghost use Rattle.rules_instructions.specs.Arguments.{fault};
 ghost use Rattle.rules_typing.specs.Nodes.{script};
@@ -12,10 +12,12 @@ ghost use Rattle.mich_answers.specs.Checked.{IsWhole, is_one_sequence};
 ghost use Rattle.mich_answers.specs.View.{answer_seen, IsDoneOrRefused};
 
 use crate::answer::{Answer, done, refused};
-use crate::lines::{node_line, text_kind_name};
+use crate::lines::text_kind_name;
 use crate::statements::{Next, read_next};
-use mich_base::{App, Memory, Node, Nodes, Text, Texts};
+use mich_base::{Memory, Node, Nodes, Texts};
 use mich_check::{CheckError, check_script};
+use mich_report::node_line;
+use mich_types::{bare, over_one};
 use rules_text::TextKind;
 use std::alloc::Global;
 
@@ -73,28 +75,18 @@ fn is_one_sequence(nodes: &Nodes) -> bool
     }
 }
 
-// A name with arguments.
-fn over(alloc: Global, name: &str, args: Nodes) -> Result<Node, Memory>
-    ensures { IfOk result (λ n. tree n ≡ prim name.now [] (trees args)) }
-{
-    let name = Text::from_slice(alloc, name.as_bytes())?;
-    let annots = Texts::new(alloc);
-    Ok(Node::Prim(App { name, annots, args }))
-}
-
 fn well_typed(alloc: Global) -> Result<Answer, Memory>
-    ensures { IfOk result (λ a. answer_seen a ≡ done_with (node_line (word (codes "WellTyped")))) }
+    ensures { IfOk result (λ a. answer_seen a ≡ done_with (line (word (codes "WellTyped")))) }
 {
-    let node = over(alloc, "WellTyped", Nodes::new(alloc))?;
+    let node = bare(alloc, b"WellTyped")?;
     done(alloc, node_line(alloc, &node)?)
 }
 
 fn ill_typed(alloc: Global, location: u32) -> Result<Answer, Memory>
     ensures { IfOk result (λ a. answer_seen a ≡ checking_answer (fault location)) }
 {
-    let mut args = Nodes::new(alloc);
-    args.push(Node::Int(i128::from(location)))?;
-    let node = over(alloc, "IllTyped", args)?;
+    let location = Node::Int(i128::from(location));
+    let node = over_one(alloc, b"IllTyped", location)?;
     let mut lines = Texts::new(alloc);
     lines.push(node_line(alloc, &node)?)?;
     Ok(Answer { status: 2, lines })

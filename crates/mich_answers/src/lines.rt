@@ -1,11 +1,9 @@
 // The lines that are written.
 ghost use Rattle.std.specs.Prelude.{◌≡◌, ◌++◌, ◌∷◌, [], IfOk, string_bytes, codes};
 ghost use Rattle.rules_replay.specs.Lines.{refusal_line, text_kind_name};
-ghost use Rattle.rules_replay.specs.Codec.{decode_kind_name, bytes_line, node_line};
-ghost use Rattle.mich_base.specs.View.{tree};
+ghost use Rattle.rules_replay.specs.Codec.{decode_kind_name, bytes_line};
 
-use mich_base::{Memory, Node, Text};
-use mich_text::print;
+use mich_base::Text;
 use rules_binary::DecodeKind;
 use rules_text::TextKind;
 use std::alloc::{AllocError, Global};
@@ -56,16 +54,6 @@ pub fn bytes_line(alloc: Global, bytes: &[u8]) -> Result<String, AllocError>
     let digits = hex::encode(alloc, bytes)?;
     let digits = digits.as_str();
     format!(in alloc; "0x{digits}\n")
-}
-
-/// The line of a node.
-pub fn node_line(alloc: Global, node: &Node) -> Result<Text, Memory>
-    ensures { IfOk result (λ line. line ≡ node_line (tree node.now)) }
-{
-    let text = print(alloc, node)?;
-    let mut line = text.as_slice().to_vec(alloc)?;
-    line.push(b'\n')?;
-    Ok(Text::from_vec(line))
 }
 
 /// A line as its bytes.
