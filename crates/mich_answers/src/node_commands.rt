@@ -66,7 +66,12 @@ fn node_answer(alloc: Global, command: NodeCommand, node: &Node) -> Result<Optio
 }
 
 // The answer to what a file of so many bytes lists.
-fn answer_listed(alloc: Global, command: NodeCommand, listed: &Listed, size: u64) -> Result<Answer, Memory>
+fn answer_listed(
+    alloc: Global,
+    command: NodeCommand,
+    listed: &Listed,
+    size: u64,
+) -> Result<Answer, Memory>
     requires { IsSmall (2 ^ 32 - 1) listed.now.first }
     ensures { IfOk result (λ a. answer_seen a ≡ of_text listed.now.fault (of_kept (node_answer command) size listed.now.first listed.now.second)) }
 {

@@ -1,5 +1,8 @@
 // Each call with ample memory.
-use crate::{Answer, NodeCommand, Next, answer_check, answer_node, as_text, misplaced, read_next, refusal_line};
+use crate::{
+    Answer, Next, NodeCommand, answer_check, answer_node, as_text, misplaced, read_next,
+    refusal_line,
+};
 use mich_base::Memory;
 use std::alloc::Global;
 use std::test::Fail;

@@ -11,8 +11,8 @@ ghost use Rattle.mich_forms.specs.Spelled.{place_bytes};
 ghost use Rattle.mich_replay.specs.View.{group_fault_seen, failure_seen, verdict_seen, file_fault_seen};
 
 use crate::outcome::{Failure, FileFault, GroupFault, Verdict};
-use mich_forms::{KeyHash, Place};
 use mich_answers::text_kind_name;
+use mich_forms::{KeyHash, Place};
 use mich_transfers::{Action, Group};
 use std::alloc::{AllocError, Global};
 

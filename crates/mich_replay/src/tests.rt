@@ -470,10 +470,7 @@ static UNPACKABLE: [(&str, &str); 15] = [
     ("Pack operation 1", "Refused IllTyped 1\n"),
     ("Pack foo 1", "Refused IllTyped 1\n"),
     ("Pack (list foo) {}", "Refused IllTyped 2\n"),
-    (
-        "Pack (pair int int) (Pair 1 \"a\")",
-        "Refused IllTyped 6\n",
-    ),
+    ("Pack (pair int int) (Pair 1 \"a\")", "Refused IllTyped 6\n"),
     (
         "Pack (contract unit) 0x01000000000000000000000000000000000000000000",
         "Refused IllTyped 3\n",
@@ -482,10 +479,7 @@ static UNPACKABLE: [(&str, &str); 15] = [
         "Pack (lambda unit unit) { FAILWITH ; UNIT }",
         "Refused IllTyped 5\n",
     ),
-    (
-        "Pack (lambda unit unit) { DROP }",
-        "Refused IllTyped 4\n",
-    ),
+    ("Pack (lambda unit unit) { DROP }", "Refused IllTyped 4\n"),
     ("Pack int", "Refused BadStatement 0\n"),
     ("Pack int 1 2", "Refused BadStatement 0\n"),
     ("Pack %a int 1", "Refused BadStatement 0\n"),

@@ -67,7 +67,10 @@ fn refusals(rt: HostRuntime) -> Result<(), Fail> {
         (GroupFault::GasTooHigh, "Group 3 (Refused GasTooHigh)"),
         (GroupFault::FeeTooHigh, "Group 3 (Refused FeeTooHigh)"),
     ] {
-        assert!(rt; is_line(alloc, 3, &GroupReceipt::Refused(fault), line)?, "{line}");
+        assert!(rt;
+            is_line(alloc, 3, &GroupReceipt::Refused(fault), line)?,
+            "{line}"
+        );
     }
     Ok(())
 }
@@ -84,7 +87,9 @@ fn a_transfer_that_mints(rt: HostRuntime) -> Result<(), Fail> {
     };
     let effect = Effect::Transfer(account(), to, 0, unit(alloc)?, changes);
     let receipt = applied(alloc, 31, effect)?;
-    let line = format!(in alloc; "Group 2 {{ Applied 31 {{ Transfer {ACCOUNT} {CONTRACT}6d696e74 0 Unit {{ Minted {CONTRACT} nat 7 5 ; Burnt {CONTRACT} nat 7 3 }} }} }}")?;
+    let line = format!(in alloc;
+        "Group 2 {{ Applied 31 {{ Transfer {ACCOUNT} {CONTRACT}6d696e74 0 Unit {{ Minted {CONTRACT} nat 7 5 ; Burnt {CONTRACT} nat 7 3 }} }} }}"
+    )?;
     assert!(rt; is_line(alloc, 2, &receipt, line.as_str())?, "{line}");
     Ok(())
 }
@@ -97,9 +102,19 @@ fn a_gift(rt: HostRuntime) -> Result<(), Fail> {
         entrypoint: Entrypoint::read(b"default").ok_or("no name")?,
     };
     let ty = bare(alloc, b"nat")?;
-    let effect = Effect::Give(account(), to, contract(), ty, Node::Int(7), 2, Rows::new(alloc));
+    let effect = Effect::Give(
+        account(),
+        to,
+        contract(),
+        ty,
+        Node::Int(7),
+        2,
+        Rows::new(alloc),
+    );
     let receipt = applied(alloc, 1, effect)?;
-    let line = format!(in alloc; "Group 3 {{ Applied 1 {{ Give {ACCOUNT} {ACCOUNT} {CONTRACT} nat 7 2 {{}} }} }}")?;
+    let line = format!(in alloc;
+        "Group 3 {{ Applied 1 {{ Give {ACCOUNT} {ACCOUNT} {CONTRACT} nat 7 2 {{}} }} }}"
+    )?;
     assert!(rt; is_line(alloc, 3, &receipt, line.as_str())?, "{line}");
     Ok(())
 }
@@ -108,12 +123,16 @@ fn a_gift(rt: HostRuntime) -> Result<(), Fail> {
 fn an_origination_and_an_event(rt: HostRuntime) -> Result<(), Fail> {
     let alloc = rt.alloc();
     let receipt = applied(alloc, 1, Effect::Origination(account(), contract(), 5))?;
-    let line = format!(in alloc; "Group 1 {{ Applied 1 {{ Origination {ACCOUNT} {CONTRACT} 5 }} }}")?;
+    let line = format!(in alloc;
+        "Group 1 {{ Applied 1 {{ Origination {ACCOUNT} {CONTRACT} 5 }} }}"
+    )?;
     assert!(rt; is_line(alloc, 1, &receipt, line.as_str())?, "{line}");
     let ty = bare(alloc, b"unit")?;
     let tag = Text::from_slice(alloc, b"c")?;
     let receipt = applied(alloc, 28, Effect::Event(contract(), tag, ty, unit(alloc)?))?;
-    let line = format!(in alloc; "Group 2 {{ Applied 28 {{ Event {CONTRACT} \"c\" unit Unit }} }}")?;
+    let line = format!(in alloc;
+        "Group 2 {{ Applied 28 {{ Event {CONTRACT} \"c\" unit Unit }} }}"
+    )?;
     assert!(rt; is_line(alloc, 2, &receipt, line.as_str())?, "{line}");
     Ok(())
 }
@@ -139,8 +158,14 @@ fn failures_with_their_fields(rt: HostRuntime) -> Result<(), Fail> {
     assert!(rt; is_line(alloc, 4, &receipt, line)?);
     for (why, line) in [
         (Failure::IllTyped(7), "Group 4 { Failed 0 (IllTyped 7) }"),
-        (Failure::BadStorage(8), "Group 4 { Failed 0 (BadStorage 8) }"),
-        (Failure::BadParameter(9), "Group 4 { Failed 0 (BadParameter 9) }"),
+        (
+            Failure::BadStorage(8),
+            "Group 4 { Failed 0 (BadStorage 8) }",
+        ),
+        (
+            Failure::BadParameter(9),
+            "Group 4 { Failed 0 (BadParameter 9) }",
+        ),
     ] {
         let receipt = done(alloc, Status::Failed(0, why))?;
         assert!(rt; is_line(alloc, 4, &receipt, line)?, "{line}");

@@ -127,7 +127,9 @@ fn misread<'a>(alloc: Global, texts: &[&'a str]) -> Result<Option<&'a str>, Memo
 
 // A group with this content.
 fn grouped(alloc: Global, content: &str) -> Result<String, Memory> {
-    let text = format!(in alloc; "Group 0x000000000000000000000000000000000000000001 {{ {content} }}")?;
+    let text = format!(in alloc;
+        "Group 0x000000000000000000000000000000000000000001 {{ {content} }}"
+    )?;
     Ok(text)
 }
 
@@ -164,7 +166,10 @@ fn other_nodes_are_no_statements(rt: HostRuntime) -> Result<(), Fail> {
 fn other_nodes_are_no_contents(rt: HostRuntime) -> Result<(), Fail> {
     let alloc = rt.alloc();
     assert_eq!(rt; misgrouped(alloc, NO_CALLS.as_slice())?, None);
-    assert_eq!(rt; misgrouped(alloc, NO_ORIGINATIONS_OR_GIFTS.as_slice())?, None);
+    assert_eq!(rt;
+        misgrouped(alloc, NO_ORIGINATIONS_OR_GIFTS.as_slice())?,
+        None
+    );
     Ok(())
 }
 
@@ -179,7 +184,12 @@ fn chains_blocks_and_accounts(rt: HostRuntime) -> Result<(), Fail> {
         alloc,
         "Account 0x030000000000000000000000000000000000000001 9223372036854775807",
     )?;
-    assert!(rt; matches!(found, Some(Statement::Account(_, 9_223_372_036_854_775_807))));
+    assert!(rt;
+        matches!(
+            found,
+            Some(Statement::Account(_, 9_223_372_036_854_775_807))
+        )
+    );
     Ok(())
 }
 
@@ -220,7 +230,8 @@ fn a_call(rt: HostRuntime) -> Result<(), Fail> {
 
 #[test]
 fn an_origination_and_a_gift(rt: HostRuntime) -> Result<(), Fail> {
-    let contents = "Originate 0 1 5 { code {} } 7 ; Give 0 10 0x01000000000000000100000000000000000000000000 nat \"x\" 2 0x00020000000000000000000000000000000000000002 \"default\"";
+    let contents =
+        "Originate 0 1 5 { code {} } 7 ; Give 0 10 0x01000000000000000100000000000000000000000000 nat \"x\" 2 0x00020000000000000000000000000000000000000002 \"default\"";
     let group = group_of(rt.alloc(), contents)?.ok_or("no group")?;
     let Some((first, second)) = group.contents.both() else {
         return Err("another count".into());
