@@ -4,8 +4,10 @@ use Rattle.rules_base.specs.Tree.{Tree, int, str, bytes, prim, seq}
 use Rattle.rules_world.specs.Contents as rules
 use Rattle.rules_statements.specs.Statements as statements
 use Rattle.mich_base.specs.View.{tree}
+use Rattle.mich_forms.specs.Spelled.{place_bytes}
 use Rattle.mich_ops.specs.View.{content}
 use Rattle.mich_ops.specs.declared.group.Content.{Content}
+use Rattle.mich_scenario.specs.declared.actions.Gift.{Gift}
 use Rattle.mich_scenario.specs.declared.error.FormError.{FormError}
 use Rattle.mich_scenario.specs.declared.error.FormError.TheVariants as error
 use Rattle.mich_scenario.specs.declared.statement.Statement.{Statement}
@@ -21,6 +23,10 @@ said (code.Costs table) = statements.Costs (tree table)
 said (code.Account key_hash mutez) = statements.Account key_hash mutez
 said (code.Block level moment) = statements.Block level moment
 said (code.Group g) = statements.Group g.source (contents_said g.contents)
+
+-- the action that a gift is, of this type and content
+abbrev pub given : Tree → Tree → Gift → rules.Action
+given kind content g = rules.Give (place_bytes g.issuer) kind content g.amount (place_bytes g.to) g.entry
 
 -- what was read, seen so, is what a node says; or it says nothing
 abbrev pub IsForm : {X Y : Type 0} → (X → Y) → Option Y → Result X FormError → Type 0

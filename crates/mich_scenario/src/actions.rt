@@ -1,11 +1,15 @@
 // What a content does.
-ghost use Rattle.std.specs.Prelude.{◌≡◌, option_map};
+ghost use Rattle.std.specs.Prelude.{◌≡◌, ◌∷◌, [], option_map};
+ghost use Rattle.rules_base.specs.Tree.{Tree};
 ghost use Rattle.rules_statements.specs.Statements.{action_by, call_of, give_of, nodes_of, originate_of};
-ghost use Rattle.mich_base.specs.View.{trees};
+ghost use Rattle.mich_base.specs.View.{tree, trees};
 ghost use Rattle.mich_ops.specs.View.{action};
+ghost use Rattle.mich_scenario.specs.View.{given};
 
-use crate::fields::{entrypoint, issuer, number, place, ticket_amount};
+use crate::fields::{contract_place, entrypoint, number, place, ticket_amount};
 use crate::left::Fields;
+use mich_base::Node;
+use mich_forms::{Entrypoint, Place};
 use mich_ops::Action;
 
 /// The largest amount of mutez.
@@ -53,6 +57,30 @@ fn call(fields: Fields) -> Option<Action>
     })
 }
 
+/// What is given beside the type and the content, and to whom.
+#[derive(Debug, Drop)]
+pub struct Gift {
+    pub issuer: Place,
+    pub amount: i128,
+    pub to: Place,
+    pub entry: Entrypoint,
+}
+
+fn read_gift(issuer: &Node, amount: &Node, to: &Node, entry: &Node) -> Option<Gift>
+    ensures { (kind content : Tree) → option_map (λ g. given kind content g) result ≡ give_of (tree issuer.now ∷ kind ∷ content ∷ tree amount.now ∷ tree to.now ∷ tree entry.now ∷ []) }
+{
+    let issuer = contract_place(issuer)?;
+    let amount = ticket_amount(amount)?;
+    let to = place(to)?;
+    let entry = entrypoint(entry)?;
+    Some(Gift {
+        issuer,
+        amount,
+        to,
+        entry,
+    })
+}
+
 // issuer type content amount destination "entrypoint"
 fn give(fields: Fields) -> Option<Action>
     ensures { option_map action result ≡ give_of (nodes_of (trees fields)) }
@@ -67,17 +95,14 @@ fn give(fields: Fields) -> Option<Action>
     if !fields.is_done() {
         return None;
     }
-    let issuer = issuer(&from)?;
-    let amount = ticket_amount(&amount)?;
-    let to = place(&to)?;
-    let entry = entrypoint(&entry)?;
+    let gift = read_gift(&from, &amount, &to, &entry)?;
     Some(Action::Give {
-        issuer,
+        issuer: gift.issuer,
         ty,
         content,
-        amount,
-        to,
-        entry,
+        amount: gift.amount,
+        to: gift.to,
+        entry: gift.entry,
     })
 }
 

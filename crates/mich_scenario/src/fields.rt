@@ -81,7 +81,7 @@ pub(crate) fn place(node: &Node) -> Option<Place>
 }
 
 // The place of a contract.
-pub(crate) fn issuer(node: &Node) -> Option<Place>
+pub(crate) fn contract_place(node: &Node) -> Option<Place>
     ensures { option_map place_bytes result ≡ bytes_of is_contract (tree node.now) }
 {
     match place(node) {

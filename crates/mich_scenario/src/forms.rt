@@ -109,6 +109,7 @@ fn one_content(node: Node) -> Option<Content>
 }
 
 // The contents that nodes are, in order.
+#[tactic(auto, using(crate::proofs::Each::one_more, crate::proofs::Each::none_more, crate::proofs::Each::all_read, crate::proofs::Each::none_read))]
 fn each_content(alloc: Global, nodes: Nodes) -> Result<Rows<Content>, FormError>
     ensures { IsForm contents_said (each_content (nodes_of (trees nodes))) result }
 {

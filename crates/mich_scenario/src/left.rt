@@ -13,9 +13,13 @@ pub(crate) struct Fields {
 
 impl Model for Fields {
     ghost use Rattle.std.specs.Prelude.{List};
+    ghost use Rattle.std.specs.Coded.{coded_list};
     ghost use Rattle.mich_base.specs.declared.node.Node.{Node};
+    ghost use Rattle.mich_base.specs.contracts.node.Node as node;
 
     ghost Value = { List Node };
+
+    ghost coded = { coded_list node.the_row.coded };
 
     ghost view = { λ f. f.nodes.items };
 }
