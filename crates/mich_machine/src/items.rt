@@ -6,7 +6,7 @@ ghost use Rattle.mich_frames.specs.Shapes.{HasItems, items_in};
 ghost use Rattle.mich_machine.specs.Items.{items_left, IsNotEmpty};
 
 use mich_base::{Memory, Rows};
-use mich_term::{Datum, Value};
+use mich_term::{Chain, Datum, Value};
 use std::alloc::Global;
 
 // The items that are left, the next one last.
@@ -18,12 +18,10 @@ pub(crate) enum Items {
 }
 
 // The values of a list, the first one last.
-fn values_of(list: Rows<Value>) -> Rows<Value>
+fn values_of(list: Chain<Value>) -> Rows<Value>
     ensures { result ≡ reverse list }
 {
-    let mut values = list.into_vec();
-    values.reverse();
-    Rows::from_vec(values)
+    Rows::from_vec(list.into_reversed())
 }
 
 // The items of a list, a set or a map.
