@@ -1,3 +1,6 @@
 pub mod Combs
 pub mod Ended
 pub mod Gone
+pub mod Ledgers
+pub mod Minting
+pub mod Splitting

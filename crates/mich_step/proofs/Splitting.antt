@@ -1,0 +1,78 @@
+-- Tickets that are split and joined.
+use Rattle.std.proofs.Common.{◌≡◌, true, false, Result, Ok, Err, List, [], ◌∷◌, refl, sym, ap, ◌∙◌, subst}
+use Rattle.std.specs.Prelude.{ℤ, ◌+ℤ◌, Option, Some, None, option_map, if◌then◌else◌}
+use Rattle.rules_values.specs.Val.{Val, number, nothing, some, both}
+use Rattle.rules_values.specs.Tickets.{Identity}
+use Rattle.rules_instructions.specs.Straight as i
+use Rattle.rules_steps.specs.Changes.{Change, is_alike}
+use Rattle.rules_steps.specs.Environment.{Environment}
+use Rattle.rules_steps.specs.Step.{Step, done, kept, discarding, optional}
+use Rattle.rules_steps.specs.TicketSteps.{as_value, are_parts, ticket_step}
+use Rattle.mich_term.specs.TicketView.{identity, held}
+use Rattle.mich_term.specs.declared.ticket.Ticket.{Ticket}
+use Rattle.mich_tickets.specs.Answers.{IsSplit, IsJoin}
+use Rattle.mich_tickets.specs.Books.{State}
+use Rattle.mich_tickets.specs.Effects.{Tells}
+use Rattle.mich_step.specs.Tells.{IsDone, changes_of, split_changes, join_changes}
+use Rattle.mich_stack.specs.Ends.{IsKept, IsEnd}
+use Rattle.mich_stack.specs.declared.error.StepError.{StepError}
+use Rattle.mich_stack.specs.declared.error.StepError.TheVariants.{Failed, Memory}
+use Rattle.mich_step.proofs.Ledgers.{tells_equal, tells_same}
+
+pub ends_with : (s : Step) (V : List Val) (cs : List Change) → s ≡ done V cs → s ≡ done V (changes_of s)
+ends_with s V cs e = e ∙ ap (done V) (sym (ap changes_of e))
+
+pub tells_with : (s : Step) (V : List Val) (cs : List Change) (old new : State) → s ≡ done V cs → Tells cs old new → Tells (changes_of s) old new
+tells_with s V cs old new e t = subst (λ l. Tells l old new) (sym (ap changes_of e)) t
+
+pub end_failed : (s : Step) (V W : List Val) (e : StepError) → IsEnd s V (Err e) → IsDone s W (Err e)
+end_failed s V W (Failed f) h = h
+end_failed s V W Memory h = h
+
+pub kept_done : (s : Step) (V : List Val) (r : Result (Unit {0}) StepError) → IsKept s V r → IsDone s V r
+kept_done s V (Ok x) h = ends_with s V [] h
+kept_done s V (Err (Failed f)) h = h
+kept_done s V (Err Memory) h = h
+
+-- after what is kept a ledger tells nothing more
+pub kept_tells : (s : Step) (V : List Val) (x : Unit {0}) (l : State) → IsKept s V (Ok x) → Tells (changes_of s) l l
+kept_tells s V x l h = tells_with s V [] l l h (tells_same l)
+
+abbrev pub parts_value : Ticket × Ticket → Val
+parts_value p = both (as_value (held p.0)) (as_value (held p.1))
+
+abbrev pub ticket_value : Ticket → Val
+ticket_value t = as_value (held t)
+
+module _ (e : Environment) (total : Identity → ℤ) (W : List Val) where
+  split_here : (t : Ticket) (a b : ℤ) (o : Option (Ticket × Ticket)) (old new : State) → IsSplit t a b old new (Ok o) →
+      ticket_step e total i.split_ticket (as_value (held t) ∷ both (number a) (number b) ∷ W) ≡ done (optional (option_map parts_value o) ∷ W) (split_changes t o)
+  split_here t a b None old new h =
+      ap (λ c. if c then kept (some (both (as_value (held (record { id = t.id; amount = a }))) (as_value (held (record { id = t.id; amount = b })))) ∷ W) else discarding (as_value (held t) ∷ []) (nothing ∷ W)) h.0
+  split_here t a b (Some p) old new h =
+      ap (λ c. if c then kept (some (both (as_value (held (record { id = t.id; amount = a }))) (as_value (held (record { id = t.id; amount = b })))) ∷ W) else discarding (as_value (held t) ∷ []) (nothing ∷ W)) h.0
+      ∙ (λ i. kept (some (both (as_value (held (sym h.1 i))) (as_value (held (sym h.2 i)))) ∷ W))
+
+  pub split_is : (V : List Val) (t : Ticket) (a b : ℤ) (o : Option (Ticket × Ticket)) (old new : State) → V ≡ as_value (held t) ∷ both (number a) (number b) ∷ W →
+      IsSplit t a b old new (Ok o) → ticket_step e total i.split_ticket V ≡ done (optional (option_map parts_value o) ∷ W) (split_changes t o)
+  split_is V t a b o old new h s = ap (ticket_step e total i.split_ticket) h ∙ split_here t a b o old new s
+
+  join_here : (t u : Ticket) (o : Option Ticket) (old new : State) → IsJoin t u old new (Ok o) →
+      ticket_step e total i.join_tickets (both (as_value (held t)) (as_value (held u)) ∷ W) ≡ done (optional (option_map ticket_value o) ∷ W) (join_changes t u o)
+  join_here t u None old new h =
+      ap (λ c. if c then kept (some (as_value (held (record { id = t.id; amount = t.amount +ℤ u.amount }))) ∷ W) else discarding (as_value (held t) ∷ as_value (held u) ∷ []) (nothing ∷ W)) h.0
+  join_here t u (Some x) old new h =
+      ap (λ c. if c then kept (some (as_value (held (record { id = t.id; amount = t.amount +ℤ u.amount }))) ∷ W) else discarding (as_value (held t) ∷ as_value (held u) ∷ []) (nothing ∷ W)) h.0
+      ∙ (λ i. kept (some (as_value (held (sym h.1 i))) ∷ W))
+
+  pub join_is : (V : List Val) (t u : Ticket) (o : Option Ticket) (old new : State) → V ≡ both (as_value (held t)) (as_value (held u)) ∷ W →
+      IsJoin t u old new (Ok o) → ticket_step e total i.join_tickets V ≡ done (optional (option_map ticket_value o) ∷ W) (join_changes t u o)
+  join_is V t u o old new h s = ap (ticket_step e total i.join_tickets) h ∙ join_here t u o old new s
+
+pub split_tells : (t : Ticket) (a b : ℤ) (o : Option (Ticket × Ticket)) (old new : State) → IsSplit t a b old new (Ok o) → Tells (split_changes t o) old new
+split_tells t a b None old new h = h.1
+split_tells t a b (Some p) old new h = tells_equal old new h.3
+
+pub join_tells : (t u : Ticket) (o : Option Ticket) (old new : State) → IsJoin t u old new (Ok o) → Tells (join_changes t u o) old new
+join_tells t u None old new h = h.1
+join_tells t u (Some x) old new h = tells_equal old new h.2
