@@ -2,5 +2,6 @@ pub mod Burning
 pub mod Ends
 pub mod Parts
 pub mod Rule
+pub mod Shown
 pub mod Tells
 pub mod Views

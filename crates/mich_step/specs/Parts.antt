@@ -18,6 +18,14 @@ abbrev pub IsReplaced : Option Replaced → Val → Val → Type 0
 IsReplaced (Some r) comb old = (r.comb ≡ comb) × (r.old ≡ old)
 IsReplaced None comb old = ⊥
 
+abbrev pub IsNumber : Val → Type 0
+IsNumber (number n) = Unit {0}
+IsNumber _ = ⊥
+
+abbrev pub IsTicket : Val → Type 0
+IsTicket (ticket issuer k content n) = Unit {0}
+IsTicket _ = ⊥
+
 -- two numbers stand in a pair on top, or two tickets
 abbrev pub IsAmountsOnTop : List Val → Type 0
 IsAmountsOnTop (both (number a) (number b) ∷ V) = Unit {0}

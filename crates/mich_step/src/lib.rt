@@ -18,7 +18,6 @@ pub use logic::logic_step;
 pub use numbers::number_step;
 pub use order::stack_step;
 pub use pairs::pair_step;
-pub use tickets::ticket_step;
 pub use unions::union_step;
 
 #[cfg(test)]

@@ -20,7 +20,7 @@ ghost use Rattle.mich_tickets.specs.Limits.{IsReady};
 ghost use Rattle.mich_tickets.specs.Sums.{minted_of};
 ghost use Rattle.mich_step.specs.Views.{environment};
 ghost use Rattle.mich_step.specs.Tells.{changes_of, Steps, IsMinted};
-ghost use Rattle.mich_step.specs.Parts.{IsAmountsOnTop, IsTicketsOnTop};
+ghost use Rattle.mich_step.specs.Parts.{IsNumber, IsTicket, IsAmountsOnTop, IsTicketsOnTop};
 ghost use Rattle.mich_step.specs.Rule.{SuitsTickets, ticket_stake};
 
 use crate::environment::{Env, place_value};
@@ -48,7 +48,7 @@ fn optional_ticket(alloc: Global, ticket: Option<Ticket>) -> Result<Value, Memor
 }
 
 // Mints so many tickets. None where that is 0.
-#[tactic(auto, using(mich_undo::proofs::Histories::keeps_same, crate::proofs::Ledgers::tells_same, crate::proofs::Minting::minted_none, crate::proofs::Minting::minted_some, crate::proofs::Minting::minted_over))]
+#[tactic(auto, using(mich_undo::proofs::Histories::keeps_same, crate::proofs::Ledgers::tells_same, crate::proofs::Minting::minted_none, crate::proofs::Minting::minted_ok, crate::proofs::Minting::minted_failed))]
 fn mint_tickets(
     alloc: Global,
     ledger: &mut Ledger,
@@ -81,7 +81,7 @@ fn mint(
     requires fits { Fits (ticket_step (environment env.entry.now) (minted_of ledger.old.books.present) (i.ticket (kind ty.now))) stack.old }
     requires suits { IsKeyOnTop (plain stack.old) }
     ensures ends { Steps (ticket_step (environment env.entry.now) (minted_of ledger.old.books.present) (i.ticket (kind ty.now))) stack.old stack.new result }
-    ensures tells { IfOk result (λ _. Tells (changes_of (ticket_step (environment env.entry.now) (minted_of ledger.old.books.present) (i.ticket (kind ty.now)) (plain stack.old))) ledger.old ledger.new) }
+    ensures tells { IfOk result (λ _. (big : Sight) → Tells (changes_of (ticket_step (environment env.entry.now) (minted_of ledger.old.books.present) (i.ticket (kind ty.now)) (values big stack.old))) ledger.old ledger.new) }
     ensures keeps { KeepsBooks ledger.old.books ledger.new.books }
 {
     let content = take_key(alloc, stack)?;
@@ -132,6 +132,17 @@ fn read_ticket(alloc: Global, stack: &mut Rows<Value>) -> Result<(), StepError>
     Ok(())
 }
 
+// The number that a value is.
+fn number_in(value: Value) -> i128
+    requires { (big : Sight) × IsNumber (seen big value) }
+    ensures { (big : Sight) → seen big value ≡ number result }
+{
+    let Value::Number(number) = value else {
+        unreachable!()
+    };
+    number
+}
+
 // Takes the two amounts on top.
 fn take_amounts(stack: &mut Rows<Value>) -> (i128, i128)
     requires { (big : Sight) × IsAmountsOnTop (values big stack.old) }
@@ -140,10 +151,8 @@ fn take_amounts(stack: &mut Rows<Value>) -> (i128, i128)
     let Some(pair) = pop(stack) else {
         unreachable!()
     };
-    let (Value::Number(first), Value::Number(second)) = split_pair(pair) else {
-        unreachable!()
-    };
-    (first, second)
+    let (first, second) = split_pair(pair);
+    (number_in(first), number_in(second))
 }
 
 // The tickets that one was split in, as an optional pair.
@@ -168,17 +177,29 @@ fn split_ticket(
     requires fits { (e : Environment) × (total : Identity → ℤ) × Fits (ticket_step e total i.split_ticket) stack.old }
     requires ready { IsReady ledger.old.books.present (ticket_stake i.split_ticket (plain stack.old)) }
     ensures ends { (e : Environment) (total : Identity → ℤ) → Steps (ticket_step e total i.split_ticket) stack.old stack.new result }
-    ensures tells { IfOk result (λ _. (e : Environment) (total : Identity → ℤ) → Tells (changes_of (ticket_step e total i.split_ticket (plain stack.old))) ledger.old ledger.new) }
+    ensures tells { IfOk result (λ _. (e : Environment) (total : Identity → ℤ) (big : Sight) → Tells (changes_of (ticket_step e total i.split_ticket (values big stack.old))) ledger.old ledger.new) }
     ensures keeps { KeepsBooks ledger.old.books ledger.new.books }
 {
-    let Some(Value::Ticket(ticket)) = pop(stack) else {
+    let Some(top) = pop(stack) else {
         unreachable!()
     };
+    let ticket = ticket_in(top);
     let (a, b) = take_amounts(stack);
-    let parts = ledger.split(alloc, ticket.into_value(), a, b)?;
+    let parts = ledger.split(alloc, ticket, a, b)?;
     let value = optional_parts(alloc, parts)?;
     push(stack, value)?;
     Ok(())
+}
+
+// The ticket that a value is.
+fn ticket_in(value: Value) -> Ticket
+    requires { (big : Sight) × IsTicket (seen big value) }
+    ensures { (big : Sight) → seen big value ≡ as_value (held result) }
+{
+    let Value::Ticket(ticket) = value else {
+        unreachable!()
+    };
+    ticket.into_value()
 }
 
 // Takes the two tickets on top.
@@ -189,10 +210,8 @@ fn take_tickets(stack: &mut Rows<Value>) -> (Ticket, Ticket)
     let Some(pair) = pop(stack) else {
         unreachable!()
     };
-    let (Value::Ticket(first), Value::Ticket(second)) = split_pair(pair) else {
-        unreachable!()
-    };
-    (first.into_value(), second.into_value())
+    let (first, second) = split_pair(pair);
+    (ticket_in(first), ticket_in(second))
 }
 
 #[tactic(auto, using(crate::proofs::Splitting::join_is, crate::proofs::Splitting::join_tells, crate::proofs::Splitting::ends_with, crate::proofs::Splitting::tells_with))]
@@ -205,7 +224,7 @@ fn join_tickets(
     requires suits { SuitsTickets i.join_tickets (plain stack.old) }
     requires ready { IsReady ledger.old.books.present (ticket_stake i.join_tickets (plain stack.old)) }
     ensures ends { (e : Environment) (total : Identity → ℤ) → Steps (ticket_step e total i.join_tickets) stack.old stack.new result }
-    ensures tells { IfOk result (λ _. (e : Environment) (total : Identity → ℤ) → Tells (changes_of (ticket_step e total i.join_tickets (plain stack.old))) ledger.old ledger.new) }
+    ensures tells { IfOk result (λ _. (e : Environment) (total : Identity → ℤ) (big : Sight) → Tells (changes_of (ticket_step e total i.join_tickets (values big stack.old))) ledger.old ledger.new) }
     ensures keeps { KeepsBooks ledger.old.books ledger.new.books }
 {
     let (first, second) = take_tickets(stack);
@@ -215,10 +234,10 @@ fn join_tickets(
     Ok(())
 }
 
-/// What minting, reading, splitting and joining tickets makes of a stack and of a ledger. IntegerLimit exactly where so many
-/// tickets of an identity would ever have been minted that the total is over 2^127-1 (Michelson reference, "Operations on tickets").
+// What minting, reading, splitting and joining tickets makes of a stack and of a ledger. IntegerLimit exactly where so many
+// tickets of an identity would ever have been minted that the total is over 2^127-1 (Michelson reference, "Operations on tickets").
 #[tactic(auto, using(mich_undo::proofs::Histories::keeps_same, crate::proofs::Ledgers::tells_same))]
-pub fn ticket_step(
+pub(crate) fn ticket_step(
     alloc: Global,
     env: &Env,
     row: &TicketRow,
@@ -229,7 +248,7 @@ pub fn ticket_step(
     requires suits { SuitsTickets (ticket_row row.now) (plain stack.old) }
     requires ready { IsReady ledger.old.books.present (ticket_stake (ticket_row row.now) (plain stack.old)) }
     ensures ends { Steps (ticket_step (environment env.entry.now) (minted_of ledger.old.books.present) (ticket_row row.now)) stack.old stack.new result }
-    ensures tells { IfOk result (λ _. Tells (changes_of (ticket_step (environment env.entry.now) (minted_of ledger.old.books.present) (ticket_row row.now) (plain stack.old))) ledger.old ledger.new) }
+    ensures tells { IfOk result (λ _. (big : Sight) → Tells (changes_of (ticket_step (environment env.entry.now) (minted_of ledger.old.books.present) (ticket_row row.now) (values big stack.old))) ledger.old ledger.new) }
     ensures keeps { KeepsBooks ledger.old.books ledger.new.books }
 {
     match row {
