@@ -1,6 +1,6 @@
 -- What an instruction burns is a part of the tickets on the stack, and so may be burnt where these may.
 use Rattle.std.proofs.Common.{◌≡◌, ℕ, zero, suc, Bool, true, false, List, [], ◌∷◌, ◌++◌, take, drop, flat_map, refl, sym, ap, ◌∙◌, subst, arith}
-use Rattle.std.specs.Prelude.{ℤ, pos, ◌+ℤ◌, ◌≤ℤ◌, Option, Some, None, Result, Ok, Err, option_map, option_to_list, if◌then◌else◌, nat_le, length, slice_get, insert, remove, is_some}
+use Rattle.std.specs.Prelude.{◌-◌, ℤ, pos, ◌+ℤ◌, ◌≤ℤ◌, Option, Some, None, Result, Ok, Err, option_map, option_to_list, if◌then◌else◌, nat_le, length, slice_get, insert, remove, is_some}
 use Rattle.std.specs.List.{AllByRecursion}
 use Rattle.std.specs.Ordering.{is_eq}
 use Rattle.std.proofs.lemmas.Int.{ints}
@@ -135,11 +135,11 @@ left_part : (n : ℕ) (v : Val) (p : Part) → part_at n v ≡ Some p → Leaves
 left_part zero v p e = some_is (LeavesPart v) (record { before = []; found = v; behind = [] }) p e (part_none (tickets v))
 left_part (suc zero) (both v w) p e =
     some_is (LeavesPart (both v w)) (record { before = []; found = v; behind = w ∷ [] }) p e (part_one (tickets w) (tickets v ++ tickets w) (part_back (tickets v) (tickets w)))
-left_part (suc (suc n)) (both v w) p e = by (part_at n w) refl e
+left_part (suc (suc n)) (both v w) p e = by (part_at n w) (λ q. left_part n w q) e
   where
-    by : (o : Option Part) → part_at n w ≡ o → option_map (passing v) o ≡ Some p → LeavesPart (both v w) p
+    by : (o : Option Part) → ((q : Part) → o ≡ Some q → LeavesPart w q) → option_map (passing v) o ≡ Some p → LeavesPart (both v w) p
     by None f g = absurd cc
-    by (Some q) f g = some_is (LeavesPart (both v w)) (passing v q) p g (part_behind (tickets v) (flat_map tickets (q.before ++ q.behind)) (tickets w) (left_part n w q f))
+    by (Some q) f g = some_is (LeavesPart (both v w)) (passing v q) p g (part_behind (tickets v) (flat_map tickets (q.before ++ q.behind)) (tickets w) (f q refl))
 left_part (suc zero) _ p e = absurd cc
 left_part (suc (suc n)) _ p e = absurd cc
 
@@ -149,11 +149,11 @@ OldPart v r = IsPart (tickets r.old) (tickets v)
 old_part : (n : ℕ) (x v : Val) (r : Replaced) → replaced n x v ≡ Some r → OldPart v r
 old_part zero x v r e = some_is (OldPart v) (record { comb = x; old = v }) r e (part_same (tickets v))
 old_part (suc zero) x (both v w) r e = some_is (OldPart (both v w)) (record { comb = both x w; old = v }) r e (part_front (tickets v) (tickets w))
-old_part (suc (suc n)) x (both v w) r e = by (replaced n x w) refl e
+old_part (suc (suc n)) x (both v w) r e = by (replaced n x w) (λ q. old_part n x w q) e
   where
-    by : (o : Option Replaced) → replaced n x w ≡ o → option_map (behind v) o ≡ Some r → OldPart (both v w) r
+    by : (o : Option Replaced) → ((q : Replaced) → o ≡ Some q → OldPart w q) → option_map (behind v) o ≡ Some r → OldPart (both v w) r
     by None f g = absurd cc
-    by (Some q) f g = some_is (OldPart (both v w)) (behind v q) r g (part_past (tickets q.old) (tickets v) (tickets w) (old_part n x w q f))
+    by (Some q) f g = some_is (OldPart (both v w)) (behind v q) r g (part_past (tickets q.old) (tickets v) (tickets w) (f q refl))
 old_part (suc zero) x _ r e = absurd cc
 old_part (suc (suc n)) x _ r e = absurd cc
 
@@ -187,11 +187,12 @@ pair_part (i.update_part n) [] = part_none []
 
 value_part : (k : Val) (ps : Pairs) → IsPart (flat_map tickets (option_to_list (value_at k ps))) (pair_tickets ps)
 value_part k no_pair = part_none []
-value_part k (more_pairs j v ps) = by (is_eq (order k j))
+value_part k (more_pairs j v ps) = by (is_eq (order k j)) (value_part k ps)
   where
-    by : (b : Bool) → IsPart (flat_map tickets (option_to_list (if b then Some v else value_at k ps))) (tickets v ++ pair_tickets ps)
-    by true = part_one (tickets v) (tickets v ++ pair_tickets ps) (part_front (tickets v) (pair_tickets ps))
-    by false = part_past _ (tickets v) (pair_tickets ps) (value_part k ps)
+    by : (b : Bool) → IsPart (flat_map tickets (option_to_list (value_at k ps))) (pair_tickets ps) →
+        IsPart (flat_map tickets (option_to_list (if b then Some v else value_at k ps))) (tickets v ++ pair_tickets ps)
+    by true later = part_one (tickets v) (tickets v ++ pair_tickets ps) (part_front (tickets v) (pair_tickets ps))
+    by false later = part_past (flat_map tickets (option_to_list (value_at k ps))) (tickets v) (pair_tickets ps) later
 
 option_part : (v : Val) (go : Option Val → Step) (ys : List Held) → ((o : Option Val) → IsPart (gone (go o)) ys) → IsPart (gone (on_option v go)) ys
 option_part nothing go ys p = p None
