@@ -5,12 +5,12 @@ use Rattle.std.proofs.lemmas.Int.{ints}
 use Rattle.std.proofs.lemmas.List.{append-nil, map-append}
 use Rattle.rules_values.specs.Tickets.{Identity, Held}
 use Rattle.rules_steps.specs.Changes.{Change, burnt, burns, amount_among, minted_in, burnt_in}
+use Rattle.mich_term.specs.TicketView.{held}
+use Rattle.mich_term.specs.declared.ticket.Ticket.{Ticket}
 use Rattle.mich_tickets.specs.Books.{State}
 use Rattle.mich_tickets.specs.Effects.{change, listed_after, Tells}
 use Rattle.mich_tickets.specs.Limits.{IsReady}
 use Rattle.mich_tickets.specs.Prefixes.{among_append}
-use Rattle.mich_tickets.proofs.Readiness.{ready_next}
-use Rattle.mich_step.specs.Burning.{Burning}
 use Rattle.mich_tickets.specs.Sums.{minted_of, burnt_of}
 
 pub tells_same : (s : State) → Tells [] s s
@@ -48,22 +48,13 @@ tells_more ts t a b c p q = record {
   };
 }
 
--- ---- tickets that are burnt one after the other
+-- one more ticket of the code
+pub tells_put : (ts : List Ticket) (t : Ticket) (a b c : State) → Tells (burns (map held ts)) a b → Tells (burnt (held t) ∷ []) b c →
+    Tells (burns (map held (ts ++ t ∷ []))) a c
+tells_put ts t a b c p q = subst (λ l. Tells (burns l) a c) (sym (map-append held ts (t ∷ []))) (tells_more (map held ts) (held t) a b c p q)
 
-pub burning_none : (s : State) (ts : List Held) → IsReady s.books.present ts → Burning s s ts ts
-burning_none s ts r = record { front = []; parts = refl; told = tells_same s; ready = r }
+-- ---- the next of the tickets that are left
 
-pub burning_step : (old mid new : State) (t : Held) (left rest whole : List Held) → left ≡ t ∷ rest → Burning old mid left whole →
-    Tells (burnt t ∷ []) mid new → Burning old new rest whole
-burning_step old mid new t left rest whole e b q = record {
-  front = b.front ++ t ∷ [];
-  parts = append_assoc b.front (t ∷ []) rest ∙ ap (λ l. b.front ++ l) (sym e) ∙ b.parts;
-  told = tells_more b.front t old mid new b.told q;
-  ready = ready_next t rest mid new q (subst (λ l. IsReady mid.books.present l) e b.ready);
-}
-
-pub burning_first : (old mid : State) (t : Held) (left rest whole : List Held) → left ≡ t ∷ rest → Burning old mid left whole → IsReady mid.books.present (t ∷ rest)
-burning_first old mid t left rest whole e b = subst (λ l. IsReady mid.books.present l) e b.ready
-
-pub burning_done : (old new : State) (whole : List Held) → Burning old new [] whole → Tells (burns whole) old new
-burning_done old new whole b = subst (λ l. Tells (burns l) old new) (sym (append-nil b.front) ∙ b.parts) b.told
+pub left_ready : (l : State) (left rest : List Ticket) (t : Ticket) → left ≡ t ∷ rest → IsReady l.books.present (map held left) →
+    IsReady l.books.present (held t ∷ map held rest)
+left_ready l left rest t e r = subst (λ ts. IsReady l.books.present (map held ts)) e r

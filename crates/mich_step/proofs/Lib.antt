@@ -3,6 +3,7 @@ pub mod Ended
 pub mod Gone
 pub mod Ledgers
 pub mod Minting
+pub mod Rules
 pub mod Showing
 pub mod Splitting
 pub mod Taken

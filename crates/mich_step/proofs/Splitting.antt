@@ -1,6 +1,6 @@
 -- Tickets that are split and joined.
 use Rattle.std.proofs.Common.{◌≡◌, true, false, Result, Ok, Err, List, [], ◌∷◌, refl, sym, ap, ◌∙◌, subst}
-use Rattle.std.specs.Prelude.{ℤ, ◌+ℤ◌, Option, Some, None, option_map, if◌then◌else◌}
+use Rattle.std.specs.Prelude.{IfOk, ℤ, ◌+ℤ◌, Option, Some, None, option_map, if◌then◌else◌}
 use Rattle.rules_values.specs.Val.{Val, number, nothing, some, both}
 use Rattle.rules_values.specs.Tickets.{Identity}
 use Rattle.rules_instructions.specs.Straight as i
@@ -15,6 +15,7 @@ use Rattle.mich_tickets.specs.Books.{State}
 use Rattle.mich_tickets.specs.Effects.{Tells}
 use Rattle.mich_step.specs.Tells.{IsDone, changes_of, split_changes, join_changes}
 use Rattle.mich_stack.specs.Ends.{IsKept, IsEnd}
+use Rattle.mich_stack.specs.Views.{Sight}
 use Rattle.mich_stack.specs.declared.error.StepError.{StepError}
 use Rattle.mich_stack.specs.declared.error.StepError.TheVariants.{Failed, Memory}
 use Rattle.mich_step.proofs.Ledgers.{tells_equal, tells_same}
@@ -37,6 +38,17 @@ kept_done s V (Err Memory) h = h
 -- after what is kept a ledger tells nothing more
 pub kept_tells : (s : Step) (V : List Val) (x : Unit {0}) (l : State) → IsKept s V (Ok x) → Tells (changes_of s) l l
 kept_tells s V x l h = tells_with s V [] l l h (tells_same l)
+
+-- the same, however big maps are seen
+pub kept_told : (P : Sight → Type 0) (s : Sight → Step) (V : Sight → List Val) (r : Result (Unit {0}) StepError) (l : State) →
+    ((big : Sight) → IsKept (s big) (V big) r) → IfOk r (λ _. (big : Sight) → P big → Tells (changes_of (s big)) l l)
+kept_told P s V (Ok x) l h = λ big p. kept_tells (s big) (V big) x l (h big)
+kept_told P s V (Err e) l h = tt
+
+-- what is told however big maps are seen is told where they are seen so
+pub told_shown : (P Q : Sight → Type 0) (r : Result (Unit {0}) StepError) → IfOk r (λ _. (big : Sight) → Q big) → IfOk r (λ _. (big : Sight) → P big → Q big)
+told_shown P Q (Ok x) h = λ big p. h big
+told_shown P Q (Err e) h = tt
 
 abbrev pub parts_value : Ticket × Ticket → Val
 parts_value p = both (as_value (held p.0)) (as_value (held p.1))

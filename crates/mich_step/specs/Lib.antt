@@ -1,4 +1,3 @@
-pub mod Burning
 pub mod Ends
 pub mod Parts
 pub mod Rule
