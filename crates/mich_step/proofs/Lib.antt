@@ -6,4 +6,5 @@ pub mod Minting
 pub mod Rules
 pub mod Showing
 pub mod Splitting
+pub mod Suiting
 pub mod Taken

@@ -26,7 +26,7 @@ entries_tickets [] = refl
 entries_tickets (t ∷ ts) = ap (λ l. t ∷ l) (entries_tickets ts)
 
 mutual
-  tickets_shown : (v : Val) → tickets (shown v) ≡ tickets v
+  pub tickets_shown : (v : Val) → tickets (shown v) ≡ tickets v
   tickets_shown (some v) = tickets_shown v
   tickets_shown (left v) = tickets_shown v
   tickets_shown (right v) = tickets_shown v
@@ -260,3 +260,7 @@ module _ (V W : List Val) (e : map shown V ≡ map shown W) where
 
   pub collection_same : (r : CollectionRow) → is_on_big_map r ≡ false → Same (collection_step r V) (collection_step r W)
   collection_same r h = sym (collection_shown r V h) ∙ ap (λ X. changes_of (collection_step r X)) e ∙ collection_shown r W h
+
+  -- the same tickets lie on them
+  pub tickets_same : flat_map tickets V ≡ flat_map tickets W
+  tickets_same = sym (flat_shown V) ∙ ap (flat_map tickets) e ∙ flat_shown W

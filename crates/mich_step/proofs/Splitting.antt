@@ -45,6 +45,17 @@ pub kept_told : (P : Sight → Type 0) (s : Sight → Step) (V : Sight → List 
 kept_told P s V (Ok x) l h = λ big p. kept_tells (s big) (V big) x l (h big)
 kept_told P s V (Err e) l h = tt
 
+pub kept_told_all : (s : Sight → Step) (V : Sight → List Val) (r : Result (Unit {0}) StepError) (l : State) →
+    ((big : Sight) → IsKept (s big) (V big) r) → IfOk r (λ _. (big : Sight) → Tells (changes_of (s big)) l l)
+kept_told_all s V (Ok x) l h = λ big. kept_tells (s big) (V big) x l (h big)
+kept_told_all s V (Err e) l h = tt
+
+-- what is told wherever code runs is told here
+pub told_here : (Q : Environment → (Identity → ℤ) → Sight → Type 0) (e : Environment) (total : Identity → ℤ) (r : Result (Unit {0}) StepError) →
+    IfOk r (λ _. (e : Environment) (total : Identity → ℤ) (big : Sight) → Q e total big) → IfOk r (λ _. (big : Sight) → Q e total big)
+told_here Q e total (Ok x) h = λ big. h e total big
+told_here Q e total (Err f) h = tt
+
 -- what is told however big maps are seen is told where they are seen so
 pub told_shown : (P Q : Sight → Type 0) (r : Result (Unit {0}) StepError) → IfOk r (λ _. (big : Sight) → Q big) → IfOk r (λ _. (big : Sight) → P big → Q big)
 told_shown P Q (Ok x) h = λ big p. h big

@@ -18,12 +18,12 @@ use crate::burning::{collections, order, pairs};
 use crate::environment::{Env, environment_step};
 use crate::logic::logic_step;
 use crate::numbers::number_step;
-use crate::operations::{address, implicit_account};
+use crate::operations::operation_step;
 use crate::tickets::ticket_step;
 use crate::unions::union_step;
 use mich_base::Rows;
 use mich_collections::text_step;
-use mich_overload::{OperationRow, Simple};
+use mich_overload::Simple;
 use mich_stack::StepError;
 use mich_term::Value;
 use mich_tickets::Ledger;
@@ -32,7 +32,7 @@ use std::alloc::Global;
 // An instruction that burns and mints nothing.
 fn quiet(alloc: Global, instr: &Simple, stack: &mut Rows<Value>, env: &Env) -> Result<(), StepError>
     requires in_step { in_step (straight instr.now) ≡ true }
-    requires quiet { IsQuiet (straight instr.now) }
+    requires no_change { IsQuiet (straight instr.now) }
     requires fits { (total : Identity → ℤ) × Fits (rule (environment env.entry.now) total (straight instr.now)) stack.old }
     requires suits { Suits (straight instr.now) (plain stack.old) }
     ensures { (total : Identity → ℤ) → Keeps (rule (environment env.entry.now) total (straight instr.now)) stack.old stack.new result }
@@ -43,9 +43,9 @@ fn quiet(alloc: Global, instr: &Simple, stack: &mut Rows<Value>, env: &Env) -> R
         Simple::Logic(row) => logic_step(row, stack),
         Simple::Texts(row) => text_step(alloc, row, stack),
         Simple::Environment(row) => environment_step(alloc, env, row, stack),
-        Simple::Operations(OperationRow::Address) => address(stack),
-        Simple::Operations(OperationRow::ImplicitAccount) => implicit_account(alloc, stack),
-        _ => unreachable!(),
+        Simple::Operations(row) => operation_step(alloc, row, stack),
+        Simple::Stack(_) | Simple::Pairs(_) | Simple::Collections(_) => unreachable!(),
+        Simple::Hashes(_) | Simple::Tickets(_) => unreachable!(),
     }
 }
 
