@@ -19,6 +19,7 @@ use Rattle.mich_term.specs.TicketView.{held}
 use Rattle.mich_term.specs.View.{datum}
 use Rattle.mich_term.specs.declared.ticket.Ticket.{Ticket}
 use Rattle.mich_term.specs.declared.ticket.TicketId.{TicketId}
+use Rattle.mich_stack.specs.Ends.{IsFitting}
 use Rattle.mich_stack.specs.declared.error.StepError.TheVariants.{Failed}
 use Rattle.mich_stack.specs.declared.error.StepFailure.TheVariants.{IntegerLimit}
 use Rattle.mich_tickets.specs.Answers.{IsMint}
@@ -94,3 +95,20 @@ is_done s t V W e f h = e ∙ h ∙ (λ i. done (sym f i) (changes_of (sym e i))
 
 pub is_told : (s t : Step) (old new : State) → s ≡ t → Tells (changes_of t) old new → Tells (changes_of s) old new
 is_told s t old new e h = subst (λ x. Tells (changes_of x) old new) (sym e) h
+
+-- TICKET on a content and a number
+pub mint_step : (e : Environment) (total : Identity → ℤ) (a b : Kind) (V U W : List Val) (c d : Val) (n : ℤ) → V ≡ c ∷ U → U ≡ d ∷ W → d ≡ number n →
+    b ≡ a → pos 0 ≤ℤ n → ticket_step e total (i.ticket a) V ≡ ticket_step_of (contract_place e.own) total b c (unsigned_abs n) W
+mint_step e total a b V U W c d n f g h k p =
+    mint_is e total a V c n W (f ∙ ap (λ X. c ∷ X) (g ∙ ap (λ x. x ∷ W) h)) p
+    ∙ ap (λ x. ticket_step_of (contract_place e.own) total x c (unsigned_abs n) W) (sym k)
+
+not_negative : (e : Environment) (total : Identity → ℤ) (a : Kind) (c : Val) (n : ℤ) (W : List Val) → IsFitting (ticket_step e total (i.ticket a) (c ∷ number n ∷ W)) → pos 0 ≤ℤ n
+not_negative e total a c (pos n) W h = omega (arith, ints)
+not_negative e total a c (negsuc n) W h = absurd h
+
+-- its number isn't negative
+pub mint_least : (e : Environment) (total : Identity → ℤ) (a : Kind) (V U W : List Val) (c d : Val) (n : ℤ) → V ≡ c ∷ U → U ≡ d ∷ W → d ≡ number n →
+    IsFitting (ticket_step e total (i.ticket a) V) → pos 0 ≤ℤ n
+mint_least e total a V U W c d n f g h k =
+    not_negative e total a c n W (subst (λ X. IsFitting (ticket_step e total (i.ticket a) X)) (f ∙ ap (λ X. c ∷ X) (g ∙ ap (λ x. x ∷ W) h)) k)

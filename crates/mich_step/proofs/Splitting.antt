@@ -1,7 +1,7 @@
 -- Tickets that are split and joined.
 use Rattle.std.proofs.Common.{◌≡◌, true, false, Result, Ok, Err, List, [], ◌∷◌, refl, sym, ap, ◌∙◌, subst}
 use Rattle.std.specs.Prelude.{IfOk, ℤ, ◌+ℤ◌, Option, Some, None, option_map, if◌then◌else◌}
-use Rattle.rules_values.specs.Val.{Val, number, nothing, some, both}
+use Rattle.rules_values.specs.Val.{Val, number, nothing, some, both, ticket}
 use Rattle.rules_values.specs.Tickets.{Identity}
 use Rattle.rules_instructions.specs.Straight as i
 use Rattle.rules_steps.specs.Changes.{Change, is_alike}
@@ -11,10 +11,13 @@ use Rattle.rules_steps.specs.TicketSteps.{as_value, are_parts, ticket_step}
 use Rattle.mich_term.specs.TicketView.{identity, held}
 use Rattle.mich_term.specs.declared.ticket.Ticket.{Ticket}
 use Rattle.mich_tickets.specs.Answers.{IsSplit, IsJoin}
-use Rattle.mich_tickets.specs.Books.{State}
+use Rattle.mich_tickets.specs.Books.{Books, State}
 use Rattle.mich_tickets.specs.Effects.{Tells}
-use Rattle.mich_step.specs.Tells.{IsDone, changes_of, split_changes, join_changes}
-use Rattle.mich_stack.specs.Ends.{IsKept, IsEnd}
+use Rattle.mich_tickets.specs.Limits.{IsReady}
+use Rattle.mich_step.specs.Parts.{IsTicketsOnTop}
+use Rattle.mich_step.specs.Rule.{tickets_on_top}
+use Rattle.mich_step.specs.Tells.{IsDone, IsMinted, changes_of, split_changes, join_changes}
+use Rattle.mich_stack.specs.Ends.{IsKept, IsEnd, IsFitting}
 use Rattle.mich_stack.specs.Views.{Sight}
 use Rattle.mich_stack.specs.declared.error.StepError.{StepError}
 use Rattle.mich_stack.specs.declared.error.StepError.TheVariants.{Failed, Memory}
@@ -99,3 +102,19 @@ split_tells t a b (Some p) old new h = tells_equal old new h.3
 pub join_tells : (t u : Ticket) (o : Option Ticket) (old new : State) → IsJoin t u old new (Ok o) → Tells (join_changes t u o) old new
 join_tells t u None old new h = h.1
 join_tells t u (Some x) old new h = tells_equal old new h.2
+
+-- ---- the operands
+
+pub join_fits : (e : Environment) (total : Identity → ℤ) (V : List Val) → IsFitting (ticket_step e total i.join_tickets V) → IsTicketsOnTop V
+join_fits e total (both (ticket issuer k content n) (ticket issuer' k' content' n') ∷ V) h = tt
+join_fits e total _ h = h
+
+-- the ticket on top may be burnt
+pub split_ready : (b : Books) (V : List Val) (t : Ticket) (W : List Val) → V ≡ as_value (held t) ∷ W → IsReady b (tickets_on_top V) →
+    IsReady b (held t ∷ [])
+split_ready b V t W e r = subst (λ X. IsReady b (tickets_on_top X)) e r
+
+-- a failure of a mint
+pub minted_error : (s t : Step) (V W : List Val) (old new : State) (e : StepError) → s ≡ t → IsMinted t V old new (Err e) → IsDone s W (Err e)
+minted_error s t V W old new (Failed f) h m = h ∙ m
+minted_error s t V W old new Memory h m = tt

@@ -33,7 +33,7 @@ use std::alloc::Global;
 fn quiet(alloc: Global, instr: &Simple, stack: &mut Rows<Value>, env: &Env) -> Result<(), StepError>
     requires in_step { in_step (straight instr.now) ≡ true }
     requires no_change { IsQuiet (straight instr.now) }
-    requires fits { (total : Identity → ℤ) × Fits (rule (environment env.entry.now) total (straight instr.now)) stack.old }
+    requires fits { (total : Identity → ℤ) × Fits (rule (environment env.now) total (straight instr.now)) stack.old }
     requires suits { Suits (straight instr.now) (plain stack.old) }
     ensures { (total : Identity → ℤ) → Keeps (rule (environment env.entry.now) total (straight instr.now)) stack.old stack.new result }
 {
@@ -61,7 +61,7 @@ pub fn step(
     env: &Env,
 ) -> Result<(), StepError>
     requires in_step { in_step (straight instr.now) ≡ true }
-    requires fits { Fits (rule (environment env.entry.now) (minted_of ledger.old.books.present) (straight instr.now)) stack.old }
+    requires fits { Fits (rule (environment env.now) (minted_of ledger.old.books.present) (straight instr.now)) stack.old }
     requires suits { Suits (straight instr.now) (plain stack.old) }
     requires ready { IsReady ledger.old.books.present (flat_map tickets (plain stack.old)) }
     ensures ends { Steps (rule (environment env.entry.now) (minted_of ledger.old.books.present) (straight instr.now)) stack.old stack.new result }

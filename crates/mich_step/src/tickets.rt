@@ -70,7 +70,7 @@ fn mint_tickets(
     }
 }
 
-#[tactic(auto, using(crate::proofs::Minting::mint_is))]
+#[tactic(auto, using(mich_undo::proofs::Histories::keeps_same, crate::proofs::Minting::mint_is))]
 fn mint(
     alloc: Global,
     env: &Env,
@@ -78,7 +78,7 @@ fn mint(
     stack: &mut Rows<Value>,
     ledger: &mut Ledger,
 ) -> Result<(), StepError>
-    requires fits { Fits (ticket_step (environment env.entry.now) (minted_of ledger.old.books.present) (i.ticket (kind ty.now))) stack.old }
+    requires fits { Fits (ticket_step (environment env.now) (minted_of ledger.old.books.present) (i.ticket (kind ty.now))) stack.old }
     requires suits { IsKeyOnTop (plain stack.old) }
     ensures ends { Steps (ticket_step (environment env.entry.now) (minted_of ledger.old.books.present) (i.ticket (kind ty.now))) stack.old stack.new result }
     ensures tells { IfOk result (λ _. (big : Sight) → Tells (changes_of (ticket_step (environment env.entry.now) (minted_of ledger.old.books.present) (i.ticket (kind ty.now)) (values big stack.old))) ledger.old ledger.new) }
@@ -244,7 +244,7 @@ pub(crate) fn ticket_step(
     stack: &mut Rows<Value>,
     ledger: &mut Ledger,
 ) -> Result<(), StepError>
-    requires fits { Fits (ticket_step (environment env.entry.now) (minted_of ledger.old.books.present) (ticket_row row.now)) stack.old }
+    requires fits { Fits (ticket_step (environment env.now) (minted_of ledger.old.books.present) (ticket_row row.now)) stack.old }
     requires suits { SuitsTickets (ticket_row row.now) (plain stack.old) }
     requires ready { IsReady ledger.old.books.present (ticket_stake (ticket_row row.now) (plain stack.old)) }
     ensures ends { Steps (ticket_step (environment env.entry.now) (minted_of ledger.old.books.present) (ticket_row row.now)) stack.old stack.new result }

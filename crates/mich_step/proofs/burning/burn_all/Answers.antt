@@ -3,13 +3,24 @@ use Rattle.std.proofs.Common.{rules, ◌≡◌, List, [], ◌∷◌, ◌++◌, m
 use Rattle.std.proofs.lemmas.List.{append-nil}
 use Rattle.std.specs.Vec.Iter.{into_iter_items}
 use Rattle.rules_steps.specs.Changes.{burns}
-use Rattle.mich_undo.proofs.Histories.{keeps_trans}
+use Rattle.mich_undo.proofs.Histories.{keeps_same, keeps_trans}
 use Rattle.mich_term.specs.TicketView.{held}
 use Rattle.mich_term.specs.declared.ticket.Ticket.{Ticket}
 use Rattle.mich_tickets.specs.Effects.{Tells}
+use Rattle.mich_tickets.specs.Limits.{IsReady}
 use Rattle.mich_tickets.proofs.Readiness.{ready_first, ready_next}
-use Rattle.mich_step.proofs.Ledgers.{tells_put, left_ready}
+use Rattle.mich_step.proofs.Ledgers.{tells_same, tells_put, left_ready}
 use Rattle.mich_step.proofs.burning.burn_all.Goals as goal
+
+pub loop-ticket-init : goal.loop-ticket-init
+loop-ticket-init c =
+    let all : into_iter_items c.into_iter-ticket-iterator.result ≡ c.args.tickets = search rules in
+    record {
+      told = tells_same c.args.ledger.now;
+      ready = subst (λ (l : List Ticket). IsReady c.args.ledger.now.books.present (map held l)) (sym all) c.requires;
+      place = all;
+      keeps = keeps_same _;
+    }
 
 pub burn-requires-clause-positive : goal.burn-requires-clause-positive
 burn-requires-clause-positive c =

@@ -4,7 +4,7 @@ use Rattle.std.specs.Prelude.{IfOk}
 use Rattle.rules_instructions.specs.Straight as i
 use Rattle.rules_steps.specs.TicketSteps.{ticket_step}
 use Rattle.mich_overload.specs.View.{ticket_row}
-use Rattle.mich_stack.specs.Ends.{IsKept}
+use Rattle.mich_stack.specs.Ends.{Fits, IsKept}
 use Rattle.mich_stack.specs.Views.{Sight, values}
 use Rattle.mich_tickets.specs.Effects.{Tells}
 use Rattle.mich_tickets.specs.Sums.{minted_of}
@@ -45,3 +45,24 @@ pub returns-in-JoinTickets-clause-tells : goal.returns-in-JoinTickets-clause-tel
 returns-in-JoinTickets-clause-tells c =
     subst (λ q. IfOk c.join_tickets.result (λ _. (big : Sight) → Tells (changes_of (ticket_step (environment c.args.env.now) (minted_of c.args.ledger.now.books.present) (ticket_row q) (values big c.args.stack.now))) c.args.ledger.now c.join_tickets.new.ledger)) (sym c.in-JoinTickets.is)
     (told_here (λ e total big. Tells (changes_of (ticket_step e total i.join_tickets (values big c.args.stack.now))) c.args.ledger.now c.join_tickets.new.ledger) (environment c.args.env.now) (minted_of c.args.ledger.now.books.present) c.join_tickets.result c.join_tickets.ensures.tells)
+
+pub read_ticket-requires : goal.read_ticket-requires
+read_ticket-requires c = (
+  environment c.args.env.now,
+  minted_of c.args.ledger.now.books.present,
+  subst (λ q. Fits (ticket_step (environment c.args.env.now) (minted_of c.args.ledger.now.books.present) (ticket_row q)) c.args.stack.now) c.in-ReadTicket.is c.requires.fits,
+)
+
+pub split_ticket-requires-clause-fits : goal.split_ticket-requires-clause-fits
+split_ticket-requires-clause-fits c = (
+  environment c.args.env.now,
+  minted_of c.args.ledger.now.books.present,
+  subst (λ q. Fits (ticket_step (environment c.args.env.now) (minted_of c.args.ledger.now.books.present) (ticket_row q)) c.args.stack.now) c.in-SplitTicket.is c.requires.fits,
+)
+
+pub join_tickets-requires-clause-fits : goal.join_tickets-requires-clause-fits
+join_tickets-requires-clause-fits c = (
+  environment c.args.env.now,
+  minted_of c.args.ledger.now.books.present,
+  subst (λ q. Fits (ticket_step (environment c.args.env.now) (minted_of c.args.ledger.now.books.present) (ticket_row q)) c.args.stack.now) c.in-JoinTickets.is c.requires.fits,
+)
