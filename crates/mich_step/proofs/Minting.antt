@@ -27,6 +27,7 @@ use Rattle.mich_tickets.specs.Books.{State}
 use Rattle.mich_tickets.specs.Effects.{Tells}
 use Rattle.mich_tickets.specs.Sums.{minted_of}
 use Rattle.mich_tickets.specs.declared.errors.MintError.TheVariants as mint
+use Rattle.mich_step.specs.Parts.{IsNumber}
 use Rattle.mich_step.specs.Tells.{IsMinted, changes_of}
 use Rattle.mich_step.proofs.Ledgers.{tells_same}
 use Rattle.mich_step.proofs.Splitting.{ends_with, tells_with}
@@ -97,11 +98,11 @@ pub is_told : (s t : Step) (old new : State) → s ≡ t → Tells (changes_of t
 is_told s t old new e h = subst (λ x. Tells (changes_of x) old new) (sym e) h
 
 -- TICKET on a content and a number
-pub mint_step : (e : Environment) (total : Identity → ℤ) (a b : Kind) (V U W : List Val) (c d : Val) (n : ℤ) → V ≡ c ∷ U → U ≡ d ∷ W → d ≡ number n →
-    b ≡ a → pos 0 ≤ℤ n → ticket_step e total (i.ticket a) V ≡ ticket_step_of (contract_place e.own) total b c (unsigned_abs n) W
-mint_step e total a b V U W c d n f g h k p =
+pub mint_step : (e : Environment) (total : Identity → ℤ) (a b : Kind) (V U W : List Val) (c d : Val) (n m : ℤ) → V ≡ c ∷ U → U ≡ d ∷ W → d ≡ number n → m ≡ n →
+    b ≡ a → pos 0 ≤ℤ n → ticket_step e total (i.ticket a) V ≡ ticket_step_of (contract_place e.own) total b c (unsigned_abs m) W
+mint_step e total a b V U W c d n m f g h q k p =
     mint_is e total a V c n W (f ∙ ap (λ X. c ∷ X) (g ∙ ap (λ x. x ∷ W) h)) p
-    ∙ ap (λ x. ticket_step_of (contract_place e.own) total x c (unsigned_abs n) W) (sym k)
+    ∙ (λ i. ticket_step_of (contract_place e.own) total (sym k i) c (unsigned_abs (sym q i)) W)
 
 not_negative : (e : Environment) (total : Identity → ℤ) (a : Kind) (c : Val) (n : ℤ) (W : List Val) → IsFitting (ticket_step e total (i.ticket a) (c ∷ number n ∷ W)) → pos 0 ≤ℤ n
 not_negative e total a c (pos n) W h = omega (arith, ints)
@@ -112,3 +113,12 @@ pub mint_least : (e : Environment) (total : Identity → ℤ) (a : Kind) (V U W 
     IsFitting (ticket_step e total (i.ticket a) V) → pos 0 ≤ℤ n
 mint_least e total a V U W c d n f g h k =
     not_negative e total a c n W (subst (λ X. IsFitting (ticket_step e total (i.ticket a) X)) (f ∙ ap (λ X. c ∷ X) (g ∙ ap (λ x. x ∷ W) h)) k)
+
+is_number : (e : Environment) (total : Identity → ℤ) (a : Kind) (c d : Val) (W : List Val) → IsFitting (ticket_step e total (i.ticket a) (c ∷ d ∷ W)) → IsNumber d
+is_number e total a c (number n) W h = tt
+is_number e total a c _ W h = h
+
+-- it is a number
+pub mint_number : (e : Environment) (total : Identity → ℤ) (a : Kind) (V U W : List Val) (c d : Val) → V ≡ c ∷ U → U ≡ d ∷ W →
+    IsFitting (ticket_step e total (i.ticket a) V) → IsNumber d
+mint_number e total a V U W c d f g k = is_number e total a c d W (subst (λ X. IsFitting (ticket_step e total (i.ticket a) X)) (f ∙ ap (λ X. c ∷ X) g) k)

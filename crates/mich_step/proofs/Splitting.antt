@@ -118,3 +118,10 @@ split_ready b V t W e r = subst (λ X. IsReady b (tickets_on_top X)) e r
 pub minted_error : (s t : Step) (V W : List Val) (old new : State) (e : StepError) → s ≡ t → IsMinted t V old new (Err e) → IsDone s W (Err e)
 minted_error s t V W old new (Failed f) h m = h ∙ m
 minted_error s t V W old new Memory h m = tt
+
+-- a split by amounts that are these
+pub split_by : (e : Environment) (total : Identity → ℤ) (W V : List Val) (t : Ticket) (a b c d : ℤ) (o : Option (Ticket × Ticket)) (old new : State) → c ≡ a → d ≡ b →
+    V ≡ as_value (held t) ∷ both (number a) (number b) ∷ W → IsSplit t c d old new (Ok o) → Tells (changes_of (ticket_step e total i.split_ticket V)) old new
+split_by e total W V t a b c d o old new f g h s =
+    tells_with (ticket_step e total i.split_ticket V) (optional (option_map parts_value o) ∷ W) (split_changes t o) old new
+    (split_is e total W V t c d o old new (h ∙ (λ i. as_value (held t) ∷ both (number (sym f i)) (number (sym g i)) ∷ W)) s) (split_tells t c d o old new s)

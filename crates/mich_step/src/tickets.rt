@@ -85,9 +85,10 @@ fn mint(
     ensures keeps { KeepsBooks ledger.old.books ledger.new.books }
 {
     let content = take_key(alloc, stack)?;
-    let Some(Value::Number(n)) = pop(stack) else {
+    let Some(top) = pop(stack) else {
         unreachable!()
     };
+    let n = number_in(top);
     let ty = copy_type(alloc, ty)?;
     let id = TicketId {
         issuer: Place::Contract(env.me),

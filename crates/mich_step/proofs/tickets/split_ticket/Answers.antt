@@ -1,5 +1,7 @@
 -- A ticket is split as the rule of SPLIT_TICKET says.
-use Rattle.std.proofs.Common.{◌≡◌, [], ◌∷◌, ap, ◌∙◌}
+use Rattle.std.specs.Int.{w128}
+use Rattle.std.proofs.lemmas.Int.{to_z-of_z}
+use Rattle.std.proofs.Common.{rules, SFits, ◌≡◌, [], ◌∷◌, ap, ◌∙◌}
 use Rattle.std.specs.Prelude.{option_map}
 use Rattle.rules_values.specs.Val.{number, both}
 use Rattle.rules_instructions.specs.Straight as i
@@ -10,7 +12,7 @@ use Rattle.mich_term.specs.ValueView.{big_step}
 use Rattle.mich_stack.specs.Views.{values, plain}
 use Rattle.mich_tickets.proofs.Readiness.{ready_first}
 use Rattle.mich_step.specs.Tells.{split_changes}
-use Rattle.mich_step.proofs.Splitting.{split_ready, split_is, split_tells, tells_with, parts_value}
+use Rattle.mich_step.proofs.Splitting.{split_ready, split_by}
 use Rattle.mich_step.proofs.tickets.split_ticket.Goals as goal
 
 pub split-requires-clause-within : goal.split-requires-clause-within
@@ -32,5 +34,6 @@ returns-clause-tells c = λ e total big.
     let new = c.split.new.self in
     let operands : V ≡ as_value (held t) ∷ both (number a) (number b) ∷ W =
         c.in-Some.ensures big ∙ (λ i. c.ticket_in-ticket.ensures big i ∷ c.take_amounts-a.ensures big i) in
-    tells_with (ticket_step e total i.split_ticket V) (optional (option_map parts_value parts) ∷ W) (split_changes t parts) old new
-    (split_is e total W V t a b parts old new operands c.in_ok-parts.ensures.answer) (split_tells t a b parts old new c.in_ok-parts.ensures.answer)
+    let fits_a : SFits w128 a = search rules in
+    let fits_b : SFits w128 b = search rules in
+    split_by e total W V t a b _ _ parts old new (to_z-of_z w128 a fits_a) (to_z-of_z w128 b fits_b) operands c.in_ok-parts.ensures.answer
