@@ -78,8 +78,8 @@ pub minted_ok : (id : TicketId) (n : ℤ) (V : List Val) (old new : State) (t : 
 minted_ok id n V old new t h =
     let s = rule_of id n old V in
     let e : s ≡ done (some (as_value (held t)) ∷ V) (minted (held t) ∷ []) =
-        minted_some (place_bytes id.issuer) (minted_of old.books.present) (kind id.ty) (datum id.content) n V h.0 h.1
-        ∙ ap (λ (u : Ticket). done (some (as_value (held u)) ∷ V) (minted (held u) ∷ [])) (sym h.2) in
+    minted_some (place_bytes id.issuer) (minted_of old.books.present) (kind id.ty) (datum id.content) n V h.0 h.1
+    ∙ ap (λ (u : Ticket). done (some (as_value (held u)) ∷ V) (minted (held u) ∷ [])) (sym h.2) in
     (ends_with s (some (as_value (held t)) ∷ V) (minted (held t) ∷ []) e, tells_with s (some (as_value (held t)) ∷ V) (minted (held t) ∷ []) old new e h.3)
 
 above : (n : ℤ) → (n ≡ pos 0 → ⊥) → pos 0 ≤ℤ n → pos 0 <ℤ n

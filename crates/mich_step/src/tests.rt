@@ -1,19 +1,13 @@
 // What no clause says: that the calls answer with ample memory.
-ghost use Rattle.std.specs.Prelude.{◌≡◌, map};
+ghost use Rattle.std.specs.Prelude.{map};
 ghost use Rattle.mich_term.specs.TicketView.{held};
-ghost use Rattle.mich_tickets.specs.Books.{fresh, no_books};
 
-use crate::{
-    Env, environment_step, logic_step, number_step, pair_step, stack_step, step, union_step,
-};
-use mich_base::{Memory, Rows, Ty};
+use crate::{Env, environment_step, logic_step, number_step, pair_step, stack_step, union_step};
+use mich_base::{Memory, Rows};
 use mich_forms::{ChainId, KeyHash, Place};
-use mich_overload::{
-    EnvironmentRow, LogicRow, NumberRow, PairRow, Simple, StackRow, TicketRow, UnionRow,
-};
+use mich_overload::{EnvironmentRow, LogicRow, NumberRow, PairRow, StackRow, UnionRow};
 use mich_stack::{StepError, two_on_top};
-use mich_term::{Burner, Change, Ticket, Value};
-use mich_tickets::Ledger;
+use mich_term::{Burner, Ticket, Value};
 use std::alloc::Global;
 use std::test::Fail;
 
@@ -147,37 +141,5 @@ fn the_amount_is_read(rt: HostRuntime) -> Result<(), Fail> {
         &mut stack,
     )?;
     assert!(rt; matches!(stack.as_slice(), [_, _, Value::Number(6)]));
-    Ok(())
-}
-
-#[test]
-fn a_unit_is_put(rt: HostRuntime) -> Result<(), Fail> {
-    let mut ledger = Ledger::new(rt.alloc());
-    let mut stack = Rows::new(rt.alloc());
-    let row = Simple::Stack(StackRow::Unit);
-    step(rt.alloc(), &row, &mut stack, &mut ledger, &surroundings())?;
-    assert!(rt; matches!(stack.as_slice(), [Value::Unit]));
-    Ok(())
-}
-
-// TICKET, where a number stands on 5 alone, and no ticket was ever minted.
-fn mint(alloc: Global, stack: &mut Rows<Value>, ledger: &mut Ledger) -> Result<(), StepError>
-    requires { ledger.old ≡ fresh no_books }
-{
-    let Some((Value::Number(_), Value::Number(5), [])) = two_on_top(stack.as_slice()) else {
-        return Ok(());
-    };
-    let row = Simple::Tickets(TicketRow::Ticket(Ty::Nat));
-    step(alloc, &row, stack, ledger, &surroundings())
-}
-
-#[test]
-fn tickets_are_minted_and_told(rt: HostRuntime) -> Result<(), Fail> {
-    let mut ledger = Ledger::new(rt.alloc());
-    let mut stack = numbers(rt.alloc(), 5, 7)?;
-    mint(rt.alloc(), &mut stack, &mut ledger)?;
-    assert!(rt; matches!(stack.as_slice(), [Value::Some(_)]));
-    let changes = ledger.take_changes();
-    assert!(rt; matches!(changes.as_slice(), [Change::Minted(_, 5)]));
     Ok(())
 }

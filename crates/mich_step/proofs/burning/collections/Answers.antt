@@ -24,7 +24,7 @@ returns-in_ok-burn_all-in-Ok-clause-tells c = λ big shows.
     let row = collection_row c.args.row.now in
     let old = plain c.args.stack.now in
     let told = tells_with (collection_step row old) (plain c.collection_step.new.stack) (burns (gone (collection_step row old))) c.args.ledger.now c.burn_all.new.ledger (c.in-Ok.ensures.ends big_step)
-        (subst (λ l. Tells (burns l) c.args.ledger.now c.burn_all.new.ledger) (c.in-Ok.ensures.tells ∙ ap (λ ts. map held ts ++ gone (collection_step row old)) c.collector-told.ensures) c.in_ok-burn_all-in-Ok.ensures.tells) in
+    (subst (λ l. Tells (burns l) c.args.ledger.now c.burn_all.new.ledger) (c.in-Ok.ensures.tells ∙ ap (λ ts. map held ts ++ gone (collection_step row old)) c.collector-told.ensures) c.in_ok-burn_all-in-Ok.ensures.tells) in
     subst (λ cs. Tells cs c.args.ledger.now c.burn_all.new.ledger) (sym (collection_same (values big c.args.stack.now) old shows row c.requires.no_big_map)) told
 
 pub returns-in-Err-clause-ends : goal.returns-in-Err-clause-ends

@@ -24,7 +24,7 @@ returns-in_ok-burn_all-in-Ok-clause-tells c = λ big shows.
     let row = pair_row c.args.row.now in
     let old = plain c.args.stack.now in
     let told = tells_with (pair_step row old) (plain c.pair_step.new.stack) (burns (gone (pair_step row old))) c.args.ledger.now c.burn_all.new.ledger (c.in-Ok.ensures.ends big_step)
-        (subst (λ l. Tells (burns l) c.args.ledger.now c.burn_all.new.ledger) (c.in-Ok.ensures.tells ∙ ap (λ ts. map held ts ++ gone (pair_step row old)) c.collector-told.ensures) c.in_ok-burn_all-in-Ok.ensures.tells) in
+    (subst (λ l. Tells (burns l) c.args.ledger.now c.burn_all.new.ledger) (c.in-Ok.ensures.tells ∙ ap (λ ts. map held ts ++ gone (pair_step row old)) c.collector-told.ensures) c.in_ok-burn_all-in-Ok.ensures.tells) in
     subst (λ cs. Tells cs c.args.ledger.now c.burn_all.new.ledger) (sym (pair_same (values big c.args.stack.now) old shows row)) told
 
 pub returns-in-Err-clause-ends : goal.returns-in-Err-clause-ends

@@ -21,10 +21,12 @@ use Rattle.mich_step.proofs.tickets.mint.Goals as goal
 
 pub number_in-n-requires : goal.number_in-n-requires
 number_in-n-requires c =
-    let b0 = c.requires.fits.0 in
-    (b0, mint_number (environment c.args.env.now) (minted_of c.args.ledger.now.books.present) (kind c.args.ty.now) (values b0 c.args.stack.now)
-    (values b0 c.take_key.new.stack) (values b0 c.pop.new.stack) (datum c.in_ok-content.content) (seen b0 c.in-Some.top) (c.in_ok-content.ensures b0) (c.in-Some.ensures b0)
-    c.requires.fits.1)
+    let b0 = c.requires.fits.0 in (
+      b0,
+      mint_number (environment c.args.env.now) (minted_of c.args.ledger.now.books.present) (kind c.args.ty.now) (values b0 c.args.stack.now)
+          (values b0 c.take_key.new.stack) (values b0 c.pop.new.stack) (datum c.in_ok-content.content) (seen b0 c.in-Some.top) (c.in_ok-content.ensures b0) (c.in-Some.ensures b0)
+          c.requires.fits.1,
+    )
 
 pub returns-in_err-ticket-clause-ends : goal.returns-in_err-ticket-clause-ends
 returns-in_err-ticket-clause-ends c = λ big.
@@ -41,7 +43,7 @@ returns-in_err-ticket-clause-ends c = λ big.
     let fits : SFits w128 n = search rules in
     let b0 = c.requires.fits.0 in
     let least : pos 0 ≤ℤ n = mint_least E total (kind c.args.ty.now) (values b0 c.args.stack.now) (values b0 c.take_key.new.stack) (values b0 c.pop.new.stack) x (seen b0 c.in-Some.top) n
-        (c.in_ok-content.ensures b0) (c.in-Some.ensures b0) (c.number_in-n.ensures b0) c.requires.fits.1 in
+    (c.in_ok-content.ensures b0) (c.in-Some.ensures b0) (c.number_in-n.ensures b0) c.requires.fits.1 in
     let S = ticket_step E total (i.ticket (kind c.args.ty.now)) V in
     let same = mint_step E total (kind c.args.ty.now) (kind c.in_ok-ty.ty) V U W x y n _ first second (c.number_in-n.ensures big) (to_z-of_z w128 n fits) (ap kind c.in_ok-ty.ensures) least in
     let last : c.from_residual-in_err-ticket.result ≡ Err c.in_err-ticket.field-0.0 = search rules in
@@ -62,7 +64,7 @@ returns-clause-ends c = λ big.
     let fits : SFits w128 n = search rules in
     let b0 = c.requires.fits.0 in
     let least : pos 0 ≤ℤ n = mint_least E total (kind c.args.ty.now) (values b0 c.args.stack.now) (values b0 c.take_key.new.stack) (values b0 c.pop.new.stack) x (seen b0 c.in-Some.top) n
-        (c.in_ok-content.ensures b0) (c.in-Some.ensures b0) (c.number_in-n.ensures b0) c.requires.fits.1 in
+    (c.in_ok-content.ensures b0) (c.in-Some.ensures b0) (c.number_in-n.ensures b0) c.requires.fits.1 in
     let S = ticket_step E total (i.ticket (kind c.args.ty.now)) V in
     let same = mint_step E total (kind c.args.ty.now) (kind c.in_ok-ty.ty) V U W x y n _ first second (c.number_in-n.ensures big) (to_z-of_z w128 n fits) (ap kind c.in_ok-ty.ensures) least in
     is_done S _ (optional (option_map (λ (t : Ticket). as_value (held t)) c.in_ok-ticket.ticket) ∷ W) (values big c.push.new.stack) same
@@ -83,7 +85,7 @@ returns-clause-tells c = λ big.
     let fits : SFits w128 n = search rules in
     let b0 = c.requires.fits.0 in
     let least : pos 0 ≤ℤ n = mint_least E total (kind c.args.ty.now) (values b0 c.args.stack.now) (values b0 c.take_key.new.stack) (values b0 c.pop.new.stack) x (seen b0 c.in-Some.top) n
-        (c.in_ok-content.ensures b0) (c.in-Some.ensures b0) (c.number_in-n.ensures b0) c.requires.fits.1 in
+    (c.in_ok-content.ensures b0) (c.in-Some.ensures b0) (c.number_in-n.ensures b0) c.requires.fits.1 in
     let S = ticket_step E total (i.ticket (kind c.args.ty.now)) V in
     let same = mint_step E total (kind c.args.ty.now) (kind c.in_ok-ty.ty) V U W x y n _ first second (c.number_in-n.ensures big) (to_z-of_z w128 n fits) (ap kind c.in_ok-ty.ensures) least in
     is_told S _ c.args.ledger.now c.mint_tickets.new.ledger same (c.in_ok-ticket.ensures.minted W).1

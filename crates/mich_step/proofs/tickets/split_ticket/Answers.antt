@@ -33,7 +33,7 @@ returns-clause-tells c = λ e total big.
     let old = c.args.ledger.now in
     let new = c.split.new.self in
     let operands : V ≡ as_value (held t) ∷ both (number a) (number b) ∷ W =
-        c.in-Some.ensures big ∙ (λ i. c.ticket_in-ticket.ensures big i ∷ c.take_amounts-a.ensures big i) in
+    c.in-Some.ensures big ∙ (λ i. c.ticket_in-ticket.ensures big i ∷ c.take_amounts-a.ensures big i) in
     let fits_a : SFits w128 a = search rules in
     let fits_b : SFits w128 b = search rules in
     split_by e total W V t a b _ _ parts old new (to_z-of_z w128 a fits_a) (to_z-of_z w128 b fits_b) operands c.in_ok-parts.ensures.answer
