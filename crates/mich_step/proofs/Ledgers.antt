@@ -1,17 +1,17 @@
 -- What a ledger tells after nothing, and after more burns.
 use Rattle.std.proofs.Common.{◌≡◌, List, [], ◌∷◌, ◌++◌, map, append_assoc, refl, sym, ap, subst, ◌∙◌, arith}
-use Rattle.std.specs.Prelude.{ℤ, pos, ◌+ℤ◌}
+use Rattle.std.specs.Prelude.{ℤ, pos}
 use Rattle.std.proofs.lemmas.Int.{ints}
 use Rattle.std.proofs.lemmas.List.{append-nil, map-append}
 use Rattle.rules_values.specs.Tickets.{Identity, Held}
-use Rattle.rules_steps.specs.Changes.{Change, burnt, burns, amount_among, minted_in, burnt_in}
+use Rattle.rules_steps.specs.Changes.{burnt, burns, amount_among, minted_in, burnt_in}
 use Rattle.mich_term.specs.TicketView.{held}
 use Rattle.mich_term.specs.declared.ticket.Ticket.{Ticket}
 use Rattle.mich_tickets.specs.Books.{State}
 use Rattle.mich_tickets.specs.Effects.{change, listed_after, Tells}
 use Rattle.mich_tickets.specs.Limits.{IsReady}
 use Rattle.mich_tickets.specs.Prefixes.{among_append}
-use Rattle.mich_tickets.specs.Sums.{minted_of, burnt_of}
+use Rattle.mich_tickets.specs.Sums.{minted_of}
 
 pub tells_same : (s : State) → Tells [] s s
 tells_same s = record {

@@ -1,7 +1,7 @@
 -- What instructions ask of fitting values besides holds of stacks that show the same alike.
-use Rattle.std.proofs.Common.{◌≡◌, ℕ, zero, suc, Bool, true, false, ◌&&◌, List, [], ◌∷◌, map, refl, sym, ap, ◌∙◌, subst}
+use Rattle.std.proofs.Common.{◌≡◌, ℕ, zero, suc, ◌&&◌, List, [], ◌∷◌, map, refl, sym, ◌∙◌, subst}
 use Rattle.std.specs.Prelude.{◌-◌, Option, Some, None, option_map, slice_get, IfSome}
-use Rattle.rules_values.specs.Val.{Val, number, some, left, right, both, list, table, big_table, ticket, is_comparable}
+use Rattle.rules_values.specs.Val.{Val, number, some, left, right, both, ticket, is_comparable}
 use Rattle.rules_values.specs.Tickets.{tickets}
 use Rattle.rules_instructions.specs.Straight.{Straight, StackRow, CollectionRow, NumberRow, TicketRow, on_stack, on_pairs, on_unions, on_collections, on_numbers, on_truth, on_text, on_hashes, on_environment, on_operations, on_tickets}
 use Rattle.rules_instructions.specs.Straight as i

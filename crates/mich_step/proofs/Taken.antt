@@ -1,20 +1,20 @@
 -- What an instruction burns is a part of the tickets on the stack, and so may be burnt where these may.
 use Rattle.std.proofs.Common.{◌≡◌, ℕ, zero, suc, Bool, true, false, List, [], ◌∷◌, ◌++◌, take, drop, flat_map, refl, sym, ap, ◌∙◌, subst, arith}
-use Rattle.std.specs.Prelude.{◌-◌, ℤ, pos, ◌+ℤ◌, ◌≤ℤ◌, Option, Some, None, Result, Ok, Err, option_map, option_to_list, if◌then◌else◌, nat_le, length, slice_get, insert, remove, is_some}
+use Rattle.std.specs.Prelude.{◌-◌, pos, ◌≤ℤ◌, Option, Some, None, Result, Ok, Err, option_map, option_to_list, if◌then◌else◌, nat_le, length, slice_get, insert, remove, is_some}
 use Rattle.std.specs.List.{AllByRecursion}
 use Rattle.std.specs.Ordering.{is_eq}
 use Rattle.std.proofs.lemmas.Int.{ints}
 use Rattle.std.proofs.lemmas.List.{append-nil, take-append-drop}
 use Rattle.std.proofs.Common.{append_assoc}
 use Rattle.rules_numbers.specs.Limits.{Limit, int_or_limit}
-use Rattle.rules_values.specs.Val.{Val, truth, number, nothing, some, both, list, set, table, big_table, Vals, no_val, more_vals, Pairs, no_pair, more_pairs}
+use Rattle.rules_values.specs.Val.{Val, truth, number, nothing, some, both, list, set, table, big_table, Pairs, no_pair, more_pairs}
 use Rattle.rules_values.specs.Order.{order}
 use Rattle.rules_values.specs.Tables.{value_at}
 use Rattle.rules_values.specs.Tickets.{Identity, Held, tickets, pair_tickets}
 use Rattle.rules_instructions.specs.Straight.{StackRow, PairRow, CollectionRow, TicketRow}
 use Rattle.rules_instructions.specs.Straight as i
 use Rattle.rules_steps.specs.Changes.{amount_among}
-use Rattle.rules_steps.specs.Step.{Step, discarding, kept, wrong, on_some, where_true, within_limit, optional}
+use Rattle.rules_steps.specs.Step.{Step, discarding, kept, on_some, where_true, within_limit}
 use Rattle.rules_steps.specs.Sets.{element_count, entry_count}
 use Rattle.rules_steps.specs.Stack.{Part, Replaced, stack_step, pair_step, comb, parts, part_at, passing, replaced, behind}
 use Rattle.rules_steps.specs.Collections.{collection_step, on_option, updated, exchanged, map_with}

@@ -7,7 +7,7 @@ use Rattle.rules_values.specs.Tickets.{Identity, Held, tickets}
 use Rattle.rules_instructions.specs.Straight.{Straight, OperationRow, TicketRow, on_stack, on_pairs, on_collections, on_numbers, on_operations, on_tickets}
 use Rattle.rules_instructions.specs.Straight as i
 use Rattle.rules_steps.specs.Environment.{Environment}
-use Rattle.rules_steps.specs.Changes.{is_alike, identity_of}
+use Rattle.rules_steps.specs.Changes.{is_alike}
 use Rattle.rules_steps.specs.Step.{Step, wrong, kept}
 use Rattle.rules_steps.specs.Steps.{step}
 use Rattle.rules_steps.specs.TicketSteps.{most_minted}

@@ -113,13 +113,13 @@ fn a_pair_and_an_option_are_made(rt: HostRuntime) -> Result<(), Fail> {
     Ok(())
 }
 
-// Where and for whom a run is: the amount is 6 and the balance 7.
-fn surroundings() -> Env {
+#[test]
+fn the_amount_is_read(rt: HostRuntime) -> Result<(), Fail> {
     let account = KeyHash {
         tag: 0,
         hash: [1; 20],
     };
-    Env {
+    let env = Env {
         chain: ChainId { body: [2; 4] },
         level: 3,
         now: 4,
@@ -128,18 +128,9 @@ fn surroundings() -> Env {
         me: [5; 20],
         amount: 6,
         balance: 7,
-    }
-}
-
-#[test]
-fn the_amount_is_read(rt: HostRuntime) -> Result<(), Fail> {
+    };
     let mut stack = numbers(rt.alloc(), 1, 2)?;
-    environment_step(
-        rt.alloc(),
-        &surroundings(),
-        &EnvironmentRow::Amount,
-        &mut stack,
-    )?;
+    environment_step(rt.alloc(), &env, &EnvironmentRow::Amount, &mut stack)?;
     assert!(rt; matches!(stack.as_slice(), [_, _, Value::Number(6)]));
     Ok(())
 }

@@ -2,11 +2,10 @@
 use Rattle.std.specs.Int.{w128}
 use Rattle.std.proofs.lemmas.Int.{to_z-of_z}
 use Rattle.std.proofs.Common.{rules, SFits, ◌≡◌, ◌∷◌, Err, ap, sym, subst, ◌∙◌}
-use Rattle.std.specs.Prelude.{pos, ◌≤ℤ◌, option_map, unsigned_abs}
-use Rattle.rules_forms.specs.Spelling.{contract_place}
+use Rattle.std.specs.Prelude.{pos, ◌≤ℤ◌, option_map}
 use Rattle.rules_instructions.specs.Straight as i
 use Rattle.rules_steps.specs.Step.{optional}
-use Rattle.rules_steps.specs.TicketSteps.{as_value, ticket_step, ticket_step_of}
+use Rattle.rules_steps.specs.TicketSteps.{as_value, ticket_step}
 use Rattle.mich_base.specs.TypeView.{kind}
 use Rattle.mich_term.specs.TicketView.{held}
 use Rattle.mich_term.specs.View.{datum}

@@ -2,16 +2,12 @@
 use Rattle.std.specs.Int.{w128}
 use Rattle.std.proofs.lemmas.Int.{to_z-of_z}
 use Rattle.std.proofs.Common.{rules, SFits, ◌≡◌, [], ◌∷◌, ap, ◌∙◌}
-use Rattle.std.specs.Prelude.{option_map}
 use Rattle.rules_values.specs.Val.{number, both}
-use Rattle.rules_instructions.specs.Straight as i
-use Rattle.rules_steps.specs.Step.{optional}
-use Rattle.rules_steps.specs.TicketSteps.{as_value, ticket_step}
+use Rattle.rules_steps.specs.TicketSteps.{as_value}
 use Rattle.mich_term.specs.TicketView.{held}
 use Rattle.mich_term.specs.ValueView.{big_step}
 use Rattle.mich_stack.specs.Views.{values, plain}
 use Rattle.mich_tickets.proofs.Readiness.{ready_first}
-use Rattle.mich_step.specs.Tells.{split_changes}
 use Rattle.mich_step.proofs.Splitting.{split_ready, split_by}
 use Rattle.mich_step.proofs.tickets.split_ticket.Goals as goal
 
