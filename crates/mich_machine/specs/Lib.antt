@@ -1,6 +1,5 @@
-pub mod Bases
-pub mod Standing
 pub mod Items
+pub mod Made
 pub mod Parts
 pub mod View
 pub mod Ends

@@ -3,4 +3,4 @@ use Rattle.mich_machine.proofs.machine.unwind.Goals as goal
 
 pub returns-in-Under-clause-acts : goal.returns-in-Under-clause-acts
 returns-in-Under-clause-acts c = λ x fs d Z o h.
-    rw (c.in_ok-put_all-in-Under.ensures x.bases) (under_ends (rw c.in-Under.is at h))
+    rw (c.in_ok-put_all-in-Under.ensures x.sight) (under_ends (rw c.in-Under.is at h))
