@@ -47,7 +47,7 @@ over_smaller m = frame_counts (fr.rest (left_of m)) (frames big_step m.frames)
 
 -- a frame that was taken off
 pub popped : (fs gs : List Frame) (x : Frame) → fs ≡ gs ++ x ∷ [] → frames big_step fs ≡ frame big_step x ∷ frames big_step gs
-popped fs gs x e = ap (frames []) e ∙ map_reverse (frame big_step) gs x
+popped fs gs x e = ap (frames big_step) e ∙ map_reverse (frame big_step) gs x
 
 pub popped_smaller : (fs gs : List Frame) (x : Frame) → fs ≡ gs ++ x ∷ [] → frames_size (frames big_step gs) < frames_size (frames big_step fs)
 popped_smaller fs gs x e = subst (λ hs. frames_size (frames big_step gs) < frames_size hs) (sym (popped fs gs x e)) (frame_counts (frame big_step x) (frames big_step gs))

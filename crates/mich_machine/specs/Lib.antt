@@ -1,5 +1,4 @@
 pub mod Items
-pub mod Made
 pub mod Parts
 pub mod View
 pub mod Ends

@@ -11,8 +11,6 @@ mod items;
 mod iterating;
 mod loops;
 mod machine;
-mod made;
-mod mapping;
 mod paying;
 mod run;
 mod stack;

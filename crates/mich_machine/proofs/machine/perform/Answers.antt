@@ -2,8 +2,7 @@ use Rattle.std.proofs.Common.{ap, ◌∙◌}
 use Rattle.mich_base.specs.View.{trees}
 use Rattle.mich_base.specs.TypeView.{kind}
 use Rattle.mich_instr.specs.View.{code, codes}
-use Rattle.mich_frames.proofs.Calls.{never_meets}
-use Rattle.mich_machine.proofs.Codes.{code_dip, code_lambda, code_never}
+use Rattle.mich_machine.proofs.Codes.{code_dip, code_lambda}
 use Rattle.mich_machine.proofs.machine.perform.Goals as goal
 
 pub act_dip-requires : goal.act_dip-requires
@@ -25,4 +24,3 @@ pub returns-in_ok-act_lambda-in-Lambda-clause-acts : goal.returns-in_ok-act_lamb
 returns-in_ok-act_lambda-in-Lambda-clause-acts c = λ x fs d Z o h.
     let l = c.in-Lambda in
     c.in_ok-act_lambda-in-Lambda.ensures.acts (kind l.arg) (kind l.ret) (trees l.written) (codes l.code) x fs d Z o (rw (ap code l.is ∙ code_lambda l.recursive l.arg l.ret l.written l.body l.code) at h)
-
