@@ -1,9 +1,8 @@
 -- In a value that a literal of a well formed type spells each big map has its form, and there is no ticket.
-use Rattle.std.proofs.Common.{◌≡◌, ℕ, ℤ, Bool, true, false, List, [], ◌∷◌, ◌++◌, Option, Some, None, refl, sym, ap, ◌∙◌, subst}
+use Rattle.std.proofs.Common.{◌≡◌, ℕ, ℤ, Bool, true, List, [], ◌∷◌, ◌++◌, Option, Some, None, refl, ap, ◌∙◌, subst}
 use Rattle.std.specs.Prelude.{is_some}
 use Rattle.std.specs.List.{AllByRecursion}
 use Rattle.std.proofs.lemmas.Bool.{and_parts}
-use Rattle.rules_types.specs.declared.Simple.{Simple}
 use Rattle.rules_types.specs.Kind.{Kind}
 use Rattle.rules_types.specs.Kind as k
 use Rattle.rules_types.specs.Attributes.{big_value, duplicable}
@@ -11,8 +10,8 @@ use Rattle.rules_values.specs.Val.{Val, Pairs}
 use Rattle.rules_values.specs.Tickets.{Held, tickets, all_tickets, pair_tickets}
 use Rattle.laws_types.specs.Laws.{IsWellFormed}
 use Rattle.mich_base.specs.declared.node.Node.{Node}
-use Rattle.mich_term.specs.Layers.{AnyLayer, NoBigMap, PutsNoBigMap, FormedLayer, AreFormed}
-use Rattle.mich_term.specs.ValueView.{val, vals, entry, pairs, put_pairs, value_step, big_step}
+use Rattle.mich_term.specs.Layers.{NoBigMap, PutsNoBigMap, FormedLayer, AreFormed}
+use Rattle.mich_term.specs.ValueView.{val, vals, pairs, put_pairs, value_step, big_step}
 use Rattle.mich_term.specs.declared.datum.Datum.{Datum}
 use Rattle.mich_term.specs.declared.value.Value.{Value, roll-Value, out-Value, roll-out-Value, fold-roll-Value}
 use Rattle.mich_term.specs.declared.value.Value.TheOpen.{Value-F, BigMap-F}

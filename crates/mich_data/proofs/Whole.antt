@@ -1,17 +1,15 @@
 -- Values with the parts that their types name.
-use Rattle.std.proofs.Common.{◌≡◌, ℕ, ℤ, Bool, List, [], ◌∷◌, ◌++◌, Option, Some, None, refl, sym, ap, ◌∙◌, subst}
+use Rattle.std.proofs.Common.{◌≡◌, ℕ, ℤ, Bool, List, [], ◌∷◌, ◌++◌, Some, None, sym, ap, ◌∙◌, subst}
 use Rattle.std.specs.Prelude.{Result, IfOk}
-use Rattle.std.specs.Map.{keys_of}
 use Rattle.std.specs.List.{AllByRecursion}
 use Rattle.std.specs.declared.cmp.Ordering.{Ordering}
 use Rattle.std.specs.declared.cmp.Ordering.TheVariants.{Less, Equal, Greater}
 use Rattle.std.specs.Ordering.{match_ordering}
-use Rattle.rules_types.specs.declared.Simple.{Simple}
 use Rattle.rules_types.specs.Kind.{Kind}
 use Rattle.rules_types.specs.Kind as k
 use Rattle.rules_types.specs.Attributes.{duplicable}
 use Rattle.mich_base.specs.declared.node.Node.{Node}
-use Rattle.mich_term.specs.Keyed.{by, with, IsIncreasing}
+use Rattle.mich_term.specs.Keyed.{by, with}
 use Rattle.mich_term.specs.declared.datum.Datum.{Datum}
 use Rattle.mich_term.specs.declared.value.Value.{Value, out-Value, out-roll-Value}
 use Rattle.mich_term.specs.declared.value.Value.TheOpen.{Value-F}

@@ -4,3 +4,4 @@ pub mod Plain
 pub mod Typed
 pub mod Issued
 pub mod Scripts
+pub mod Erased
