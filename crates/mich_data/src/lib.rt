@@ -12,7 +12,7 @@ mod writing;
 pub use error::ValueError;
 pub use pending::{Pending, Read};
 pub use reading::{read_value, read_value_at};
-pub use writing::{datum_node, value_node};
+pub use writing::value_node;
 
 #[cfg(test)]
 mod tests;

@@ -72,8 +72,8 @@ fn lambda_node(alloc: Global, body: &Node, recursive: bool) -> Result<Node, Memo
     }
 }
 
-/// The canonical literal of a comparable value (Michelson reference, "PACK"). Memory where there is no room for the node.
-pub fn datum_node(alloc: Global, value: &Datum) -> Result<Node, Memory>
+// The literal of a comparable value.
+fn datum_node(alloc: Global, value: &Datum) -> Result<Node, Memory>
     ensures { IfOk result (λ n. tree n ≡ canonical (datum value.now)) }
 {
     match value {

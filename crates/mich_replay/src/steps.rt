@@ -5,7 +5,7 @@ ghost use Rattle.rules_replay.specs.Statements.{form};
 ghost use Rattle.rules_replay.specs.World.{receipt_of, world_after, granted_to};
 ghost use Rattle.rules_replay.specs.Replay.{step, step_by, granting};
 ghost use Rattle.rules_replay.specs.Lines.{group_line};
-ghost use Rattle.mich_transfers.specs.View.{said, content_said};
+ghost use Rattle.mich_scenario.specs.View.{said, content_said};
 ghost use Rattle.mich_replay.specs.View.{file_fault_seen};
 ghost use Rattle.mich_replay.specs.Steps.{IsGranting, IsTaken};
 
@@ -15,7 +15,7 @@ use crate::world::World;
 use mich_answers::as_text;
 use mich_base::{Memory, Node, Texts};
 use mich_forms::KeyHash;
-use mich_transfers::{FormError, Group, Statement, read_form};
+use mich_scenario::{FormError, Group, Statement, read_form};
 use std::alloc::Global;
 
 // Makes an account, or says why it can't be made.

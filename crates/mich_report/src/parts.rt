@@ -8,7 +8,7 @@ ghost use Rattle.mich_forms.specs.Spelled.{address_bytes, place_bytes};
 ghost use Rattle.mich_term.specs.View.{datum};
 
 use mich_base::{Bytes, Memory, Node, Nodes};
-use mich_data::datum_node;
+use mich_data::value_node;
 use mich_forms::{Address, Place};
 use mich_term::TicketId;
 use mich_types::type_node;
@@ -51,7 +51,8 @@ pub(crate) fn ticket_nodes(alloc: Global, id: &TicketId, amount: i128) -> Result
     let mut fields = Nodes::new(alloc);
     fields.push(place_node(alloc, &id.issuer)?)?;
     fields.push(type_node(alloc, &id.ty)?)?;
-    fields.push(datum_node(alloc, &id.content)?)?;
+    let content = id.content.value(alloc)?;
+    fields.push(value_node(alloc, &content)?)?;
     fields.push(Node::Int(amount))?;
     Ok(fields)
 }

@@ -1,32 +1,27 @@
 -- What the code's statements stand for.
-use Rattle.std.specs.Prelude.{◌≡◌, [], ◌∷◌, List, map, Option, Some, None, Result, Ok, Err}
+use Rattle.std.specs.Prelude.{◌≡◌, [], ◌∷◌, Option, Some, None, Result, Ok, Err}
 use Rattle.rules_base.specs.Tree.{Tree, int, str, bytes, prim, seq}
-use Rattle.rules_world.specs.Contents as rules
-use Rattle.rules_statements.specs.Statements as statements
 use Rattle.mich_base.specs.View.{tree}
 use Rattle.mich_forms.specs.Spelled.{place_bytes}
-use Rattle.mich_ops.specs.View.{content}
-use Rattle.mich_ops.specs.declared.group.Content.{Content}
-use Rattle.mich_scenario.specs.declared.actions.Gift.{Gift}
+use Rattle.rules_replay.specs.Statements as rules
 use Rattle.mich_scenario.specs.declared.error.FormError.{FormError}
 use Rattle.mich_scenario.specs.declared.error.FormError.TheVariants as error
+use Rattle.mich_scenario.specs.declared.statement.Action.{Action}
+use Rattle.mich_scenario.specs.declared.statement.Action.TheVariants.{Call}
+use Rattle.mich_scenario.specs.declared.statement.Content.{Content}
 use Rattle.mich_scenario.specs.declared.statement.Statement.{Statement}
 use Rattle.mich_scenario.specs.declared.statement.Statement.TheVariants as code
 
--- the contents that are listed
-abbrev pub contents_said : List Content → List rules.Content
-contents_said cs = map content cs
+abbrev pub action_said : Action → rules.Action
+action_said (Call amount to entrypoint argument) = rules.Call amount (place_bytes to) entrypoint (tree argument)
 
-abbrev pub said : Statement → statements.Statement
-said (code.Chain id level moment) = statements.Chain id level moment
-said (code.Costs table) = statements.Costs (tree table)
-said (code.Account key_hash mutez) = statements.Account key_hash mutez
-said (code.Block level moment) = statements.Block level moment
-said (code.Group g) = statements.Group g.source (contents_said g.contents)
+abbrev pub content_said : Content → rules.Content
+content_said c = record { fee = c.fee; gas = c.gas; action = action_said c.action }
 
--- the action that a gift is, of this type and content
-abbrev pub given : Tree → Tree → Gift → rules.Action
-given kind content g = rules.Give (place_bytes g.issuer) kind content g.amount (place_bytes g.to) g.entry
+abbrev pub said : Statement → rules.Statement
+said (code.Chain id level moment) = rules.Chain id level moment
+said (code.Account key_hash mutez) = rules.Account key_hash mutez
+said (code.Group g) = rules.Group g.source (content_said g.content)
 
 -- what was read, seen so, is what a node says; or it says nothing
 abbrev pub IsForm : {X Y : Type 0} → (X → Y) → Option Y → Result X FormError → Type 0

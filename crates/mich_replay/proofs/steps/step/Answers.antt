@@ -1,8 +1,8 @@
 use Rattle.std.proofs.Common.{Option, Some, [], ◌∷◌, ap, ◌∙◌}
 use Rattle.rules_replay.specs.World.{World, receipt_of, world_after}
 use Rattle.rules_replay.specs.Replay.{step}
-use Rattle.mich_transfers.specs.declared.statement.Statement.{Statement}
-use Rattle.mich_transfers.specs.View.{said, content_said}
+use Rattle.mich_scenario.specs.declared.statement.Statement.{Statement}
+use Rattle.mich_scenario.specs.View.{said, content_said}
 use Rattle.mich_replay.proofs.steps.step.Goals as goal
 
 pub returns-in_ok-apply-in-Group-clause-taken : goal.returns-in_ok-apply-in-Group-clause-taken
