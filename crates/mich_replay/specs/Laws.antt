@@ -6,6 +6,14 @@ use Rattle.rules_replay.specs.Statements.{Statement, Chain, Account, Group, Cont
 use Rattle.rules_replay.specs.Receipts.{GroupFault, Failure, Refused, Done, Failed}
 use Rattle.rules_replay.specs.World.{World, balance_of, balance_in, receipt_of, world_after, supply}
 use Rattle.rules_replay.specs.Replay.{Replay, State, IsReplay}
+use Rattle.rules_replay.specs.Answers.{Answer}
+use Rattle.rules_replay.specs.Commands.{Command, IsAnswer}
+
+-- ---- answers
+
+-- whatever the files hold, a command has no two answers
+abbrev pub HasOneAnswer : Command → Type 0
+HasOneAnswer command = (content : List ℕ → Option (List ℕ)) (a b : Answer) → IsAnswer command content a → IsAnswer command content b → a ≡ b
 
 -- ---- mutez
 

@@ -7,7 +7,13 @@ ghost use Rattle.rules_replay.specs.Codec.{IsCodecAnswer};
 ghost use Rattle.rules_replay.specs.Replay.{Replay, State, IsReplay};
 ghost use Rattle.rules_replay.specs.Scripts.{IsCheckAnswer};
 ghost use Rattle.rules_replay.specs.World.{World};
-ghost use Rattle.mich_replay.specs.Laws.{ConservesMutez, RefusalChangesNothing, FailureTakesFeeAlone};
+ghost use Rattle.rules_replay.specs.Commands.{Command};
+ghost use Rattle.mich_replay.specs.Laws.{ConservesMutez, HasOneAnswer, RefusalChangesNothing, FailureTakesFeeAlone};
+
+/// A command has one answer: whatever the files hold, no two statuses and texts are answers to it.
+pub fn commands_have_one_answer()
+    ensures { (command : Command) → HasOneAnswer command }
+{}
 
 /// Mutez is neither made nor lost: at the end of a file, balances and fees are together what its accounts were granted.
 pub fn mutez_is_conserved()

@@ -16,7 +16,8 @@ mod world;
 
 pub use honest::replay_bytes;
 pub use laws::{
-    groups_are_all_or_nothing, long_files_are_decided_by_their_fronts, mutez_is_conserved,
+    commands_have_one_answer, groups_are_all_or_nothing, long_files_are_decided_by_their_fronts,
+    mutez_is_conserved,
 };
 pub use top::mich;
 
