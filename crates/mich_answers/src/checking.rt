@@ -12,11 +12,10 @@ ghost use Rattle.mich_answers.specs.Checked.{IsWhole, is_one_sequence};
 ghost use Rattle.mich_answers.specs.View.{answer_seen, IsDoneOrRefused};
 
 use crate::answer::{Answer, done, refused};
-use crate::lines::text_kind_name;
+use crate::lines::{node_line, text_kind_name};
 use crate::statements::{Next, read_next};
 use mich_base::{Memory, Node, Nodes, Texts};
 use mich_check::{CheckError, check_script};
-use mich_report::node_line;
 use mich_types::{bare, over_one};
 use rules_text::TextKind;
 use std::alloc::Global;

@@ -1,9 +1,12 @@
 // The lines that are written.
 ghost use Rattle.std.specs.Prelude.{◌≡◌, ◌++◌, ◌∷◌, [], IfOk, string_bytes, codes};
+ghost use Rattle.rules_lines.specs.Nodes.{line};
 ghost use Rattle.rules_replay.specs.Lines.{refusal_line, text_kind_name};
+ghost use Rattle.mich_base.specs.View.{tree};
 ghost use Rattle.rules_replay.specs.Codec.{decode_kind_name, bytes_line};
 
-use mich_base::Text;
+use mich_base::{Memory, Node, Text};
+use mich_text::print;
 use rules_binary::DecodeKind;
 use rules_text::TextKind;
 use std::alloc::{AllocError, Global};
@@ -54,6 +57,16 @@ pub fn bytes_line(alloc: Global, bytes: &[u8]) -> Result<String, AllocError>
     let digits = hex::encode(alloc, bytes)?;
     let digits = digits.as_str();
     format!(in alloc; "0x{digits}\n")
+}
+
+/// The line of a node: the node as it is printed, and a newline. Memory where there is no room for it.
+pub fn node_line(alloc: Global, node: &Node) -> Result<Text, Memory>
+    ensures { IfOk result (λ written. written ≡ line (tree node.now)) }
+{
+    let text = print(alloc, node)?;
+    let mut line = text.as_slice().to_vec(alloc)?;
+    line.push(b'\n')?;
+    Ok(Text::from_vec(line))
 }
 
 /// A line as its bytes.

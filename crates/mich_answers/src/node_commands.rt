@@ -9,12 +9,11 @@ ghost use Rattle.rules_base.specs.Tree.{size};
 ghost use Rattle.mich_answers.specs.Listed.{of_kept, IsSmall};
 
 use crate::answer::{Answer, done, misplaced, refused};
-use crate::lines::{as_text, bytes_line, decode_kind_name, text_kind_name};
+use crate::lines::{as_text, bytes_line, decode_kind_name, node_line, text_kind_name};
 use crate::packing::pack_node;
 use crate::statements::{Listed, list_file};
 use mich_base::{Memory, Node};
 use mich_binary::{DecodeError, EncodeError, decode, encode};
-use mich_report::node_line;
 use std::alloc::Global;
 
 /// A command that takes the one node of a file.
