@@ -14,7 +14,7 @@ returns-in-List c = λ big.
 
 pub returns-in_ok-elements-in-Set : goal.returns-in_ok-elements-in-Set
 returns-in_ok-elements-in-Set c = λ big.
-    ap (λ vs. map (seen big) (reverse vs)) c.values_of-in-Set.ensures ∙ ap (map (seen big)) (reverse-reverse c.in_ok-elements-in-Set.elements) ∙ c.in_ok-elements-in-Set.ensures big
+    ap (λ vs. map (seen big) (reverse vs)) c.values_of-in-Set.ensures ∙ ap (map (seen big)) (reverse-reverse c.from_rows.result ∙ c.from_rows.ensures) ∙ c.in_ok-elements-in-Set.ensures big
     ∙ sym (ap (λ v. items_in (seen big v)) c.in-Set.is ∙ ap items_in (seen_set big c.in-Set.set) ∙ elements_are_data c.in-Set.set)
 
 pub returns-in_ok-entries-in-Map : goal.returns-in_ok-entries-in-Map
