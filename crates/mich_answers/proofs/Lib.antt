@@ -1,3 +1,4 @@
+pub mod Claims
 pub mod Listing
 pub mod Shorter
 pub mod Stated

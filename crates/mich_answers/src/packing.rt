@@ -18,7 +18,7 @@ ghost use Rattle.mich_answers.specs.View.{answer_seen};
 
 use crate::answer::{Answer, done, refused};
 use crate::lines::{as_text, bytes_line};
-use mich_base::{Memory, Node, Ty, size_within};
+use mich_base::{Memory, Node, Rows, Ty};
 use mich_check::{CheckError, Checked, check_literal_at};
 use mich_data::Pending;
 use mich_pack::{PackError, pack};
@@ -45,25 +45,28 @@ fn packed_value(alloc: Global, value: &Value) -> Result<Answer, Memory>
 }
 
 // The location of the first contract that a literal names.
-fn first_claim(pending: &[Pending]) -> Option<u32>
-    ensures { result ≡ first_claim (all_pending pending.now) }
+#[tactic(auto, using(crate::proofs::Claims::claim_here, crate::proofs::Claims::body_here, crate::proofs::Claims::none_left))]
+fn first_claim(pending: Rows<Pending>) -> Option<u32>
+    ensures { result ≡ first_claim (all_pending pending) }
 {
-    for item in pending {
-        if let Pending::Claim { location, .. } = item {
-            return Some(*location);
+    for item in pending.into_vec() {
+        match item {
+            Pending::Claim { location, .. } => return Some(location),
+            Pending::Body { .. } => {}
         }
     }
     None
 }
 
 // The answer to a literal that is read.
-fn checked_literal(alloc: Global, literal: &Checked) -> Result<Answer, Memory>
-    requires { IsPackable (val literal.now.value) }
-    ensures { IfOk result (λ a. answer_seen a ≡ literal_answer (found (checked literal.now))) }
+fn checked_literal(alloc: Global, literal: Checked) -> Result<Answer, Memory>
+    requires { IsPackable (val literal.value) }
+    ensures { IfOk result (λ a. answer_seen a ≡ literal_answer (found (checked literal))) }
 {
-    match first_claim(literal.claims.as_slice()) {
+    let Checked { value, claims } = literal;
+    match first_claim(claims) {
         Some(location) => ill_typed(alloc, location),
-        None => packed_value(alloc, &literal.value),
+        None => packed_value(alloc, &value),
     }
 }
 
@@ -75,7 +78,7 @@ fn read_literal(alloc: Global, ty: &Ty, literal: &Node, at: u32) -> Result<Answe
     ensures { IfOk result (λ a. answer_seen a ≡ literal_answer (of_reading (read (kind ty.now) at (tree literal.now)))) }
 {
     match check_literal_at(alloc, ty, literal, at) {
-        Ok(literal) => checked_literal(alloc, &literal),
+        Ok(literal) => checked_literal(alloc, literal),
         Err(CheckError::IllTyped(location)) => ill_typed(alloc, location),
         Err(CheckError::Memory) => Err(Memory),
     }
