@@ -1,4 +1,5 @@
 pub mod Claims
+pub mod Fields
 pub mod Listing
 pub mod Shorter
 pub mod Stated

@@ -1,15 +1,16 @@
 // A node whose literal is packed.
 ghost use Rattle.std.specs.Prelude.{◌≡◌, ◌+◌, ◌<◌, ◌^◌, true, IfOk, Some, option_map};
-ghost use Rattle.rules_base.specs.Tree.{size};
+ghost use Rattle.rules_base.specs.Tree.{size, sizes};
 ghost use Rattle.rules_types.specs.Attributes.{packable};
 ghost use Rattle.rules_types.specs.Reading.{type_at};
 ghost use Rattle.rules_values.specs.Literals.{read};
 ghost use Rattle.rules_steps.specs.Packing.{packed};
 ghost use Rattle.rules_typing.specs.Literals.{of_reading};
-ghost use Rattle.rules_replay.specs.Packs.{first_claim, ill_typed_at, literal_answer, pack_literal, pack_node, packed_answer, packing_answer};
+ghost use Rattle.rules_replay.specs.Packs.{first_claim, ill_typed_at, literal_answer, pack_by, pack_fields, pack_literal, pack_node, packed_answer, packing_answer};
+ghost use Rattle.rules_replay.specs.Statements.{nodes_of};
 ghost use Rattle.laws_packing.specs.Names.{IsPackable};
 ghost use Rattle.mich_base.specs.TypeView.{kind};
-ghost use Rattle.mich_base.specs.View.{tree};
+ghost use Rattle.mich_base.specs.View.{tree, trees};
 ghost use Rattle.mich_check.specs.Pending.{checked};
 ghost use Rattle.mich_data.specs.View.{all_pending};
 ghost use Rattle.mich_term.specs.ValueView.{val};
@@ -18,7 +19,7 @@ ghost use Rattle.mich_answers.specs.View.{answer_seen};
 
 use crate::answer::{Answer, done, refused};
 use crate::lines::{as_text, bytes_line};
-use mich_base::{Memory, Node, Rows, Ty};
+use mich_base::{Memory, Node, Nodes, Rows, Ty};
 use mich_check::{CheckError, Checked, check_literal_at};
 use mich_data::Pending;
 use mich_pack::{PackError, pack};
@@ -109,6 +110,30 @@ fn pack_typed(alloc: Global, ty: &Node, literal: &Node) -> Result<Answer, Memory
     }
 }
 
+// The answer to the fields of `Pack`, where they are a type and a literal.
+#[tactic(auto, using(crate::proofs::Fields::not_two))]
+fn pack_fields(alloc: Global, fields: &Nodes) -> Result<Option<Answer>, Memory>
+    requires { sizes (trees fields.now) + 1 < 2 ^ 32 }
+    ensures { IfOk result (λ a. option_map answer_seen a ≡ pack_fields (nodes_of (trees fields.now))) }
+{
+    match fields.both() {
+        Some((ty, literal)) => Ok(Some(pack_typed(alloc, ty, literal)?)),
+        None => Ok(None),
+    }
+}
+
+// The answer to an application of a name.
+fn pack_by(alloc: Global, name: &[u8], fields: &Nodes) -> Result<Option<Answer>, Memory>
+    requires { sizes (trees fields.now) + 1 < 2 ^ 32 }
+    ensures { IfOk result (λ a. option_map answer_seen a ≡ pack_by name.now (nodes_of (trees fields.now))) }
+{
+    if name == b"Pack".as_slice() {
+        pack_fields(alloc, fields)
+    } else {
+        Ok(None)
+    }
+}
+
 /// The answer to a node that is `Pack type literal`: the bytes of PACK, or why there are none. None where the node hasn't this
 /// form.
 pub(crate) fn pack_node(alloc: Global, node: &Node) -> Result<Option<Answer>, Memory>
@@ -118,11 +143,8 @@ pub(crate) fn pack_node(alloc: Global, node: &Node) -> Result<Option<Answer>, Me
     let Node::Prim(app) = node else {
         return Ok(None);
     };
-    if !app.annots.is_empty() || app.name.as_slice() != b"Pack".as_slice() {
+    if !app.annots.is_empty() {
         return Ok(None);
     }
-    match app.args.both() {
-        Some((ty, literal)) => Ok(Some(pack_typed(alloc, ty, literal)?)),
-        None => Ok(None),
-    }
+    pack_by(alloc, app.name.as_slice(), &app.args)
 }
