@@ -8,7 +8,7 @@ use Rattle.rules_types.specs.declared.Simple.TheVariants as s
 use Rattle.rules_values.specs.Val.{Val}
 use Rattle.rules_values.specs.Val as v
 use Rattle.rules_values.specs.Tickets.{tickets}
-use Rattle.rules_values.specs.Literals.{Word, unit_word, true_word, false_word, tested, number_value, text_value, bytes_value, bare_value, unit_of_word, truth_of_word, simple_value}
+use Rattle.rules_values.specs.Literals.{Word, unit_word, true_word, false_word, tested, number_value, text_value, bytes_value, bare_value, unit_of_word, truth_of_word, simple_value, word_of_name}
 
 abbrev pub IsBare : Option Val → Type 0
 IsBare None = Unit {0}
