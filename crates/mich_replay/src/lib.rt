@@ -22,6 +22,4 @@ pub use laws::{
 pub use top::mich;
 
 #[cfg(test)]
-mod check_tests;
-#[cfg(test)]
 mod tests;
