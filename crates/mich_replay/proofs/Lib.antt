@@ -10,4 +10,5 @@ pub mod Truth
 pub mod Verdicts
 pub mod Written
 pub mod Cut
+pub mod Ends
 pub mod Fronts
