@@ -1,5 +1,5 @@
 -- The statuses of packing.
-use Rattle.std.proofs.Common.{◌≡◌, ℕ, Bool, true, false, List, [], ◌∷◌, length, Option, Some, None, Result, Ok, Err, IfOk, inl, inr, refl, sym, subst}
+use Rattle.std.proofs.Common.{◌≡◌, ℕ, ◌+◌, Bool, true, false, List, [], ◌∷◌, length, Option, Some, None, Result, Ok, Err, IfOk, inl, inr, refl, sym, subst}
 use Rattle.std.specs.Prelude.{nat_le, if◌then◌else◌, codes}
 use Rattle.std.specs.Str.{bytes_eq}
 use Rattle.rules_base.specs.Tree.{Tree, int, str, bytes, prim, seq, size}
@@ -38,7 +38,7 @@ packing_own (a_type a) t n = chosen (packable a) (literal_answer (of_reading (re
 packing_own (bad_type location) t n = inr refl
 packing_own too_large t n = inr refl
 
-IsOwnAnswer : Option Answer → Type 0
+abbrev IsOwnAnswer : Option Answer → Type 0
 IsOwnAnswer None = Unit {0}
 IsOwnAnswer (Some a) = IsDoneOrRefused a.status
 
