@@ -62,7 +62,7 @@ fn run(
 }
 
 // Whether a command over a file of this text ends with this status, and writes this.
-fn is_answered(
+pub(crate) fn is_answered(
     alloc: Global,
     verb: &str,
     text: &str,
