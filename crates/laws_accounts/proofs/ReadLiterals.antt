@@ -17,7 +17,7 @@ use Rattle.rules_world.specs.Good.{known_with, FitsIn}
 use Rattle.laws_typing.specs.Laws.{AllClaimed}
 use Rattle.laws_typing.proofs.Fit.{fit}
 use Rattle.laws_accounts.proofs.ComparedLiterals.{compared_tried}
-use Rattle.laws_accounts.proofs.Literals.{literal_bare}
+use Rattle.laws_typing.proofs.Forms.{literals_hold_no_ticket}
 
 -- contracts that are claimed are there, where none is missed
 claims_true : (w : World) (ps : List Pending) → false_claim w (claims ps) ≡ None → AllClaimed (known_with w []) ps
@@ -62,7 +62,7 @@ literal_fits w a t x h small =
     fit (known_with w []) a 0 t x r.pending r.is r.bodies r.claimed small
 
 pub literal_empty : (w : World) (a : Kind) (t : Tree) (x : Val) → literal_in w a t ≡ found x → tickets x ≡ []
-literal_empty w a t x h = let r = reading w a t x h in literal_bare a 0 t x r.pending r.is
+literal_empty w a t x h = let r = reading w a t x h in literals_hold_no_ticket a 0 t x r.pending r.is
 
 -- a literal of a comparable type needs nothing more
 pub compared_fits : (w : World) (a : Kind) (t : Tree) (x : Val) (ps : List Pending) → comparable a ≡ true →

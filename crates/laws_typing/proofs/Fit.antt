@@ -1,21 +1,9 @@
 -- What is read of a literal fits its type, where all that is pending of it is tried and true.
-use Rattle.std.proofs.Common.{◌≡◌, ◌<◌, ◌^◌, ℕ, ◌+◌, Bool, true, false, cond, Option, Some, None, List, [], ◌∷◌, ◌++◌, refl, subst, arith}
-use Rattle.std.specs.declared.cmp.Ordering.{Ordering}
-use Rattle.std.specs.declared.cmp.Ordering.TheVariants.{Less, Equal, Greater}
-use Rattle.std.specs.Ordering.{is_lt}
-use Rattle.std.proofs.lemmas.Bool.{and_parts}
-use Rattle.rules_base.specs.Tree.{Tree, int, str, bytes, prim, seq, Trees, none, more, size}
-use Rattle.rules_types.specs.declared.Simple.{Simple}
-use Rattle.rules_types.specs.declared.Simple.TheVariants as s
+use Rattle.std.proofs.Common.{◌≡◌, ◌<◌, ◌^◌, ℕ, Bool, true, false, cond, Option, Some, None, List, [], ◌∷◌, refl, arith}
+use Rattle.rules_base.specs.Tree.{Tree, seq, size}
 use Rattle.rules_types.specs.Kind.{Kind}
-use Rattle.rules_types.specs.Kind as k
-use Rattle.rules_values.specs.Val.{Val, Vals, no_val, more_vals, Pairs, no_pair, more_pairs, is_comparable}
-use Rattle.rules_values.specs.Val as v
-use Rattle.rules_values.specs.Order.{order}
-use Rattle.rules_values.specs.Tables.{AreAbove, AreIncreasing, AreKeysAbove, AreIncreasingKeys}
-use Rattle.rules_values.specs.ByteForms.{is_address}
-use Rattle.rules_values.specs.Forms.{has_simple_form, AllHave, AllEntriesHave}
-use Rattle.rules_values.specs.Literals.{Word, unit_word, true_word, false_word, none_word, some_word, left_word, right_word, entry_word, recursive_word, word_of_name, Pending, body, claim, Literal, good, bad, with_pending, and_then, mapped, Reader, tested, unit_of_word, truth_of_word, on_value, simple_value, read_simple, option_named, read_option, or_named, read_or, read_parts, parts_of, read_elements, read_list, is_behind, read_increasing, read_set, Entry, entry_named, read_entry, read_entries, read_table, read_body, recursive_named, read_lambda, read_contract, read, read_rest}
+use Rattle.rules_values.specs.Val.{Val}
+use Rattle.rules_values.specs.Literals.{Pending, body, claim, good, read}
 use Rattle.rules_instructions.specs.Same.{same_kinds}
 use Rattle.rules_instructions.specs.Context as place
 use Rattle.rules_instructions.specs.Control.{call_kinds}
@@ -25,10 +13,10 @@ use Rattle.rules_typing.specs.Bodies.{body_fault, first_fault}
 use Rattle.rules_typing.specs.Nodes.{tree_type}
 use Rattle.rules_typing.specs.Literals.{fault_of_bodies}
 use Rattle.rules_typing.specs.Fits.{Leads, Known, Fits}
-use Rattle.laws_values.proofs.Lawful.{order_lawful}
 use Rattle.laws_typing.specs.Laws.{AllAtMost, AllClaimed, LiteralsFit, told_by}
 use Rattle.laws_types.proofs.SameKinds.{same_kinds_true}
 use Rattle.laws_typing.proofs.Sizes.{bodies_within}
+use Rattle.laws_typing.proofs.Read.{IsMade, AllTried, read_has}
 
 module _ (w : Known) where
   -- ---- what is pending
@@ -36,18 +24,6 @@ module _ (w : Known) where
   abbrev Tried : Pending → Type 0
   Tried (body l a r recursive t) = (body_fault l (shift l (tree_type t place.lambda (call_kinds a r recursive))) r ≡ None) × (size t < 2 ^ 32)
   Tried (claim l b a) = w.is_contract b a
-
-  abbrev AllTried : List Pending → Type 0
-  AllTried [] = Unit {0}
-  AllTried (p ∷ ps) = Tried p × AllTried ps
-
-  left_tried : (ps qs : List Pending) → AllTried (ps ++ qs) → AllTried ps
-  left_tried [] qs h = tt
-  left_tried (p ∷ ps) qs h = (h.0, left_tried ps qs h.1)
-
-  right_tried : (ps qs : List Pending) → AllTried (ps ++ qs) → AllTried qs
-  right_tried [] qs h = h
-  right_tried (p ∷ ps) qs h = right_tried ps qs h.1
 
   -- a body without fault leads to its result
   leads : (t : Typing) (l : ℕ) (r : Kind) → body_fault l (shift l t) r ≡ None → Leads t (r ∷ [])
@@ -59,292 +35,21 @@ module _ (w : Known) where
   leads fails l r h = tt
   leads (typing.bad m) l r h = absurd cc
 
-  -- ---- what is read
-
-  -- what is read has the property, where all that is pending is tried
-  abbrev Has : {A : Type 0} → (A → Type 0) → Literal A → Type 0
-  Has P (good x ps) = AllTried ps → P x
-  Has P (bad l) = Unit {0}
-
-  has_mapped : {A B : Type 0} (P : A → Type 0) (Q : B → Type 0) (f : A → B) (e : Literal A) → ((x : A) → P x → Q (f x)) → Has P e → Has Q (mapped f e)
-  has_mapped P Q f (good x ps) h i = λ g. h x (i g)
-  has_mapped P Q f (bad l) h i = tt
-
-  has_with : {A : Type 0} (P : A → Type 0) (ps : List Pending) (e : Literal A) → (AllTried ps → Has P e) → Has P (with_pending ps e)
-  has_with P ps (good x qs) h = λ g. h (left_tried ps qs g) (right_tried ps qs g)
-  has_with P ps (bad l) h = tt
-
-  has_then : {A B : Type 0} (P : A → Type 0) (Q : B → Type 0) (e : Literal A) (next : A → Literal B) → Has P e → ((x : A) → P x → Has Q (next x)) → Has Q (and_then e next)
-  has_then P Q (good x ps) next h i = has_with Q ps (next x) (λ g. i x (h g))
-  has_then P Q (bad l) next h i = tt
-
-  has_if : {A : Type 0} (P : A → Type 0) (b : Bool) (l : ℕ) (e : Literal A) → (b ≡ true → Has P e) → Has P (cond b e (bad l))
-  has_if P true l e h = h refl
-  has_if P false l e h = tt
-
-  abbrev Reads : Kind → Reader → Type 0
-  Reads a r = (at : ℕ) (t : Tree) → Has (Fits w a) (r at t)
-
-  -- ---- types without arguments
-
-  abbrev OnSome : (Val → Type 0) → Option Val → Type 0
-  OnSome P None = Unit {0}
-  OnSome P (Some x) = P x
-
-  on_tested : (P : Val → Type 0) (b : Bool) (x : Val) → (b ≡ true → P x) → OnSome P (tested b x)
-  on_tested P true x h = h refl
-  on_tested P false x h = tt
-
-  abbrev OfForm : Simple → Val → Type 0
-  OfForm s x = has_simple_form s x ≡ true
-
-  unit_has : (d : Word) → OnSome (OfForm s.Unit) (unit_of_word d)
-  unit_has unit_word = refl
-  unit_has _ = tt
-
-  truth_has : (d : Word) → OnSome (OfForm s.Bool) (truth_of_word d)
-  truth_has true_word = refl
-  truth_has false_word = refl
-  truth_has _ = tt
-
-  simple_has : (u : Simple) (t : Tree) → OnSome (OfForm u) (simple_value u t)
-  simple_has s.Unit (prim name annots none) = unit_has (word_of_name name)
-  simple_has s.Unit (prim name annots (more t ts)) = tt
-  simple_has s.Unit (int n) = tt
-  simple_has s.Unit (str b) = tt
-  simple_has s.Unit (bytes b) = tt
-  simple_has s.Unit (seq ts) = tt
-  simple_has s.Bool (prim name annots none) = truth_has (word_of_name name)
-  simple_has s.Bool (prim name annots (more t ts)) = tt
-  simple_has s.Bool (int n) = tt
-  simple_has s.Bool (str b) = tt
-  simple_has s.Bool (bytes b) = tt
-  simple_has s.Bool (seq ts) = tt
-  simple_has s.Int (int n) = on_tested (OfForm s.Int) _ (v.number n) (λ h. h)
-  simple_has s.Nat (int n) = on_tested (OfForm s.Nat) _ (v.number n) (λ h. h)
-  simple_has s.Mutez (int n) = on_tested (OfForm s.Mutez) _ (v.number n) (λ h. h)
-  simple_has s.Timestamp (int n) = on_tested (OfForm s.Timestamp) _ (v.number n) (λ h. h)
-  simple_has s.String (str b) = on_tested (OfForm s.String) _ (v.text b) (λ h. h)
-  simple_has s.Bytes (bytes b) = on_tested (OfForm s.Bytes) _ (v.bytes b) (λ h. h)
-  simple_has s.Key (bytes b) = on_tested (OfForm s.Key) _ (v.bytes b) (λ h. h)
-  simple_has s.KeyHash (bytes b) = on_tested (OfForm s.KeyHash) _ (v.bytes b) (λ h. h)
-  simple_has s.Signature (bytes b) = on_tested (OfForm s.Signature) _ (v.bytes b) (λ h. h)
-  simple_has s.ChainId (bytes b) = on_tested (OfForm s.ChainId) _ (v.bytes b) (λ h. h)
-  simple_has s.Address (bytes b) = on_tested (OfForm s.Address) _ (v.bytes b) (λ h. h)
-  simple_has _ _ = tt
-
-  on_some : (P : Val → Type 0) (at : ℕ) (o : Option Val) → OnSome P o → Has P (on_value at o)
-  on_some P at (Some x) h = λ g. h
-  on_some P at None h = tt
-
-  simple_reads : (u : Simple) → Reads (k.simple u) (read_simple u)
-  simple_reads u at t = on_some (OfForm u) at (simple_value u t) (simple_has u t)
-
-  -- ---- options, unions and pairs
-
-  option_reads : (a : Kind) (r : Reader) → Reads a r → Reads (k.option a) (read_option r)
-  option_reads a r h at (prim name annots args) = by (word_of_name name) args
-    where
-      by : (d : Word) (args : Trees) → Has (Fits w (k.option a)) (option_named d r at args)
-      by none_word none = λ g. tt
-      by some_word (more t none) = has_mapped (Fits w a) (Fits w (k.option a)) v.some (r (at + 1) t) (λ x f. f) (h (at + 1) t)
-      by _ _ = tt
-  option_reads a r h at (int n) = tt
-  option_reads a r h at (str b) = tt
-  option_reads a r h at (bytes b) = tt
-  option_reads a r h at (seq ts) = tt
-
-  or_reads : (a b : Kind) (r q : Reader) → Reads a r → Reads b q → Reads (k.or a b) (read_or r q)
-  or_reads a b r q h i at (prim name annots args) = by (word_of_name name) args
-    where
-      by : (d : Word) (args : Trees) → Has (Fits w (k.or a b)) (or_named d r q at args)
-      by left_word (more t none) = has_mapped (Fits w a) (Fits w (k.or a b)) v.left (r (at + 1) t) (λ x f. f) (h (at + 1) t)
-      by right_word (more t none) = has_mapped (Fits w b) (Fits w (k.or a b)) v.right (q (at + 1) t) (λ x f. f) (i (at + 1) t)
-      by _ _ = tt
-  or_reads a b r q h i at (int n) = tt
-  or_reads a b r q h i at (str s) = tt
-  or_reads a b r q h i at (bytes s) = tt
-  or_reads a b r q h i at (seq ts) = tt
-
-  abbrev PartsRead : Kind → (ℕ → Trees → Literal Val) → Type 0
-  PartsRead a rest = (at : ℕ) (ts : Trees) → Has (Fits w a) (rest at ts)
-
-  parts_read : (a b : Kind) (r q : Reader) (rest : ℕ → Trees → Literal Val) → Reads a r → Reads b q → PartsRead b rest → (whole : ℕ) →
-      PartsRead (k.pair a b) (read_parts r q rest whole)
-  parts_read a b r q rest h i j whole at none = tt
-  parts_read a b r q rest h i j whole at (more t none) = tt
-  parts_read a b r q rest h i j whole at (more t (more u none)) =
-      has_then (Fits w a) (Fits w (k.pair a b)) (r at t) (λ x. mapped (v.both x) (q (at + size t) u)) (h at t)
-      (λ x f. has_mapped (Fits w b) (Fits w (k.pair a b)) (v.both x) (q (at + size t) u) (λ y g. (f, g)) (i (at + size t) u))
-  parts_read a b r q rest h i j whole at (more t (more u (more d ts))) =
-      has_then (Fits w a) (Fits w (k.pair a b)) (r at t) (λ x. mapped (v.both x) (rest (at + size t) (more u (more d ts)))) (h at t)
-      (λ x f. has_mapped (Fits w b) (Fits w (k.pair a b)) (v.both x) (rest (at + size t) (more u (more d ts))) (λ y g. (f, g)) (j (at + size t) (more u (more d ts))))
-
-  -- ---- lists, sets and maps
-
-  elements_read : (a : Kind) (r : Reader) → Reads a r → (at : ℕ) (ts : Trees) → Has (AllHave (Fits w a)) (read_elements r at ts)
-  elements_read a r h at none = λ g. tt
-  elements_read a r h at (more t ts) =
-      has_then (Fits w a) (AllHave (Fits w a)) (r at t) (λ x. mapped (more_vals x) (read_elements r (at + size t) ts)) (h at t)
-      (λ x f. has_mapped (AllHave (Fits w a)) (AllHave (Fits w a)) (more_vals x) (read_elements r (at + size t) ts) (λ xs g. (f, g)) (elements_read a r h (at + size t) ts))
-
-  list_reads : (a : Kind) (r : Reader) → Reads a r → Reads (k.list a) (read_list r)
-  list_reads a r h at (seq ts) = has_mapped (AllHave (Fits w a)) (Fits w (k.list a)) v.list (read_elements r (at + 1) ts) (λ xs g. g) (elements_read a r h (at + 1) ts)
-  list_reads a r h at (int n) = tt
-  list_reads a r h at (str s) = tt
-  list_reads a r h at (bytes s) = tt
-  list_reads a r h at (prim name annots ts) = tt
-
-  -- above what is below all of them
-  abbrev AreBehind : Option Val → Vals → Type 0
-  AreBehind None xs = Unit {0}
-  AreBehind (Some y) xs = AreAbove y xs
-
-  less : (o : Ordering) → is_lt o ≡ true → o ≡ Less
-  less Less h = refl
-  less Equal h = absurd cc
-  less Greater h = absurd cc
-
-  above_more : (y x : Val) (xs : Vals) → order y x ≡ Less → AreAbove x xs → AreAbove y xs
-  above_more y x no_val e h = tt
-  above_more y x (more_vals z xs) e h = (order_lawful.trans y x z e h.0, above_more y x xs e h.1)
-
-  is_next : (before : Option Val) (x : Val) (xs : Vals) → is_behind before x ≡ true → AreAbove x xs → AreBehind before (more_vals x xs)
-  is_next None x xs e h = tt
-  is_next (Some y) x xs e h =
-      let f : order y x ≡ Less = less (order y x) (and_parts (is_comparable x) (is_lt (order y x)) e).1 in
-      (f, above_more y x xs f h)
-
-  abbrev SetOf : Kind → Option Val → Vals → Type 0
-  SetOf a before xs = AllHave (Fits w a) xs × AreIncreasing xs × AreBehind before xs
-
-  behind_none : (before : Option Val) → AreBehind before no_val
-  behind_none None = tt
-  behind_none (Some y) = tt
-
-  increasing_read : (a : Kind) (r : Reader) → Reads a r → (before : Option Val) (at : ℕ) (ts : Trees) → Has (SetOf a before) (read_increasing r before at ts)
-  increasing_read a r h before at none = λ g. (tt, tt, behind_none before)
-  increasing_read a r h before at (more t ts) =
-      has_then (Fits w a) (SetOf a before) (r at t) (λ x. cond (is_behind before x) (mapped (more_vals x) (read_increasing r (Some x) (at + size t) ts)) (bad at)) (h at t)
-      (λ x f. has_if (SetOf a before) (is_behind before x) at (mapped (more_vals x) (read_increasing r (Some x) (at + size t) ts))
-      (λ e. has_mapped (SetOf a (Some x)) (SetOf a before) (more_vals x) (read_increasing r (Some x) (at + size t) ts)
-      (λ xs g. ((f, g.0), (g.2, g.1), is_next before x xs e g.2)) (increasing_read a r h (Some x) (at + size t) ts)))
-
-  set_reads : (a : Kind) (r : Reader) → Reads a r → Reads (k.set a) (read_set r)
-  set_reads a r h at (seq ts) = has_mapped (SetOf a None) (Fits w (k.set a)) v.set (read_increasing r None (at + 1) ts) (λ xs g. (g.0, g.1)) (increasing_read a r h None (at + 1) ts)
-  set_reads a r h at (int n) = tt
-  set_reads a r h at (str s) = tt
-  set_reads a r h at (bytes s) = tt
-  set_reads a r h at (prim name annots ts) = tt
-
-  abbrev KeysAreBehind : Option Val → Pairs → Type 0
-  KeysAreBehind None es = Unit {0}
-  KeysAreBehind (Some y) es = AreKeysAbove y es
-
-  keys_above_more : (y x : Val) (es : Pairs) → order y x ≡ Less → AreKeysAbove x es → AreKeysAbove y es
-  keys_above_more y x no_pair e h = tt
-  keys_above_more y x (more_pairs z d es) e h = (order_lawful.trans y x z e h.0, keys_above_more y x es e h.1)
-
-  is_next_key : (before : Option Val) (x d : Val) (es : Pairs) → is_behind before x ≡ true → AreKeysAbove x es → KeysAreBehind before (more_pairs x d es)
-  is_next_key None x d es e h = tt
-  is_next_key (Some y) x d es e h =
-      let f : order y x ≡ Less = less (order y x) (and_parts (is_comparable x) (is_lt (order y x)) e).1 in
-      (f, keys_above_more y x es f h)
-
-  keys_behind_none : (before : Option Val) → KeysAreBehind before no_pair
-  keys_behind_none None = tt
-  keys_behind_none (Some y) = tt
-
-  abbrev EntryOf : Kind → Kind → Option Val → Entry → Type 0
-  EntryOf a b before e = Fits w a e.key × Fits w b e.value × (is_behind before e.key ≡ true)
-
-  abbrev TableOf : Kind → Kind → Option Val → Pairs → Type 0
-  TableOf a b before es = AllEntriesHave (Fits w a) (Fits w b) es × AreIncreasingKeys es × KeysAreBehind before es
-
-  entry_reads : (a b : Kind) (r q : Reader) → Reads a r → Reads b q → (before : Option Val) (at : ℕ) (t : Tree) → Has (EntryOf a b before) (read_entry r q before at t)
-  entry_reads a b r q h i before at (prim name annots args) = by (word_of_name name) args
-    where
-      by : (d : Word) (args : Trees) → Has (EntryOf a b before) (entry_named d r q before at args)
-      by entry_word (more t (more u none)) =
-          has_then (Fits w a) (EntryOf a b before) (r (at + 1) t)
-          (λ x. cond (is_behind before x) (mapped (λ y. record { key = x; value = y }) (q (at + 1 + size t) u)) (bad at)) (h (at + 1) t)
-          (λ x f. has_if (EntryOf a b before) (is_behind before x) at (mapped (λ y. record { key = x; value = y }) (q (at + 1 + size t) u))
-          (λ e. has_mapped (Fits w b) (EntryOf a b before) (λ y. record { key = x; value = y }) (q (at + 1 + size t) u) (λ y g. (f, g, e)) (i (at + 1 + size t) u)))
-      by _ _ = tt
-  entry_reads a b r q h i before at (int n) = tt
-  entry_reads a b r q h i before at (str s) = tt
-  entry_reads a b r q h i before at (bytes s) = tt
-  entry_reads a b r q h i before at (seq ts) = tt
-
-  entries_read : (a b : Kind) (r q : Reader) → Reads a r → Reads b q → (before : Option Val) (at : ℕ) (ts : Trees) → Has (TableOf a b before) (read_entries r q before at ts)
-  entries_read a b r q h i before at none = λ g. (tt, tt, keys_behind_none before)
-  entries_read a b r q h i before at (more t ts) =
-      has_then (EntryOf a b before) (TableOf a b before) (read_entry r q before at t) (λ e. mapped (more_pairs e.key e.value) (read_entries r q (Some e.key) (at + size t) ts))
-      (entry_reads a b r q h i before at t)
-      (λ e f. has_mapped (TableOf a b (Some e.key)) (TableOf a b before) (more_pairs e.key e.value) (read_entries r q (Some e.key) (at + size t) ts)
-      (λ es g. ((f.0, f.1, g.0), (g.2, g.1), is_next_key before e.key e.value es f.2 g.2)) (entries_read a b r q h i (Some e.key) (at + size t) ts))
-
-  map_reads : (a b : Kind) (r q : Reader) → Reads a r → Reads b q → Reads (k.map a b) (read_table v.table r q)
-  map_reads a b r q h i at (seq ts) = has_mapped (TableOf a b None) (Fits w (k.map a b)) v.table (read_entries r q None (at + 1) ts) (λ es g. (g.0, g.1)) (entries_read a b r q h i None (at + 1) ts)
-  map_reads a b r q h i at (int n) = tt
-  map_reads a b r q h i at (str s) = tt
-  map_reads a b r q h i at (bytes s) = tt
-  map_reads a b r q h i at (prim name annots ts) = tt
-
-  big_map_reads : (a b : Kind) (r q : Reader) → Reads a r → Reads b q → Reads (k.big_map a b) (read_table v.big_table r q)
-  big_map_reads a b r q h i at (seq ts) = has_mapped (TableOf a b None) (Fits w (k.big_map a b)) v.big_table (read_entries r q None (at + 1) ts) (λ es g. (g.0, g.1)) (entries_read a b r q h i None (at + 1) ts)
-  big_map_reads a b r q h i at (int n) = tt
-  big_map_reads a b r q h i at (str s) = tt
-  big_map_reads a b r q h i at (bytes s) = tt
-  big_map_reads a b r q h i at (prim name annots ts) = tt
-
-  -- ---- lambdas and contracts
-
-  body_reads : (a b : Kind) (recursive : Bool) → Reads (k.lambda a b) (read_body a b recursive)
-  body_reads a b recursive at (seq ts) = λ g. (tt, g.0.1, leads (tree_type (seq ts) place.lambda (call_kinds a b recursive)) at b g.0.0)
-  body_reads a b recursive at (int n) = tt
-  body_reads a b recursive at (str s) = tt
-  body_reads a b recursive at (bytes s) = tt
-  body_reads a b recursive at (prim name annots ts) = tt
-
-  lambda_reads : (a b : Kind) → Reads (k.lambda a b) (read_lambda a b)
-  lambda_reads a b at (prim name annots args) = by (word_of_name name) args
-    where
-      by : (d : Word) (args : Trees) → Has (Fits w (k.lambda a b)) (recursive_named d a b at args)
-      by recursive_word (more t none) = body_reads a b true (at + 1) t
-      by _ _ = tt
-  lambda_reads a b at (int n) = tt
-  lambda_reads a b at (str s) = tt
-  lambda_reads a b at (bytes s) = tt
-  lambda_reads a b at (seq ts) = body_reads a b false at (seq ts)
-
-  contract_reads : (a : Kind) → Reads (k.contract a) (read_contract a)
-  contract_reads a at (bytes b) = has_if (Fits w (k.contract a)) (is_address b) at (good (v.bytes b) (claim at b a ∷ [])) (λ e. λ g. (e, g.0))
-  contract_reads a at (int n) = tt
-  contract_reads a at (str s) = tt
-  contract_reads a at (prim name annots ts) = tt
-  contract_reads a at (seq ts) = tt
-
-  -- ---- all types
-
-  mutual
-    reads : (a : Kind) (at : ℕ) (t : Tree) → Has (Fits w a) (read a at t)
-    reads (k.simple u) at t = simple_reads u at t
-    reads k.operation at t = tt
-    reads (k.option a) at t = option_reads a (read a) (reads a) at t
-    reads (k.or a b) at t = or_reads a b (read a) (read b) (reads a) (reads b) at t
-    reads (k.pair a b) at t = parts_read a b (read a) (read b) (read_rest b at) (reads a) (reads b) (rest_reads b at) at (at + 1) (parts_of t)
-    reads (k.list a) at t = list_reads a (read a) (reads a) at t
-    reads (k.set a) at t = set_reads a (read a) (reads a) at t
-    reads (k.map a b) at t = map_reads a b (read a) (read b) (reads a) (reads b) at t
-    reads (k.big_map a b) at t = big_map_reads a b (read a) (read b) (reads a) (reads b) at t
-    reads (k.lambda a b) at t = lambda_reads a b at t
-    reads (k.contract a) at t = contract_reads a at t
-    reads (k.ticket a) at t = tt
-
-    rest_reads : (a : Kind) (whole at : ℕ) (ts : Trees) → Has (Fits w a) (read_rest a whole at ts)
-    rest_reads (k.pair a b) whole at ts = parts_read a b (read a) (read b) (read_rest b whole) (reads a) (reads b) (rest_reads b whole) whole at ts
-    rest_reads _ whole at ts = tt
+  fits_made : IsMade (Fits w) Tried
+  fits_made = record {
+    simple = λ s x h. h;
+    none = λ a. tt;
+    some = λ a x h. h;
+    left = λ a b x h. h;
+    right = λ a b x h. h;
+    both = λ a b x y h i. (h, i);
+    list = λ a xs h. h;
+    set = λ a xs h i. (h, i);
+    table = λ a b es h i. (h, i);
+    big_table = λ a b es h i. (h, i);
+    lambda = λ a b at recursive ts g. (tt, g.1, leads (tree_type (seq ts) place.lambda (call_kinds a b recursive)) at b g.0);
+    contract = λ a at b h g. (h, g);
+  }
 
   -- ---- bodies without faults, contracts that are there
 
@@ -352,20 +57,17 @@ module _ (w : Known) where
   no_first None p h = (refl, h)
   no_first (Some l) p h = absurd cc
 
-  all_tried : (n : ℕ) (ps : List Pending) → n < 2 ^ 32 → fault_of_bodies ps ≡ None → AllClaimed w ps → AllAtMost n ps → AllTried ps
+  all_tried : (n : ℕ) (ps : List Pending) → n < 2 ^ 32 → fault_of_bodies ps ≡ None → AllClaimed w ps → AllAtMost n ps → AllTried Tried ps
   all_tried n [] below h i j = tt
   all_tried n (body l a r recursive t ∷ ps) below h i j =
       let f = no_first (body_fault l (shift l (tree_type t place.lambda (call_kinds a r recursive))) r) (fault_of_bodies ps) h in
       ((f.0, (let e = j.0 in omega (arith, e, below))), all_tried n ps below f.1 i j.1)
   all_tried n (claim l b a ∷ ps) below h i j = (i.0, all_tried n ps below h i.1 j)
 
-  has_of : (P : Val → Type 0) (e : Literal Val) (x : Val) (ps : List Pending) → e ≡ good x ps → Has P e → AllTried ps → P x
-  has_of P e x ps same h = subst (Has P) same h
-
   -- what is read, tried and true fits
   pub fit : (a : Kind) (at : ℕ) (t : Tree) (x : Val) (ps : List Pending) → read a at t ≡ good x ps → fault_of_bodies ps ≡ None → AllClaimed w ps → size t < 2 ^ 32 → Fits w a x
   fit a at t x ps same h i below =
-      has_of (Fits w a) (read a at t) x ps same (reads a at t) (all_tried (size t) ps below h i (bodies_within a at t x ps same))
+      read_has (Fits w) Tried fits_made a at t x ps same (all_tried (size t) ps below h i (bodies_within a at t x ps same))
 
 pub literals_fit : LiteralsFit
 literals_fit is_contract is_issued a at t x ps same h i below = fit (told_by is_contract is_issued) a at t x ps same h i below

@@ -1,7 +1,8 @@
-//! Laws of typing: where the bodies of lambdas in a literal stand, that PUSH takes what literals are, and that these fit their types.
+//! Laws of typing: where the bodies of lambdas in a literal stand, that PUSH takes what literals are, that these fit
+//! their types, and that they have their form and hold no ticket before anything is tried of them.
 #![tactic(auto)]
 
-ghost use Rattle.laws_typing.specs.Laws.{BodiesAreWithin, BodiesStand, LiteralsFit, PushedAsLiterals};
+ghost use Rattle.laws_typing.specs.Laws.{BodiesAreWithin, BodiesStand, LiteralsFit, LiteralsHaveForm, LiteralsHoldNoTicket, PushedAsLiterals};
 
 /// The bodies that are still to be tried of a literal stand at their locations (Octez "Micheline", locations).
 pub fn bodies_stand_at_their_locations()
@@ -21,4 +22,14 @@ pub fn pushed_literals_are_literals()
 /// A literal whose bodies are typed and whose contracts are there has its type (Michelson reference, "Types").
 pub fn literals_fit()
     ensures { LiteralsFit }
+{}
+
+/// A literal that is read has the form of its type, before its bodies and claims are tried (Michelson reference, "Types").
+pub fn literals_have_form()
+    ensures { LiteralsHaveForm }
+{}
+
+/// A literal that is read holds no ticket: there is no literal of a type of tickets (Octez "Tickets").
+pub fn literals_hold_no_ticket()
+    ensures { LiteralsHoldNoTicket }
 {}

@@ -160,8 +160,25 @@ taken_more xs i d lt = let one : i + 1 ≡ suc i = omega arith in ap (λ n. take
     go (x ∷ xs) zero d lt = refl
     go (x ∷ xs) (suc i) d lt = ap (λ t. x ∷ t) (go xs i d (omega arith))
 
-pub values_next : (vs ws : List Value) (v : Value) (a b c : Stored) → ws ≡ vs ++ v ∷ [] → Notes (all_of (map names vs)) a b → Notes (names v) b c → Notes (all_of (map names ws)) a c
-values_next vs ws v a b c e p q = notes_next (map names vs) (map names ws) (names v) a b c (ap (map names) e ∙ map-append names vs (v ∷ [])) p q
+-- the order in which numbers are noted makes no difference
+notes_swapped : (ns ms : List ℕ) (a b : Stored) → Notes (ns ++ ms) a b → Notes (ms ++ ns) a b
+notes_swapped ns ms a b p = record {
+  bases = p.bases;
+  noted = λ k.
+      p.noted k
+      ∙ ap (λ t. has k a.noted || (t && is_there a.bases.present (Some k))) (has_append k ns ms ∙ swapped (has k ns) (has k ms) ∙ sym (has_append k ms ns));
+}
+  where
+    swapped : (x y : Bool) → (x || y) ≡ (y || x)
+    swapped true true = refl
+    swapped true false = refl
+    swapped false true = refl
+    swapped false false = refl
+
+pub values_before : (vs ws : List Value) (v : Value) (a b c : Stored) → ws ≡ v ∷ vs → Notes (all_of (map names vs)) a b → Notes (names v) b c → Notes (all_of (map names ws)) a c
+values_before vs ws v a b c e p q =
+    subst (λ (l : List Value). Notes (all_of (map names l)) a c) (sym e)
+    (notes_swapped (all_of (map names vs)) (names v) a c (notes_append (all_of (map names vs)) (names v) a b c p q))
 
 pub entries_next : (es : List (Datum × Value)) (e : Datum × Value) (a b c : Stored) → Notes (all_of (values_of (map named_entry es))) a b → Notes (names e.1) b c → Notes (all_of (values_of (map named_entry (es ++ e ∷ [])))) a c
 entries_next es e a b c p q = notes_next (values_of (map named_entry es)) (values_of (map named_entry (es ++ e ∷ []))) (names e.1) a b c

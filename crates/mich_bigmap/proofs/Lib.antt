@@ -1,6 +1,5 @@
 pub mod Below
 pub mod BigMaps
-pub mod Each
 pub mod Extending
 pub mod Journal
 pub mod Kept

@@ -23,9 +23,9 @@ use Rattle.mich_term.proofs.Overlays.{big_is}
 use Rattle.mich_bigmap.specs.Bases.{Base, Bases, Changes, entries_in, seen, big_in}
 use Rattle.mich_bigmap.specs.Puts.{put_for, puts_for}
 use Rattle.mich_bigmap.specs.Standing.{val_in, changes_in, big_val_in, big_step_in}
-use Rattle.mich_bigmap.specs.Layers.{NoBigMap, PutsNoBigMap, FormedLayer}
+use Rattle.mich_term.specs.Layers.{NoBigMap, PutsNoBigMap, FormedLayer}
 use Rattle.mich_bigmap.specs.Ticketless.{PutsNoTickets, HoldNoTickets}
-use Rattle.mich_bigmap.proofs.Each as e
+use Rattle.mich_term.proofs.Each as e
 use Rattle.mich_bigmap.proofs.Meaning.{none_in}
 use Rattle.mich_bigmap.proofs.Putting.{puts_make, put_keys, put_pairs_for}
 use Rattle.mich_bigmap.proofs.Staying.{AreAlike, WithAgree, WithAgreeBig, lowered_big, agree, agree_big, val_plain, big_opens}

@@ -26,12 +26,13 @@ use Rattle.mich_bigmap.specs.Formed.{is_there, IsFormed, HasBase}
 use Rattle.mich_bigmap.specs.Settled.{IsSettled}
 use Rattle.rules_values.specs.Tickets.{pair_tickets}
 use mathlib.Core.Bool.{true≢false}
-use Rattle.mich_bigmap.specs.Layers.{AreFormed, AreSettled, HasBases, AnyLayer, NoBigMap, PutsNoBigMap, FormedLayer, SettledLayer, BasedLayer}
+use Rattle.mich_term.specs.Layers.{AreFormed, AnyLayer, NoBigMap, PutsNoBigMap, FormedLayer}
+use Rattle.mich_bigmap.specs.Layers.{AreSettled, HasBases, SettledLayer, BasedLayer}
 use Rattle.mich_bigmap.specs.Standing.{val_in, entry_in, big_val_in, big_step_in}
 use Rattle.mich_bigmap.specs.Stored.{Stored}
 use Rattle.mich_bigmap.specs.Settling.{Settles, SettlesAll, SettlesEntries, SettlesBig, Lays}
 use Rattle.mich_term.proofs.Ends.{with_last, by_lawful}
-use Rattle.mich_bigmap.proofs.Each as e
+use Rattle.mich_term.proofs.Each as e
 use Rattle.mich_bigmap.proofs.Extending.{extends_same}
 use Rattle.mich_bigmap.proofs.Plain.{big_val_is}
 use Rattle.mich_bigmap.proofs.Staying.{each_more, each_more_big, SameEntries, val_stays, big_val_stays}

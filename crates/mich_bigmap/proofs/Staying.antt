@@ -17,9 +17,9 @@ use Rattle.mich_term.specs.declared.value.Value.TheFolds.{ind-BigMap, fold-BigMa
 use Rattle.mich_term.specs.declared.value.BigMap.{BigMap, out-BigMap, roll-BigMap, out-roll-BigMap}
 use Rattle.mich_bigmap.specs.Bases.{Bases, Changes, entries_in, seen}
 use Rattle.mich_bigmap.specs.Standing.{val_in, vals_in, pairs_in, entry_in, changes_in, big_val_in, big_step_in}
-use Rattle.mich_bigmap.specs.Layers.{AnyLayer, NoBigMap}
+use Rattle.mich_term.specs.Layers.{AnyLayer, NoBigMap}
 use Rattle.mich_bigmap.proofs.Standing.{opened_is}
-use Rattle.mich_bigmap.proofs.Each as e
+use Rattle.mich_term.proofs.Each as e
 
 -- what a big map stands for, by its overlay
 pub big_opens : (bs : Bases) (l : BigMap-F Value BigMap) → big_val_in bs (roll-BigMap l) ≡ changed (changes_in bs l.overlay) (entries_in bs l.base)

@@ -8,7 +8,8 @@ use Rattle.mich_bigmap.specs.Bases.{Bases, entries_in, big_in}
 use Rattle.mich_bigmap.specs.Extended.{Extends}
 use Rattle.mich_bigmap.specs.Formed.{HasBase, is_there}
 use Rattle.mich_bigmap.specs.Kept.{has, kept_of, names}
-use Rattle.mich_bigmap.specs.Layers.{AnyLayer, NoBigMap, AreFormed, HasBases}
+use Rattle.mich_term.specs.Layers.{AnyLayer, NoBigMap, AreFormed}
+use Rattle.mich_bigmap.specs.Layers.{HasBases}
 use Rattle.mich_bigmap.specs.Standing.{val_in}
 use Rattle.mich_bigmap.specs.Ticketless.{HoldNoTickets}
 

@@ -8,7 +8,8 @@ use Rattle.mich_term.specs.declared.value.Value.TheFolds.{every-BigMap}
 use Rattle.mich_term.specs.declared.value.BigMap.{BigMap}
 use Rattle.mich_bigmap.specs.Bases.{Bases}
 use Rattle.mich_bigmap.specs.Extended.{Extends}
-use Rattle.mich_bigmap.specs.Layers.{AreSettled, HasBases, AnyLayer, SettledLayer, BasedLayer}
+use Rattle.mich_term.specs.Layers.{AnyLayer}
+use Rattle.mich_bigmap.specs.Layers.{AreSettled, HasBases, SettledLayer, BasedLayer}
 use Rattle.mich_bigmap.specs.Standing.{val_in, entry_in, big_val_in}
 use Rattle.mich_bigmap.specs.Stored.{Stored}
 use Rattle.mich_bigmap.specs.Ticketless.{HoldNoTickets}

@@ -2,13 +2,14 @@
 ghost use Rattle.std.specs.Prelude.{◌≡◌, IfOk};
 ghost use Rattle.std.specs.List.{AllByRecursion};
 ghost use Rattle.mich_term.specs.declared.value.Value.TheFolds.{every-BigMap};
-ghost use Rattle.mich_bigmap.specs.Layers.{AreFormed, HasBases, AnyLayer, FormedLayer, BasedLayer};
+ghost use Rattle.mich_term.specs.Layers.{AreFormed, AnyLayer, FormedLayer};
+ghost use Rattle.mich_bigmap.specs.Layers.{HasBases, BasedLayer};
 ghost use Rattle.mich_bigmap.specs.Settling.{Settles, SettlesAll, SettlesEntries, SettlesBig, Lays};
 
 use crate::settling::settle;
 use crate::store::Store;
 use mich_base::{Link, Memory, Rows};
-use mich_term::{BigMap, Table, Value};
+use mich_term::{BigMap, Chain, Table, Value};
 use std::alloc::Global;
 
 /// A value that stands for the same, where all big maps are settled: each that shares has a base and an empty overlay. After Memory
@@ -57,7 +58,11 @@ fn settle_link(alloc: Global, store: &mut Store, value: Link<Value>) -> Result<L
 }
 
 #[cycle(settle_all)]
-fn settle_list(alloc: Global, store: &mut Store, values: Rows<Value>) -> Result<Rows<Value>, Memory>
+fn settle_list(
+    alloc: Global,
+    store: &mut Store,
+    values: Chain<Value>,
+) -> Result<Chain<Value>, Memory>
     requires formed { AllByRecursion AreFormed values }
     requires based { AllByRecursion (HasBases store.old.bases.present) values }
     ensures settles { IfOk result (λ vs. SettlesAll store.old.bases.present store.new.bases.present values vs) }
@@ -67,7 +72,7 @@ fn settle_list(alloc: Global, store: &mut Store, values: Rows<Value>) -> Result<
     for value in values.into_vec() {
         copies.push(settle_all(alloc, store, value)?)?;
     }
-    Ok(copies)
+    Ok(Chain::from_rows(copies))
 }
 
 #[cycle(settle_all)]

@@ -12,7 +12,7 @@ mod nodes;
 mod scripts;
 
 pub use lambdas::check_body;
-pub use literals::{Checked, check_literal};
+pub use literals::{Checked, check_literal, check_literal_at};
 pub use mich_control::CheckError;
 pub use scripts::check_script;
 

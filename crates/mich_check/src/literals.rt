@@ -2,7 +2,7 @@
 ghost use Rattle.std.specs.Prelude.{◌≡◌, ◌+◌, ◌<◌, ◌≤◌, ◌^◌, IfOk};
 ghost use Rattle.rules_base.specs.Tree.{size};
 ghost use Rattle.rules_values.specs.Literals.{claims, read};
-ghost use Rattle.rules_typing.specs.Literals.{literal};
+ghost use Rattle.rules_typing.specs.Literals.{literal, of_reading};
 ghost use Rattle.mich_base.specs.TypeView.{kind};
 ghost use Rattle.mich_base.specs.View.{tree};
 ghost use Rattle.mich_data.specs.View.{all_pending};
@@ -72,7 +72,20 @@ pub fn check_literal(alloc: Global, ty: &Ty, node: &Node) -> Result<Checked, Che
     requires { size (tree node.now) < 2 ^ 32 }
     ensures { IsChecked (literal (kind ty.now) (tree node.now)) result }
 {
-    let read = read_literal(alloc, ty, node, 0, 0)?;
+    check_literal_at(alloc, ty, node, 0)
+}
+
+/// The same of the node at a location, from which its locations are counted.
+pub fn check_literal_at(
+    alloc: Global,
+    ty: &Ty,
+    node: &Node,
+    at: u32,
+) -> Result<Checked, CheckError>
+    requires { at + size (tree node.now) < 2 ^ 32 }
+    ensures { IsChecked (of_reading (read (kind ty.now) at (tree node.now))) result }
+{
+    let read = read_literal(alloc, ty, node, at, 0)?;
     check_pending(alloc, &read.pending, 0)?;
     let claims = claims_of(alloc, read.pending)?;
     Ok(Checked {

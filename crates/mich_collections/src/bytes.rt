@@ -7,7 +7,7 @@ ghost use Rattle.mich_collections.specs.Seen.{vals_by};
 ghost use Rattle.mich_collections.specs.Sizes.{IsWithinSize};
 
 use mich_base::Memory;
-use mich_term::Value;
+use mich_term::{Chain, Value, split_head};
 use std::alloc::Global;
 
 /// The most bytes that a string and bytes have.
@@ -38,16 +38,18 @@ fn bytes_of(value: &Value) -> &[u8]
 }
 
 // The bytes of the elements of a list, one behind the other. None where they are over the limit.
-pub(crate) fn join_all(alloc: Global, list: &[Value]) -> Result<Option<Vec<u8>>, Memory>
+pub(crate) fn join_all(alloc: Global, list: &Chain<Value>) -> Result<Option<Vec<u8>>, Memory>
     ensures { IfOk result (λ o. (big : Sight) → IsWithinSize (joined (vals_by big list.now)) (option_map (λ v. v.items) o)) }
 {
     let mut bytes = Vec::new(alloc);
-    for value in list {
+    let mut left = list.as_reversed_slice();
+    while let Some((value, rest)) = split_head(left) {
         let more = bytes_of(value);
         if bytes.len() + more.len() > SIZE_LIMIT {
             return Ok(None);
         }
         bytes.extend_from_slice(more)?;
+        left = rest;
     }
     Ok(Some(bytes))
 }

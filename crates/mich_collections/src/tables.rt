@@ -10,12 +10,12 @@ ghost use Rattle.mich_stack.specs.Views.{Sight, seen};
 ghost use Rattle.mich_collections.specs.Seen.{vals_by, pairs_by};
 
 use crate::counting::count_value;
-use mich_base::{Memory, Rows};
-use mich_term::{Datum, Table, Value};
+use mich_base::Memory;
+use mich_term::{Chain, Datum, Table, Value};
 
 // How many elements a list has.
 #[tactic(auto, using(crate::proofs::Entries::list_count))]
-pub(crate) fn list_size(list: &Rows<Value>) -> Value
+pub(crate) fn list_size(list: &Chain<Value>) -> Value
     ensures fits { (big : Sight) → int_or_limit (pos (element_count (vals_by big list.now))) ≡ Ok (pos (element_count (vals_by big list.now))) }
     ensures value { (big : Sight) → seen big result ≡ number (pos (element_count (vals_by big list.now))) }
 {

@@ -8,10 +8,10 @@ ghost use Rattle.mich_collections.specs.Shapes.{IsListOnTop, IsSetOnTop, IsTable
 
 use mich_base::Rows;
 use mich_stack::pop;
-use mich_term::{Elements, Table, Value};
+use mich_term::{Chain, Elements, Table, Value};
 
 // Takes the list on top.
-pub(crate) fn take_list(stack: &mut Rows<Value>) -> Rows<Value>
+pub(crate) fn take_list(stack: &mut Rows<Value>) -> Chain<Value>
     requires { (big : Sight) × IsListOnTop (values big stack.old) }
     ensures { (big : Sight) → values big stack.old ≡ list (vals_by big result) ∷ values big stack.new }
 {
@@ -44,7 +44,7 @@ pub(crate) fn take_map(stack: &mut Rows<Value>) -> Table<Value>
 }
 
 // A list as a value.
-pub(crate) fn list_value(items: Rows<Value>) -> Value
+pub(crate) fn list_value(items: Chain<Value>) -> Value
     ensures { (big : Sight) → seen big result ≡ list (vals_by big items) }
 {
     Value::List(items)

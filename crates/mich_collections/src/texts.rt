@@ -58,7 +58,7 @@ fn concat_string_list(alloc: Global, stack: &mut Rows<Value>) -> Result<(), Step
     ensures { Keeps (text_step i.concat_string_list) stack.old stack.new result }
 {
     let list = take_list(stack);
-    let joined = join_all(alloc, list.as_slice())?;
+    let joined = join_all(alloc, &list)?;
     drop(list);
     match joined {
         Some(bytes) => {
@@ -74,7 +74,7 @@ fn concat_bytes_list(alloc: Global, stack: &mut Rows<Value>) -> Result<(), StepE
     ensures { Keeps (text_step i.concat_bytes_list) stack.old stack.new result }
 {
     let list = take_list(stack);
-    let joined = join_all(alloc, list.as_slice())?;
+    let joined = join_all(alloc, &list)?;
     drop(list);
     match joined {
         Some(bytes) => {

@@ -8,3 +8,5 @@ pub mod Sets
 pub mod Tables
 pub mod Combs
 pub mod Written
+pub mod Whole
+pub mod Formed

@@ -1,14 +1,21 @@
 -- Entries of a map, read one by one.
-use Rattle.std.proofs.Common.{◌≡◌, ℕ, ◌+◌, ◌-◌, ◌<◌, ◌≤◌, drop, get_or, Bor, true, false, cond, Option, Some, None, List, [], ◌∷◌, ◌++◌, option_map, length, refl, sym, ap, ◌∙◌, subst}
+use Rattle.std.proofs.Common.{◌≡◌, ℕ, ◌+◌, ◌-◌, ◌<◌, ◌≤◌, drop, get_or, Bor, true, false, cond, Option, Some, None, Bool, List, [], ◌∷◌, ◌++◌, map, option_map, length, refl, sym, ap, ◌∙◌, subst}
 use Rattle.std.specs.Prelude.{slice_get}
 use Rattle.std.specs.Map.{keys_of}
-use Rattle.std.proofs.lemmas.List.{map-append, append-nil}
+use Rattle.std.specs.List.{AllByRecursion}
+use Rattle.std.proofs.lemmas.List.{map-append, append-nil, append_assoc}
 use Rattle.std.proofs.lemmas.Bool.{cond-true, cond-false}
 use Rattle.rules_base.specs.Tree.{Tree, Trees, none, more, size}
 use Rattle.rules_values.specs.Val.{Val, Pairs, no_pair, more_pairs}
 use Rattle.rules_values.specs.Literals.{Pending, Literal, good, bad, with_pending, mapped, Reader, is_behind, Entry, read_binding, read_entry, read_entries}
 use Rattle.mich_term.specs.View.{datum}
-use Rattle.mich_term.specs.ValueView.{val, pairs, put_first, put_pairs}
+use Rattle.rules_types.specs.Kind.{Kind}
+use Rattle.rules_types.specs.Attributes.{duplicable}
+use Rattle.mich_term.specs.ValueView.{val, pairs, put_pairs, big_pairs}
+use Rattle.mich_term.proofs.Overlays.{big_is}
+use Rattle.mich_term.specs.declared.value.BigMap.{BigMap, out-BigMap, roll-BigMap, out-roll-BigMap}
+use Rattle.mich_term.specs.declared.value.Value.TheOpen.{BigMap-F}
+use Rattle.mich_data.specs.Whole.{put_of, AreWholeEntries, IsPut, LiesWhole, IsWhole}
 use Rattle.mich_term.specs.Keyed.{with, IsIncreasing}
 use Rattle.mich_term.proofs.Ends.{with_last, by_lawful}
 use Rattle.mich_term.specs.declared.datum.Datum.{Datum}
@@ -156,23 +163,39 @@ entries_done ns i h ps whole r q es at qs g = entries_end ps whole r q es at qs 
 
 -- ---- what is put into a big map
 
--- these changes before entries
-abbrev pub puts_before : List (Datum × Option Value) → Pairs → Pairs
-puts_before [] ps = ps
-puts_before (e ∷ es) ps = put_first e.0 (option_map val e.1) (puts_before es ps)
+puts_are : (es : List (Datum × Value)) → put_pairs (map put_of es) ≡ pairs es
+puts_are [] = refl
+puts_are (e ∷ es) = ap (more_pairs (datum e.0) (val e.1)) (puts_are es)
 
-puts_before-more : (es : List (Datum × Option Value)) (d : Datum) (v : Value) (ps : Pairs) → puts_before (es ++ (d, Some v) ∷ []) ps ≡ puts_before es (more_pairs (datum d) (val v) ps)
-puts_before-more [] d v ps = refl
-puts_before-more (e ∷ es) d v ps = ap (put_first e.0 (option_map val e.1)) (puts_before-more es d v ps)
+put_keys : (es : List (Datum × Value)) → keys_of (map put_of es) ≡ keys_of es
+put_keys [] = refl
+put_keys (e ∷ es) = ap (λ ds. e.0 ∷ ds) (put_keys es)
 
-puts_before-none : (es : List (Datum × Option Value)) → puts_before es no_pair ≡ put_pairs es
-puts_before-none [] = refl
-puts_before-none (e ∷ es) = ap (put_first e.0 (option_map val e.1)) (puts_before-none es)
+put_whole : (a : Kind) (es : List (Datum × Value)) → AreWholeEntries a es → AllByRecursion (λ c. IsPut (IsWhole a) c.1) (map put_of es)
+put_whole a [] h = tt
+put_whole a (e ∷ es) h = (h.0, put_whole a es h.1)
 
-pub overlay_step : (es fs : List (Datum × Option Value)) (d : Datum) (v : Value) (left rest : List (Datum × Value)) (all : Pairs) →
-    puts_before es (pairs left) ≡ all → left ≡ (d, v) ∷ rest → fs ≡ es ++ (d, Some v) ∷ [] → puts_before fs (pairs rest) ≡ all
-overlay_step es fs d v left rest all e f g =
-    ap (λ l. puts_before l (pairs rest)) g ∙ puts_before-more es d v (pairs rest) ∙ sym (ap (λ l. puts_before es (pairs l)) f) ∙ e
+pub overlay_step : (cs ds all : List (Datum × Option Value)) (d : Datum) (v : Value) (left rest : List (Datum × Value)) →
+    cs ++ map put_of left ≡ all → left ≡ (d, v) ∷ rest → ds ≡ cs ++ (d, Some v) ∷ [] → ds ++ map put_of rest ≡ all
+overlay_step cs ds all d v left rest e f g =
+    ap (λ l. l ++ map put_of rest) g ∙ append_assoc cs ((d, Some v) ∷ []) (map put_of rest) ∙ sym (ap (λ l. cs ++ map put_of l) f) ∙ e
 
-pub overlay_end : (es : List (Datum × Option Value)) (left : List (Datum × Value)) (all : Pairs) → puts_before es (pairs left) ≡ all → left ≡ [] → put_pairs es ≡ all
-overlay_end es left all e f = sym (puts_before-none es) ∙ sym (ap (λ l. puts_before es (pairs l)) f) ∙ e
+pub overlay_end : (cs all : List (Datum × Option Value)) (left : List (Datum × Value)) → cs ++ map put_of left ≡ all → left ≡ [] → cs ≡ all
+overlay_end cs all left e f = sym (append-nil cs) ∙ sym (ap (λ l. cs ++ map put_of l) f) ∙ e
+
+-- the fields of a big map
+pub big_opened : (b : BigMap) (l : BigMap-F Value BigMap) → b ≡ roll-BigMap l → out-BigMap b ≡ l
+big_opened b l e = ap out-BigMap e ∙ out-roll-BigMap l
+
+-- a big map that puts these entries
+pub big_pairs_put : (b : BigMap) (es : List (Datum × Value)) → (out-BigMap b).overlay ≡ map put_of es → big_pairs b ≡ pairs es
+big_pairs_put b es h = big_is b ∙ ap put_pairs h ∙ puts_are es
+
+pub big_lies_whole : (a : Kind) (b : BigMap) (s : Bool) (es : List (Datum × Value)) → (out-BigMap b).base ≡ None → (out-BigMap b).shares ≡ s → s ≡ duplicable a →
+    (out-BigMap b).overlay ≡ map put_of es → IsIncreasing (keys_of es) → AreWholeEntries a es → LiesWhole (duplicable a) (IsWhole a) b
+big_lies_whole a b s es alone shares same puts increasing h = record {
+  alone = alone;
+  shares = shares ∙ same;
+  keys = subst IsIncreasing (sym (ap keys_of puts ∙ put_keys es)) increasing;
+  puts = subst (AllByRecursion (λ c. IsPut (IsWhole a) c.1)) (sym puts) (put_whole a es h);
+}

@@ -6,7 +6,8 @@ use Rattle.mich_base.specs.declared.ty.Ty.{Ty, the_lemmas}
 use Rattle.mich_base.specs.declared.ty.Ty.TheVariants as ty
 use Rattle.rules_values.specs.Val as v
 use Rattle.mich_term.specs.View.{datums}
-use Rattle.mich_term.specs.ValueView.{val, vals}
+use Rattle.mich_term.specs.ValueView.{val, vals, big_pairs}
+use Rattle.mich_term.specs.declared.value.BigMap.{BigMap}
 use Rattle.mich_term.specs.declared.datum.Datum.{Datum}
 use Rattle.mich_term.specs.declared.value.Value.{Value}
 use Rattle.mich_term.specs.declared.value.Value as values
@@ -29,6 +30,9 @@ kind_big_map a b = search (rules, the_lemmas)
 
 pub val_list : (vs : List Value) → val (value.List vs) ≡ v.list (vals vs)
 val_list vs = search (rules, values.the_lemmas)
+
+pub val_big_map : (b : BigMap) → val (value.BigMap b) ≡ v.big_table (big_pairs b)
+val_big_map b = search (rules, values.the_lemmas)
 
 pub val_set : (ds : List Datum) → val (value.Set ds) ≡ v.set (datums ds)
 val_set ds = search (rules, values.the_lemmas)

@@ -29,6 +29,10 @@ entries-trees (more_pairs k v es) = ap (λ (ts : Trees). more (entry_tree k v) t
 pub elements_written : (nodes : List Node) (vs : Vals) → map tree nodes ++ [] ≡ element_trees vs → seq (trees nodes) ≡ seq (canonicals vs)
 elements_written nodes vs h = ap (λ (ts : List Tree). seq (trees_of ts)) (sym (append-nil (map tree nodes)) ∙ h) ∙ ap seq (elements-trees vs)
 
+-- all elements of a list are written, from its end to its head
+pub list_written : (nodes rows : List Node) (vs : Vals) → rows ≡ nodes → map tree nodes ≡ element_trees vs → seq (trees rows) ≡ seq (canonicals vs)
+list_written nodes rows vs e h = ap (λ (ns : List Node). seq (trees ns)) e ∙ ap (λ (ts : List Tree). seq (trees_of ts)) h ∙ ap seq (elements-trees vs)
+
 -- all entries are written
 pub entries_written : (nodes : List Node) (es : Pairs) → map tree nodes ++ [] ≡ entry_trees es → seq (trees nodes) ≡ seq (canonical_entries es)
 entries_written nodes es h = ap (λ (ts : List Tree). seq (trees_of ts)) (sym (append-nil (map tree nodes)) ∙ h) ∙ ap seq (entries-trees es)

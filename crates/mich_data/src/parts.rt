@@ -1,7 +1,13 @@
 // What is found at a node, and values from their parts.
-ghost use Rattle.std.specs.Prelude.{◌≡◌, IfOk};
+ghost use Rattle.std.specs.Prelude.{◌≡◌, IfOk, map};
+ghost use Rattle.std.specs.Map.{keys_of};
+ghost use Rattle.rules_types.specs.Kind.{Kind};
+ghost use Rattle.rules_types.specs.Kind as k;
+ghost use Rattle.rules_types.specs.Attributes.{duplicable};
 ghost use Rattle.rules_values.specs.Val.{big_table, both};
-ghost use Rattle.mich_term.specs.ValueView.{pairs, put_pairs, val};
+ghost use Rattle.mich_term.specs.Keyed.{IsIncreasing};
+ghost use Rattle.mich_term.specs.ValueView.{pairs, val};
+ghost use Rattle.mich_data.specs.Whole.{AreWholeEntries, IsWhole, IsWrappedWhole, put_of};
 ghost use Rattle.mich_data.specs.Wrapped.{IsSplit, wrapped};
 
 use mich_base::{Link, Memory, Node, Rows};
@@ -58,7 +64,8 @@ pub(crate) enum Wrapper {
 impl Found {
     // What a wrapper makes of it.
     pub(crate) fn wrapped(self, alloc: Global, wrapper: Wrapper) -> Result<Found, Memory>
-        ensures { IfOk result (λ f. (val f.value ≡ wrapped wrapper (val self.value)) × (f.next ≡ self.next)) }
+        ensures found { IfOk result (λ f. (val f.value ≡ wrapped wrapper (val self.value)) × (f.next ≡ self.next)) }
+        ensures whole { IfOk result (λ f. (a : Kind) → IsWhole a self.value → IsWrappedWhole wrapper a f.value) }
     {
         let part = Link::new(alloc, self.value)?;
         let value = match wrapper {
@@ -74,7 +81,8 @@ impl Found {
 
     // The pair of it and what was found behind it.
     pub(crate) fn paired(self, alloc: Global, second: Found) -> Result<Found, Memory>
-        ensures { IfOk result (λ f. (val f.value ≡ both (val self.value) (val second.value)) × (f.next ≡ second.next)) }
+        ensures found { IfOk result (λ f. (val f.value ≡ both (val self.value) (val second.value)) × (f.next ≡ second.next)) }
+        ensures whole { IfOk result (λ f. (a b : Kind) → IsWhole a self.value → IsWhole b second.value → IsWhole (k.pair a b) f.value) }
     {
         let first = Link::new(alloc, self.value)?;
         let last = Link::new(alloc, second.value)?;
@@ -86,23 +94,27 @@ impl Found {
 }
 
 // A big map whose entries lie in the value itself, and which may have a base later where it shares.
-#[tactic(auto, using(mich_term::proofs::Overlays::big_is))]
 pub(crate) fn big_value(alloc: Global, shares: bool, table: Table<Value>) -> Result<Value, Memory>
-    ensures { IfOk result (λ v. val v ≡ big_table (pairs table)) }
+    ensures value { IfOk result (λ v. val v ≡ big_table (pairs table)) }
+    ensures whole { IfOk result (λ v. (a b : Kind) → shares ≡ duplicable b → AreWholeEntries b table → IsWhole (k.big_map a b) v) }
 {
+    let overlay = overlay_of(alloc, table)?;
     let big = BigMap {
         shares,
         base: None,
-        overlay: overlay_of(alloc, table)?,
+        overlay,
     };
-    Ok(Value::BigMap(Link::new(alloc, big)?))
+    let big = Link::new(alloc, big)?;
+    Ok(Value::BigMap(big))
 }
 
 // The entries of a table as what is put into a big map.
 #[tactic(auto, using(crate::proofs::Tables::overlay_step, crate::proofs::Tables::overlay_end))]
 fn overlay_of(alloc: Global, table: Table<Value>) -> Result<Rows<(Datum, Option<Value>)>, Memory>
-    ensures { IfOk result (λ overlay. put_pairs overlay ≡ pairs table) }
+    ensures puts { IfOk result (λ overlay. overlay ≡ map put_of table) }
+    ensures increasing { IsIncreasing (keys_of table) }
 {
+    let _count = table.len();
     let mut overlay = Rows::new(alloc);
     for (key, value) in table.into_entries() {
         overlay.push((key, Some(value)))?;

@@ -1,6 +1,8 @@
 // Values from nodes.
-ghost use Rattle.std.specs.Prelude.{◌≡◌, ◌+◌, ◌<◌, ◌^◌, false, true, MatchOption, option_map};
+ghost use Rattle.std.specs.Prelude.{◌≡◌, ◌+◌, ◌<◌, ◌^◌, false, true, IfOk, MatchOption, option_map};
+ghost use Rattle.laws_types.specs.Laws.{IsWellFormed};
 ghost use Rattle.rules_base.specs.Tree.{size, sizes};
+ghost use Rattle.rules_types.specs.Kind as k;
 ghost use Rattle.rules_values.specs.Literals.{is_behind, mapped, parts_of, read, read_binding, read_body, read_contract, read_elements, read_entries, read_entry, read_increasing, read_lambda, read_list, read_option, read_or, read_parts, read_rest, read_set, read_simple, read_table, with_pending};
 ghost use Rattle.rules_values.specs.Val.{big_table, list, set, table};
 ghost use Rattle.rules_values.specs.ByteForms.{is_address};
@@ -11,6 +13,8 @@ ghost use Rattle.mich_data.specs.View.{all_pending};
 ghost use Rattle.mich_data.specs.Answers.{AreEntries, IsEntry, IsFound, IsKeyBehind, IsLiteral};
 ghost use Rattle.mich_term.specs.View.{datum};
 ghost use Rattle.mich_term.specs.ValueView.{val};
+ghost use Rattle.mich_term.specs.Layers.{AreFormed};
+ghost use Rattle.mich_data.specs.Whole.{AreWholeEntries, IsWhole, IsWrappedWhole};
 ghost use Rattle.mich_data.specs.Wrapped.{wrapped};
 
 use crate::error::ValueError;
@@ -20,7 +24,7 @@ use crate::simple::simple_value;
 use crate::words::{Word, word_of_name};
 use mich_base::{Node, Nodes, Rows, Shared, Ty, copy_node, copy_type};
 use mich_forms::Address;
-use mich_term::{Datum, Elements, Table, Value, compare};
+use mich_term::{Chain, Datum, Elements, Table, Value, compare};
 use mich_types::{behind, duplicable};
 use rules_types::Simple;
 use std::alloc::Global;
@@ -32,7 +36,9 @@ use std::cmp::Ordering;
 /// there is no room for it.
 pub fn read_value(alloc: Global, ty: &Ty, node: &Node) -> Result<Read, ValueError>
     requires { size (tree node.now) < 2 ^ 32 }
-    ensures { IsLiteral (read (kind ty.now) 0 (tree node.now)) result }
+    ensures literal { IsLiteral (read (kind ty.now) 0 (tree node.now)) result }
+    ensures whole { IfOk result (λ r. IsWhole (kind ty.now) r.value) }
+    ensures formed { IfOk result (λ r. IsWellFormed (kind ty.now) → AreFormed r.value) }
 {
     read_value_at(alloc, ty, node, 0)
 }
@@ -41,7 +47,9 @@ pub fn read_value(alloc: Global, ty: &Ty, node: &Node) -> Result<Read, ValueErro
 #[tactic(auto, using(crate::proofs::Steps::with_none))]
 pub fn read_value_at(alloc: Global, ty: &Ty, node: &Node, at: u32) -> Result<Read, ValueError>
     requires { at + size (tree node.now) < 2 ^ 32 }
-    ensures { IsLiteral (read (kind ty.now) at (tree node.now)) result }
+    ensures literal { IsLiteral (read (kind ty.now) at (tree node.now)) result }
+    ensures whole { IfOk result (λ r. IsWhole (kind ty.now) r.value) }
+    ensures formed { IfOk result (λ r. IsWellFormed (kind ty.now) → AreFormed r.value) }
 {
     let mut pending = Rows::new(alloc);
     let found = read_at(alloc, ty, node, at, &mut pending)?;
@@ -61,7 +69,8 @@ fn read_at(
     pending: &mut Rows<Pending>,
 ) -> Result<Found, ValueError>
     requires { at + size (tree node.now) < 2 ^ 32 }
-    ensures { IsFound (with_pending (all_pending pending.old) (read (kind ty.now) at (tree node.now))) (at + size (tree node.now)) (all_pending pending.new) result }
+    ensures found { IsFound (with_pending (all_pending pending.old) (read (kind ty.now) at (tree node.now))) (at + size (tree node.now)) (all_pending pending.new) result }
+    ensures whole { IfOk result (λ f. IsWhole (kind ty.now) f.value) }
 {
     match ty {
         Ty::Unit => read_simple(alloc, Simple::Unit, node, at, pending),
@@ -99,7 +108,8 @@ fn read_simple(
     pending: &Rows<Pending>,
 ) -> Result<Found, ValueError>
     requires { at + size (tree node.now) < 2 ^ 32 }
-    ensures { IsFound (with_pending (all_pending pending.now) (read_simple simple at (tree node.now))) (at + size (tree node.now)) (all_pending pending.now) result }
+    ensures found { IsFound (with_pending (all_pending pending.now) (read_simple simple at (tree node.now))) (at + size (tree node.now)) (all_pending pending.now) result }
+    ensures whole { IfOk result (λ f. IsWhole (k.simple simple) f.value) }
 {
     match simple_value(alloc, simple, node)? {
         Some(value) => Ok(Found {
@@ -119,7 +129,8 @@ fn read_option(
     pending: &mut Rows<Pending>,
 ) -> Result<Found, ValueError>
     requires { at + size (tree node.now) < 2 ^ 32 }
-    ensures { IsFound (with_pending (all_pending pending.old) (read_option (read (kind part.now)) at (tree node.now))) (at + size (tree node.now)) (all_pending pending.new) result }
+    ensures found { IsFound (with_pending (all_pending pending.old) (read_option (read (kind part.now)) at (tree node.now))) (at + size (tree node.now)) (all_pending pending.new) result }
+    ensures whole { IfOk result (λ f. IsWhole (k.option (kind part.now)) f.value) }
 {
     let Node::Prim(app) = node else {
         return Err(ValueError::NotOfType(at));
@@ -154,7 +165,8 @@ fn read_or(
     pending: &mut Rows<Pending>,
 ) -> Result<Found, ValueError>
     requires { at + size (tree node.now) < 2 ^ 32 }
-    ensures { IsFound (with_pending (all_pending pending.old) (read_or (read (kind left.now)) (read (kind right.now)) at (tree node.now))) (at + size (tree node.now)) (all_pending pending.new) result }
+    ensures found { IsFound (with_pending (all_pending pending.old) (read_or (read (kind left.now)) (read (kind right.now)) at (tree node.now))) (at + size (tree node.now)) (all_pending pending.new) result }
+    ensures whole { IfOk result (λ f. IsWhole (k.or (kind left.now) (kind right.now)) f.value) }
 {
     let Node::Prim(app) = node else {
         return Err(ValueError::NotOfType(at));
@@ -181,7 +193,8 @@ fn read_argument(
     pending: &mut Rows<Pending>,
 ) -> Result<Found, ValueError>
     requires { at + size (tree node.now) < 2 ^ 32 }
-    ensures { IsFound (with_pending (all_pending pending.old) (mapped (wrapped wrapper) (read (kind ty.now) at (tree node.now)))) (at + size (tree node.now)) (all_pending pending.new) result }
+    ensures found { IsFound (with_pending (all_pending pending.old) (mapped (wrapped wrapper) (read (kind ty.now) at (tree node.now)))) (at + size (tree node.now)) (all_pending pending.new) result }
+    ensures whole { IfOk result (λ f. IsWrappedWhole wrapper (kind ty.now) f.value) }
 {
     let found = read_at(alloc, ty, node, at, pending)?;
     Ok(found.wrapped(alloc, wrapper)?)
@@ -197,7 +210,8 @@ fn read_pair(
     pending: &mut Rows<Pending>,
 ) -> Result<Found, ValueError>
     requires { at + size (tree node.now) < 2 ^ 32 }
-    ensures { IsFound (with_pending (all_pending pending.old) (read_parts (read (kind first.now)) (read (kind second.now)) (read_rest (kind second.now) at) at (at + 1) (parts_of (tree node.now)))) (at + size (tree node.now)) (all_pending pending.new) result }
+    ensures found { IsFound (with_pending (all_pending pending.old) (read_parts (read (kind first.now)) (read (kind second.now)) (read_rest (kind second.now) at) at (at + 1) (parts_of (tree node.now)))) (at + size (tree node.now)) (all_pending pending.new) result }
+    ensures whole { IfOk result (λ f. IsWhole (k.pair (kind first.now) (kind second.now)) f.value) }
 {
     match node {
         Node::Prim(app) => match word_of_name(&app.name) {
@@ -226,7 +240,8 @@ fn read_parts(
     pending: &mut Rows<Pending>,
 ) -> Result<Found, ValueError>
     requires { at + sizes (trees parts.now) < 2 ^ 32 }
-    ensures { IsFound (with_pending (all_pending pending.old) (read_parts (read (kind first.now)) (read (kind second.now)) (read_rest (kind second.now) whole) whole at (trees parts.now))) (at + sizes (trees parts.now)) (all_pending pending.new) result }
+    ensures found { IsFound (with_pending (all_pending pending.old) (read_parts (read (kind first.now)) (read (kind second.now)) (read_rest (kind second.now) whole) whole at (trees parts.now))) (at + sizes (trees parts.now)) (all_pending pending.new) result }
+    ensures whole { IfOk result (λ f. IsWhole (k.pair (kind first.now) (kind second.now)) f.value) }
 {
     match split_parts(parts) {
         Parts::Two(part, last) => {
@@ -254,7 +269,8 @@ fn read_rest(
     pending: &mut Rows<Pending>,
 ) -> Result<Found, ValueError>
     requires { at + sizes (trees parts.now) < 2 ^ 32 }
-    ensures { IsFound (with_pending (all_pending pending.old) (read_rest (kind ty.now) whole at (trees parts.now))) (at + sizes (trees parts.now)) (all_pending pending.new) result }
+    ensures found { IsFound (with_pending (all_pending pending.old) (read_rest (kind ty.now) whole at (trees parts.now))) (at + sizes (trees parts.now)) (all_pending pending.new) result }
+    ensures whole { IfOk result (λ f. IsWhole (kind ty.now) f.value) }
 {
     match ty {
         Ty::Pair(first, second) => {
@@ -273,7 +289,8 @@ fn read_list(
     pending: &mut Rows<Pending>,
 ) -> Result<Found, ValueError>
     requires { at + size (tree node.now) < 2 ^ 32 }
-    ensures { IsFound (with_pending (all_pending pending.old) (read_list (read (kind part.now)) at (tree node.now))) (at + size (tree node.now)) (all_pending pending.new) result }
+    ensures found { IsFound (with_pending (all_pending pending.old) (read_list (read (kind part.now)) at (tree node.now))) (at + size (tree node.now)) (all_pending pending.new) result }
+    ensures whole { IfOk result (λ f. IsWhole (k.list (kind part.now)) f.value) }
 {
     match node {
         Node::Seq(nodes) => read_elements(alloc, part, nodes, at + 1, pending),
@@ -292,7 +309,8 @@ fn read_elements(
     pending: &mut Rows<Pending>,
 ) -> Result<Found, ValueError>
     requires { at + sizes (trees nodes.now) < 2 ^ 32 }
-    ensures { IsFound (with_pending (all_pending pending.old) (mapped list (read_elements (read (kind part.now)) at (trees nodes.now)))) (at + sizes (trees nodes.now)) (all_pending pending.new) result }
+    ensures found { IsFound (with_pending (all_pending pending.old) (mapped list (read_elements (read (kind part.now)) at (trees nodes.now)))) (at + sizes (trees nodes.now)) (all_pending pending.new) result }
+    ensures whole { IfOk result (λ f. IsWhole (k.list (kind part.now)) f.value) }
 {
     let mut values = Rows::new(alloc);
     let mut next = at;
@@ -302,7 +320,7 @@ fn read_elements(
         next = found.next;
     }
     Ok(Found {
-        value: Value::List(values),
+        value: Value::List(Chain::from_rows(values)),
         next,
     })
 }
@@ -316,7 +334,8 @@ fn read_set(
     pending: &mut Rows<Pending>,
 ) -> Result<Found, ValueError>
     requires { at + size (tree node.now) < 2 ^ 32 }
-    ensures { IsFound (with_pending (all_pending pending.old) (read_set (read (kind part.now)) at (tree node.now))) (at + size (tree node.now)) (all_pending pending.new) result }
+    ensures found { IsFound (with_pending (all_pending pending.old) (read_set (read (kind part.now)) at (tree node.now))) (at + size (tree node.now)) (all_pending pending.new) result }
+    ensures whole { IfOk result (λ f. IsWhole (k.set (kind part.now)) f.value) }
 {
     match node {
         Node::Seq(nodes) => read_increasing(alloc, part, nodes, at + 1, pending),
@@ -335,7 +354,8 @@ fn read_increasing(
     pending: &mut Rows<Pending>,
 ) -> Result<Found, ValueError>
     requires { at + sizes (trees nodes.now) < 2 ^ 32 }
-    ensures { IsFound (with_pending (all_pending pending.old) (mapped set (read_increasing (read (kind part.now)) None at (trees nodes.now)))) (at + sizes (trees nodes.now)) (all_pending pending.new) result }
+    ensures found { IsFound (with_pending (all_pending pending.old) (mapped set (read_increasing (read (kind part.now)) None at (trees nodes.now)))) (at + sizes (trees nodes.now)) (all_pending pending.new) result }
+    ensures whole { IfOk result (λ f. IsWhole (k.set (kind part.now)) f.value) }
 {
     let mut elements = Elements::new(alloc);
     let mut next = at;
@@ -390,7 +410,8 @@ fn read_map(
     pending: &mut Rows<Pending>,
 ) -> Result<Found, ValueError>
     requires { at + size (tree node.now) < 2 ^ 32 }
-    ensures { IsFound (with_pending (all_pending pending.old) (read_table table (read (kind key.now)) (read (kind value.now)) at (tree node.now))) (at + size (tree node.now)) (all_pending pending.new) result }
+    ensures found { IsFound (with_pending (all_pending pending.old) (read_table table (read (kind key.now)) (read (kind value.now)) at (tree node.now))) (at + size (tree node.now)) (all_pending pending.new) result }
+    ensures whole { IfOk result (λ f. IsWhole (k.map (kind key.now) (kind value.now)) f.value) }
 {
     match node {
         Node::Seq(nodes) => read_small(alloc, key, value, nodes, at + 1, pending),
@@ -408,7 +429,8 @@ fn read_big_map(
     pending: &mut Rows<Pending>,
 ) -> Result<Found, ValueError>
     requires { at + size (tree node.now) < 2 ^ 32 }
-    ensures { IsFound (with_pending (all_pending pending.old) (read_table big_table (read (kind key.now)) (read (kind value.now)) at (tree node.now))) (at + size (tree node.now)) (all_pending pending.new) result }
+    ensures found { IsFound (with_pending (all_pending pending.old) (read_table big_table (read (kind key.now)) (read (kind value.now)) at (tree node.now))) (at + size (tree node.now)) (all_pending pending.new) result }
+    ensures whole { IfOk result (λ f. IsWhole (k.big_map (kind key.now) (kind value.now)) f.value) }
 {
     match node {
         Node::Seq(nodes) => read_big(alloc, key, value, nodes, at + 1, pending),
@@ -428,7 +450,8 @@ fn read_small(
     pending: &mut Rows<Pending>,
 ) -> Result<Found, ValueError>
     requires { at + sizes (trees nodes.now) < 2 ^ 32 }
-    ensures { IsFound (with_pending (all_pending pending.old) (mapped table (read_entries (read (kind key.now)) (read (kind value.now)) None at (trees nodes.now)))) (at + sizes (trees nodes.now)) (all_pending pending.new) result }
+    ensures found { IsFound (with_pending (all_pending pending.old) (mapped table (read_entries (read (kind key.now)) (read (kind value.now)) None at (trees nodes.now)))) (at + sizes (trees nodes.now)) (all_pending pending.new) result }
+    ensures whole { IfOk result (λ f. IsWhole (k.map (kind key.now) (kind value.now)) f.value) }
 {
     let entries = read_entries(alloc, key, value, nodes, at, pending)?;
     Ok(Found {
@@ -449,7 +472,8 @@ fn read_big(
     pending: &mut Rows<Pending>,
 ) -> Result<Found, ValueError>
     requires { at + sizes (trees nodes.now) < 2 ^ 32 }
-    ensures { IsFound (with_pending (all_pending pending.old) (mapped big_table (read_entries (read (kind key.now)) (read (kind value.now)) None at (trees nodes.now)))) (at + sizes (trees nodes.now)) (all_pending pending.new) result }
+    ensures found { IsFound (with_pending (all_pending pending.old) (mapped big_table (read_entries (read (kind key.now)) (read (kind value.now)) None at (trees nodes.now)))) (at + sizes (trees nodes.now)) (all_pending pending.new) result }
+    ensures whole { IfOk result (λ f. IsWhole (k.big_map (kind key.now) (kind value.now)) f.value) }
 {
     let entries = read_entries(alloc, key, value, nodes, at, pending)?;
     let big = big_value(alloc, duplicable(value), entries.table)?;
@@ -471,7 +495,8 @@ fn read_entries(
     pending: &mut Rows<Pending>,
 ) -> Result<Entries, ValueError>
     requires { at + sizes (trees nodes.now) < 2 ^ 32 }
-    ensures { AreEntries (with_pending (all_pending pending.old) (read_entries (read (kind key.now)) (read (kind value.now)) None at (trees nodes.now))) (at + sizes (trees nodes.now)) (all_pending pending.new) result }
+    ensures entries { AreEntries (with_pending (all_pending pending.old) (read_entries (read (kind key.now)) (read (kind value.now)) None at (trees nodes.now))) (at + sizes (trees nodes.now)) (all_pending pending.new) result }
+    ensures whole { IfOk result (λ es. AreWholeEntries (kind value.now) es.table) }
 {
     let mut table = Table::new(alloc);
     let mut next = at;
@@ -495,7 +520,8 @@ fn read_entry(
     pending: &mut Rows<Pending>,
 ) -> Result<Entry, ValueError>
     requires { at + size (tree node.now) < 2 ^ 32 }
-    ensures { IsEntry (option_map (λ d. datum d.now) before.entry) (with_pending (all_pending pending.old) (read_entry (read (kind key.now)) (read (kind value.now)) (option_map (λ d. datum d.now) before.entry) at (tree node.now))) (at + size (tree node.now)) (all_pending pending.new) result }
+    ensures entry { IsEntry (option_map (λ d. datum d.now) before.entry) (with_pending (all_pending pending.old) (read_entry (read (kind key.now)) (read (kind value.now)) (option_map (λ d. datum d.now) before.entry) at (tree node.now))) (at + size (tree node.now)) (all_pending pending.new) result }
+    ensures whole { IfOk result (λ e. IsWhole (kind value.now) e.value) }
 {
     let Node::Prim(app) = node else {
         return Err(ValueError::NotOfType(at));
@@ -522,7 +548,8 @@ fn read_binding(
     pending: &mut Rows<Pending>,
 ) -> Result<Entry, ValueError>
     requires { at + 1 + size (tree binding.0.now) + size (tree binding.1.now) < 2 ^ 32 }
-    ensures { IsEntry (option_map (λ d. datum d.now) before.entry) (with_pending (all_pending pending.old) (read_binding (read (kind key.now)) (read (kind value.now)) (option_map (λ d. datum d.now) before.entry) at (tree binding.entry.0.now) (tree binding.entry.1.now))) (at + 1 + size (tree binding.entry.0.now) + size (tree binding.entry.1.now)) (all_pending pending.new) result }
+    ensures entry { IsEntry (option_map (λ d. datum d.now) before.entry) (with_pending (all_pending pending.old) (read_binding (read (kind key.now)) (read (kind value.now)) (option_map (λ d. datum d.now) before.entry) at (tree binding.entry.0.now) (tree binding.entry.1.now))) (at + 1 + size (tree binding.entry.0.now) + size (tree binding.entry.1.now)) (all_pending pending.new) result }
+    ensures whole { IfOk result (λ e. IsWhole (kind value.now) e.value) }
 {
     let first = read_at(alloc, key, binding.0, at + 1, pending)?;
     let datum = key_behind(alloc, before, &first.value, at)?;
@@ -543,7 +570,8 @@ fn read_lambda(
     pending: &mut Rows<Pending>,
 ) -> Result<Found, ValueError>
     requires { at + size (tree node.now) < 2 ^ 32 }
-    ensures { IsFound (with_pending (all_pending pending.old) (read_lambda (kind arg.now) (kind ret.now) at (tree node.now))) (at + size (tree node.now)) (all_pending pending.new) result }
+    ensures found { IsFound (with_pending (all_pending pending.old) (read_lambda (kind arg.now) (kind ret.now) at (tree node.now))) (at + size (tree node.now)) (all_pending pending.new) result }
+    ensures whole { IfOk result (λ f. IsWhole (k.lambda (kind arg.now) (kind ret.now)) f.value) }
 {
     let Node::Prim(app) = node else {
         return read_body(alloc, arg, ret, false, node, at, pending);
@@ -568,7 +596,8 @@ fn read_body(
     pending: &mut Rows<Pending>,
 ) -> Result<Found, ValueError>
     requires { at + size (tree node.now) < 2 ^ 32 }
-    ensures { IsFound (with_pending (all_pending pending.old) (read_body (kind arg.now) (kind ret.now) recursive at (tree node.now))) (at + size (tree node.now)) (all_pending pending.new) result }
+    ensures found { IsFound (with_pending (all_pending pending.old) (read_body (kind arg.now) (kind ret.now) recursive at (tree node.now))) (at + size (tree node.now)) (all_pending pending.new) result }
+    ensures whole { IfOk result (λ f. IsWhole (k.lambda (kind arg.now) (kind ret.now)) f.value) }
 {
     let Node::Seq(_) = node else {
         return Err(ValueError::NotOfType(at));
@@ -603,7 +632,8 @@ fn read_contract(
     pending: &mut Rows<Pending>,
 ) -> Result<Found, ValueError>
     requires { at + size (tree node.now) < 2 ^ 32 }
-    ensures { IsFound (with_pending (all_pending pending.old) (read_contract (kind ty.now) at (tree node.now))) (at + size (tree node.now)) (all_pending pending.new) result }
+    ensures found { IsFound (with_pending (all_pending pending.old) (read_contract (kind ty.now) at (tree node.now))) (at + size (tree node.now)) (all_pending pending.new) result }
+    ensures whole { IfOk result (λ f. IsWhole (k.contract (kind ty.now)) f.value) }
 {
     let Node::Bytes(bytes) = node else {
         return Err(ValueError::NotOfType(at));

@@ -1,11 +1,13 @@
 // Literals of types without arguments.
-ghost use Rattle.std.specs.Prelude.{◌≡◌, ◌≤◌, IfOk, length, nat_le, option_map};
+ghost use Rattle.std.specs.Prelude.{◌≡◌, ◌≤◌, IfOk, IfSome, length, nat_le, option_map};
 ghost use Rattle.std.specs.List.{list_all};
 ghost use Rattle.rules_numbers.specs.Limits.{is_int};
 ghost use Rattle.rules_values.specs.Literals.{bare_value, bytes_value, is_amount, is_nat, is_short, is_text, is_text_byte, number_value, simple_value, text_value, truth_of_word, unit_of_word};
 ghost use Rattle.mich_base.specs.View.{tree};
 ghost use Rattle.mich_term.specs.ValueView.{val};
+ghost use Rattle.mich_term.specs.declared.value.Value.{out-Value};
 ghost use Rattle.mich_data.specs.View.{byte_test};
+ghost use Rattle.mich_data.specs.Whole.{IsSimple};
 
 use crate::words::{Word, word_of_name};
 use mich_base::{Memory, Node};
@@ -14,8 +16,10 @@ use mich_term::Value;
 use rules_types::Simple;
 use std::alloc::Global;
 
+#[tactic(auto, using(crate::proofs::Whole::unit_simple))]
 fn unit_value(node: &Node) -> Option<Value>
-    ensures { option_map val result ≡ bare_value unit_of_word (tree node.now) }
+    ensures value { option_map val result ≡ bare_value unit_of_word (tree node.now) }
+    ensures simple { IfSome result (λ v. IsSimple (out-Value v)) }
 {
     let Node::Prim(app) = node else {
         return None;
@@ -29,8 +33,10 @@ fn unit_value(node: &Node) -> Option<Value>
     }
 }
 
+#[tactic(auto, using(crate::proofs::Whole::bool_simple))]
 fn truth_value(node: &Node) -> Option<Value>
-    ensures { option_map val result ≡ bare_value truth_of_word (tree node.now) }
+    ensures value { option_map val result ≡ bare_value truth_of_word (tree node.now) }
+    ensures simple { IfSome result (λ v. IsSimple (out-Value v)) }
 {
     let Node::Prim(app) = node else {
         return None;
@@ -45,8 +51,10 @@ fn truth_value(node: &Node) -> Option<Value>
     }
 }
 
+#[tactic(auto, using(crate::proofs::Whole::number_simple))]
 fn int_value(node: &Node) -> Option<Value>
-    ensures { option_map val result ≡ number_value is_int (tree node.now) }
+    ensures value { option_map val result ≡ number_value is_int (tree node.now) }
+    ensures simple { IfSome result (λ v. IsSimple (out-Value v)) }
 {
     match node {
         Node::Int(n) => Some(Value::Number(*n)),
@@ -54,8 +62,10 @@ fn int_value(node: &Node) -> Option<Value>
     }
 }
 
+#[tactic(auto, using(crate::proofs::Whole::number_simple))]
 fn nat_value(node: &Node) -> Option<Value>
-    ensures { option_map val result ≡ number_value is_nat (tree node.now) }
+    ensures value { option_map val result ≡ number_value is_nat (tree node.now) }
+    ensures simple { IfSome result (λ v. IsSimple (out-Value v)) }
 {
     match node {
         Node::Int(n) if *n >= 0 => Some(Value::Number(*n)),
@@ -63,8 +73,10 @@ fn nat_value(node: &Node) -> Option<Value>
     }
 }
 
+#[tactic(auto, using(crate::proofs::Whole::number_simple))]
 fn amount_value(node: &Node) -> Option<Value>
-    ensures { option_map val result ≡ number_value is_amount (tree node.now) }
+    ensures value { option_map val result ≡ number_value is_amount (tree node.now) }
+    ensures simple { IfSome result (λ v. IsSimple (out-Value v)) }
 {
     match node {
         Node::Int(n) if 0 <= *n && *n <= 0x7fff_ffff_ffff_ffff => Some(Value::Number(*n)),
@@ -96,8 +108,10 @@ fn is_text(bytes: &[u8]) -> bool
     is_short(bytes) && are_text_bytes(bytes)
 }
 
+#[tactic(auto, using(crate::proofs::Whole::text_simple))]
 fn text_value(alloc: Global, node: &Node) -> Result<Option<Value>, Memory>
-    ensures { IfOk result (λ o. option_map val o ≡ text_value is_text (tree node.now)) }
+    ensures value { IfOk result (λ o. option_map val o ≡ text_value is_text (tree node.now)) }
+    ensures simple { IfOk result (λ o. IfSome o (λ v. IsSimple (out-Value v))) }
 {
     match node {
         Node::Str(text) if is_text(text.as_slice()) => Ok(Some(Value::Text(text.copy(alloc)?))),
@@ -121,8 +135,10 @@ fn passes(simple: Simple, bytes: &[u8]) -> bool
     }
 }
 
+#[tactic(auto, using(crate::proofs::Whole::bytes_simple))]
 fn bytes_value(alloc: Global, simple: Simple, node: &Node) -> Result<Option<Value>, Memory>
-    ensures { IfOk result (λ o. option_map val o ≡ bytes_value (byte_test simple) (tree node.now)) }
+    ensures value { IfOk result (λ o. option_map val o ≡ bytes_value (byte_test simple) (tree node.now)) }
+    ensures simple { IfOk result (λ o. IfSome o (λ v. IsSimple (out-Value v))) }
 {
     match node {
         Node::Bytes(bytes) if passes(simple, bytes.as_slice()) => {
@@ -138,7 +154,8 @@ pub(crate) fn simple_value(
     simple: Simple,
     node: &Node,
 ) -> Result<Option<Value>, Memory>
-    ensures { IfOk result (λ o. option_map val o ≡ simple_value simple (tree node.now)) }
+    ensures value { IfOk result (λ o. option_map val o ≡ simple_value simple (tree node.now)) }
+    ensures simple { IfOk result (λ o. IfSome o (λ v. IsSimple (out-Value v))) }
 {
     match simple {
         Simple::Unit => Ok(unit_value(node)),

@@ -10,7 +10,7 @@ ghost use Rattle.mich_term.specs.View.{datum, datums};
 ghost use Rattle.mich_term.specs.ValueView.{val, vals, pairs, big_pairs};
 
 use mich_base::{Bytes, Memory, Node, Nodes, Rows, copy_node};
-use mich_term::{BigMap, Datum, Elements, Table, Ticket, Value};
+use mich_term::{BigMap, Chain, Datum, Elements, Table, Ticket, Value};
 use mich_types::{application, bare, over_one, over_two, type_node};
 use std::alloc::Global;
 
@@ -105,16 +105,15 @@ fn ticket_node(alloc: Global, ticket: &Ticket) -> Result<Node, Memory>
     application(alloc, b"Ticket", parts)
 }
 
-#[tactic(auto, using(crate::proofs::Written::elements_written))]
 #[cycle(write)]
-fn list_node(alloc: Global, values: &Rows<Value>) -> Result<Node, Memory>
+fn list_node(alloc: Global, values: &Chain<Value>) -> Result<Node, Memory>
     ensures { IfOk result (λ n. tree n ≡ seq (canonicals (vals values.now))) }
 {
-    let mut nodes = Rows::new(alloc);
-    for value in values.as_slice() {
+    let mut nodes = Chain::new(alloc);
+    for value in values.as_reversed_slice() {
         nodes.push(value_node(alloc, value)?)?;
     }
-    Ok(sequence(nodes))
+    Ok(sequence(Rows::from_vec(nodes.into_vec())))
 }
 
 #[tactic(auto, using(crate::proofs::Written::elements_written))]

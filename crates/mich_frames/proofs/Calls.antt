@@ -106,6 +106,15 @@ module _ {fs : List Frame} {u : Around} {m : Tally} {d : ℕ} {Z : List Kind} {o
       by ps c _ _ _ (is_exec {A = A} form) rests depth same =
           no_fault (tree_type (seq ts) place.lambda (call_kinds a r recursive)) r (exec_is u m o c ps a r A x ts recursive W h.runs (ap (λ p. after p (resume ps (at u c))) (sym (form_is _ _ _ _ _ _ _ _ m form)) ∙ same)).0
 
+  -- the body is one of the lambda's type
+  pub exec_typed : {a r : Kind} (x : Val) (ts : Trees) (recursive : Bool) (W : List Val) → MeetsAt (made.exec a r) fs u (x ∷ v.lambda (seq ts) recursive ∷ W) m d Z o →
+      is_none (lambda_fault a r recursive (seq ts)) ≡ true
+  exec_typed {a = a} {r = r} x ts recursive W h = meets_by h by
+    where
+      by : Case (made.exec a r) fs u (x ∷ v.lambda (seq ts) recursive ∷ W) m d Z o (is_none (lambda_fault a r recursive (seq ts)) ≡ true)
+      by ps c _ _ _ (is_exec {A = A} form) rests depth same =
+          (exec_is u m o c ps a r A x ts recursive W h.runs (ap (λ p. after p (resume ps (at u c))) (sym (form_is _ _ _ _ _ _ _ _ m form)) ∙ same)).0
+
   pub exec_broke : {a r : Kind} (x : Val) (ts : Trees) (recursive : Bool) (W : List Val) → Lacks u g.Exec 0 m → MeetsAt (made.exec a r) fs u (x ∷ v.lambda (seq ts) recursive ∷ W) m d Z o → o ≡ failed f.out_of_gas
   exec_broke {a = a} {r = r} x ts recursive W lacks h = meets_by h by
     where

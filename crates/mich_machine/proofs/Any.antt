@@ -2,7 +2,7 @@
 use Rattle.std.proofs.Common.{◌≡◌, ℕ, true, false, List, [], ◌∷◌}
 use Rattle.rules_gas.specs.declared.Kind.TheVariants as g
 use Rattle.rules_types.specs.Kind.{Kind}
-use Rattle.rules_values.specs.Val.{Val}
+use Rattle.rules_values.specs.Val.{Val, no_val, more_vals}
 use Rattle.rules_values.specs.Val as v
 use Rattle.rules_steps.specs.Failure as f
 use Rattle.rules_evaluation.specs.Operations.{Tally}
@@ -13,13 +13,13 @@ use Rattle.mich_frames.specs.Around.{Around, less, Pays, Lacks}
 use Rattle.mich_frames.specs.Frames.{Frame}
 use Rattle.mich_frames.specs.Frames as fr
 use Rattle.mich_frames.specs.Stands.{StandsAt, MeetsAt, OpensAt}
-use Rattle.mich_frames.specs.Shapes.{HasTop, HasTruth, HasOption, HasUnion, HasItems}
-use Rattle.mich_frames.proofs.Branches.{if_broke, if_none_opens, if_some_opens, if_none_broke, if_some_broke, if_left_opens, if_right_opens, if_left_broke, if_right_broke}
+use Rattle.mich_frames.specs.Shapes.{HasTop, HasTruth, HasOption, HasUnion, HasItems, HasList}
+use Rattle.mich_frames.proofs.Branches.{if_broke, if_none_opens, if_some_opens, if_none_broke, if_some_broke, if_left_opens, if_right_opens, if_left_broke, if_right_broke, if_cons_opens, if_empty_opens, if_cons_broke, if_empty_broke}
 use Rattle.mich_frames.proofs.Loops.{loop_acts, loop_broke, loop_left_acts, loop_left_broke, loop_right_acts, loop_right_broke, left_turns_end, left_turns_broke, left_turn_opens}
 use Rattle.mich_frames.proofs.Items.{iter_broke, each_broke}
 use Rattle.mich_frames.proofs.Calls.{fail_broke}
 use Rattle.mich_machine.specs.Items.{IsNotEmpty}
-use Rattle.mich_machine.specs.Parts.{is_left_top, is_none_top, opened}
+use Rattle.mich_machine.specs.Parts.{is_left_top, is_none_top, is_cons_top, opened}
 
 module _ {fs : List Frame} {u : Around} {m : Tally} {d : ℕ} {Z : List Kind} {o : Outcome} {is js : Codes} where
   pub if_any_broke : (V : List Val) → Lacks u g.If 0 m → MeetsAt (made.if_bool is js) fs u V m d Z o → HasTruth V → o ≡ failed f.out_of_gas
@@ -53,6 +53,20 @@ module _ {fs : List Frame} {u : Around} {m : Tally} {d : ℕ} {Z : List Kind} {o
   right_opens (v.right x ∷ W) e pays h top = if_right_opens x pays h
   right_opens (v.left x ∷ W) e pays h top = absurd cc
   right_opens _ e pays h top = absurd top
+
+  pub list_broke : (V : List Val) → Lacks u g.IfCons 0 m → MeetsAt (made.if_cons is js) fs u V m d Z o → HasList V → o ≡ failed f.out_of_gas
+  list_broke (v.list no_val ∷ W) lacks h top = if_empty_broke lacks h
+  list_broke (v.list (more_vals x xs) ∷ W) lacks h top = if_cons_broke x xs lacks h
+  list_broke _ lacks h top = absurd top
+
+  pub cons_opens : (V : List Val) → is_cons_top V ≡ true → Pays u g.IfCons 0 m → MeetsAt (made.if_cons is js) fs u V m d Z o → OpensAt is fs u (opened V) (less u g.IfCons 0 m) d Z o
+  cons_opens (v.list (more_vals x xs) ∷ W) e pays h = if_cons_opens x xs pays h
+  cons_opens _ e pays h = absurd cc
+
+  pub empty_opens : (V : List Val) → is_cons_top V ≡ false → Pays u g.IfCons 0 m → MeetsAt (made.if_cons is js) fs u V m d Z o → HasList V → OpensAt js fs u (opened V) (less u g.IfCons 0 m) d Z o
+  empty_opens (v.list no_val ∷ W) e pays h top = if_empty_opens pays h
+  empty_opens (v.list (more_vals x xs) ∷ W) e pays h top = absurd cc
+  empty_opens _ e pays h top = absurd top
 
 module _ {fs : List Frame} {u : Around} {m : Tally} {d : ℕ} {Z : List Kind} {o : Outcome} {is : Codes} where
   pub loop_any : (V : List Val) → Pays u g.Loop 0 m → MeetsAt (made.loop is) fs u V m d Z o → HasTruth V → StandsAt (fr.turns is ∷ fs) u V (less u g.Loop 0 m) d Z o

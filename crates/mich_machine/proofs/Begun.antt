@@ -22,17 +22,17 @@ use Rattle.mich_machine.proofs.Listed.{over_is, map_reverse}
 module _ (x : Beyond) (costs : Costs) (Z : List Kind) (o : Outcome) where
   -- a block that is in front of frames
   abbrev pub OpensOver : List Instr → Option Frame → List Frame → State → ℕ → Type 0
-  OpensOver body below fs s d = OpensAt (codes body) (over x.bases below (frames x.bases fs)) (around x costs s) (tops x.bases s.stack) (tally x s) d Z o
+  OpensOver body below fs s d = OpensAt (codes body) (over x.sight below (frames x.sight fs)) (around x costs s) (tops x.sight s.stack) (tally x s) d Z o
 
   abbrev Placed : List Instr → ℕ → List Frame → State → ℕ → Type 0
-  Placed block at fs s d = StandsAt (fr.rest (codes (drop at block)) ∷ frames x.bases fs) (around x costs s) (tops x.bases s.stack) (tally x s) d Z o
+  Placed block at fs s d = StandsAt (fr.rest (codes (drop at block)) ∷ frames x.sight fs) (around x costs s) (tops x.sight s.stack) (tally x s) d Z o
 
   pub begun_in : (below : Option Frame) (body : List Instr) (fs : List Frame) (old new : Machine) (s : State) → HasBegun below body fs old new → new.state ≡ s →
       OpensOver body below fs s old.depth → InBlock x costs new Z o
   begun_in below body fs old new s h same opens =
-      let base : StandsAt (fr.rest (codes body) ∷ over x.bases below (frames x.bases fs)) (around x costs s) (tops x.bases s.stack) (tally x s) (old.depth + 1) Z o = enters h.few opens in
+      let base : StandsAt (fr.rest (codes body) ∷ over x.sight below (frames x.sight fs)) (around x costs s) (tops x.sight s.stack) (tally x s) (old.depth + 1) Z o = enters h.few opens in
       let one : Placed body 0 (with_below fs below) s (old.depth + 1) =
-      subst (λ gs. StandsAt (fr.rest (codes body) ∷ gs) (around x costs s) (tops x.bases s.stack) (tally x s) (old.depth + 1) Z o) (over_is x.bases fs below) base in
+      subst (λ gs. StandsAt (fr.rest (codes body) ∷ gs) (around x costs s) (tops x.sight s.stack) (tally x s) (old.depth + 1) Z o) (over_is x.sight fs below) base in
       let two : Placed new.block 0 (with_below fs below) s (old.depth + 1) = subst (λ b. Placed b 0 (with_below fs below) s (old.depth + 1)) (sym h.block) one in
       let three : Placed new.block new.at (with_below fs below) s (old.depth + 1) = subst (λ k. Placed new.block k (with_below fs below) s (old.depth + 1)) (sym h.at) two in
       let four : Placed new.block new.at new.frames s (old.depth + 1) = subst (λ gs. Placed new.block new.at gs s (old.depth + 1)) (sym h.frames) three in
@@ -45,8 +45,8 @@ module _ (x : Beyond) (costs : Costs) (Z : List Kind) (o : Outcome) where
 module _ (x : Beyond) (costs : Costs) (Z : List Kind) (o : Outcome) (below : Option Frame) (body : List Instr) (old : Machine) where
   rest_in : HasActedIn (a.Open below body) x costs old Z o → OpensOver x costs Z o body below (with_rest old) old.state old.depth
   rest_in h =
-      subst (λ gs. OpensAt (codes body) (over x.bases below gs) (around x costs old.state) (tops x.bases old.state.stack) (tally x old.state) old.depth Z o)
-      (sym (map_reverse (frame x.bases) old.frames (frame'.Rest old.block old.at))) h
+      subst (λ gs. OpensAt (codes body) (over x.sight below gs) (around x costs old.state) (tops x.sight old.state.stack) (tally x old.state) old.depth Z o)
+      (sym (map_reverse (frame x.sight) old.frames (frame'.Rest old.block old.at))) h
 
   -- a block that opens over the rest of the one that runs
   pub opens_inside : (new : Machine) → HasBegun below body (with_rest old) old new → new.state ≡ old.state → HasActedIn (a.Open below body) x costs old Z o → InBlock x costs new Z o

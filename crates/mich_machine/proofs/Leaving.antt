@@ -14,12 +14,12 @@ use Rattle.mich_machine.proofs.Listed.{map_reverse}
 
 module _ (x : Beyond) (costs : Costs) (Z : List Kind) (o : Outcome) (m : Machine) where
   -- a frame was on top
-  pub on_top : (gs : List Frame) (top : Frame) → m.frames ≡ gs ++ top ∷ [] → Behind x costs m Z o → Stands top x costs m.state (frames x.bases gs) m.depth Z o
+  pub on_top : (gs : List Frame) (top : Frame) → m.frames ≡ gs ++ top ∷ [] → Behind x costs m Z o → Stands top x costs m.state (frames x.sight gs) m.depth Z o
   on_top gs top e h =
-      subst (λ hs. StandsAt hs (around x costs m.state) (tops x.bases m.state.stack) (tally x m.state) m.depth Z o)
-      (ap (frames x.bases) e ∙ map_reverse (frame x.bases) gs top) h
+      subst (λ hs. StandsAt hs (around x costs m.state) (tops x.sight m.state.stack) (tally x m.state) m.depth Z o)
+      (ap (frames x.sight) e ∙ map_reverse (frame x.sight) gs top) h
 
   -- none was left
-  pub at_end : m.frames ≡ [] → Behind x costs m Z o → o ≡ stack Z (tops x.bases m.state.stack) (tally x m.state)
+  pub at_end : m.frames ≡ [] → Behind x costs m Z o → o ≡ stack Z (tops x.sight m.state.stack) (tally x m.state)
   at_end e h =
-      all_done (subst (λ hs. StandsAt hs (around x costs m.state) (tops x.bases m.state.stack) (tally x m.state) m.depth Z o) (ap (frames x.bases) e) h)
+      all_done (subst (λ hs. StandsAt hs (around x costs m.state) (tops x.sight m.state.stack) (tally x m.state) m.depth Z o) (ap (frames x.sight) e) h)

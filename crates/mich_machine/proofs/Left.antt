@@ -23,11 +23,11 @@ module _ (x : Beyond) (costs : Costs) (Z : List Kind) (o : Outcome) (m : Machine
 
   pub ends_behind : length m.block ≤ m.at → Behind x costs (record m { depth = m.depth - 1 }) Z o
   ends_behind le =
-      let at_end : StandsAt (fr.rest made.none ∷ frames x.bases m.frames) (around x costs m.state) (tops x.bases m.state.stack) (tally x m.state) m.depth Z o =
-      subst (λ is. StandsAt (fr.rest (codes is) ∷ frames x.bases m.frames) (around x costs m.state) (tops x.bases m.state.stack) (tally x m.state) m.depth Z o) (drop_all m.at m.block le) h in
+      let at_end : StandsAt (fr.rest made.none ∷ frames x.sight m.frames) (around x costs m.state) (tops x.sight m.state.stack) (tally x m.state) m.depth Z o =
+      subst (λ is. StandsAt (fr.rest (codes is) ∷ frames x.sight m.frames) (around x costs m.state) (tops x.sight m.state.stack) (tally x m.state) m.depth Z o) (drop_all m.at m.block le) h in
       rest_ends (m.depth - 1) (let p = is_open in omega (arith, p)) at_end
 
   pub meets_at : (i : Instr) → m.at < length m.block → slice_get m.block m.at ≡ Some i →
-      Meets (code i) x costs m.state (fr.rest (codes (drop (m.at + 1) m.block)) ∷ frames x.bases m.frames) m.depth Z o
+      Meets (code i) x costs m.state (fr.rest (codes (drop (m.at + 1) m.block)) ∷ frames x.sight m.frames) m.depth Z o
   meets_at i lt e =
-      meets_next (subst (λ is. StandsAt (fr.rest is ∷ frames x.bases m.frames) (around x costs m.state) (tops x.bases m.state.stack) (tally x m.state) m.depth Z o) (code_at m.block m.at i lt e) h)
+      meets_next (subst (λ is. StandsAt (fr.rest is ∷ frames x.sight m.frames) (around x costs m.state) (tops x.sight m.state.stack) (tally x m.state) m.depth Z o) (code_at m.block m.at i lt e) h)

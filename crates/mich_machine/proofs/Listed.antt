@@ -13,8 +13,7 @@ use Rattle.mich_term.specs.declared.value.Value.TheVariants as value
 use Rattle.mich_instr.specs.Code as made
 use Rattle.mich_instr.specs.View.{code, codes}
 use Rattle.mich_instr.specs.declared.instr.Instr.{Instr}
-use Rattle.mich_machine.specs.Bases.{Bases}
-use Rattle.mich_machine.specs.Standing.{val_in}
+use Rattle.mich_stack.specs.Views.{Sight, seen}
 use Rattle.mich_machine.specs.View.{tops, frame, frames}
 use Rattle.mich_machine.specs.Ends.{over}
 use Rattle.mich_machine.specs.Runs.{with_below}
@@ -26,9 +25,9 @@ map_reverse g xs x = ap (map g) (reverse-append xs (x ∷ []))
 pub map_reverse_append : {A B : Type 0} (g : A → B) (xs ys : List A) → map g (reverse (xs ++ ys)) ≡ map g (reverse ys) ++ map g (reverse xs)
 map_reverse_append g xs ys = ap (map g) (reverse-append xs ys) ∙ map-append g (reverse ys) (reverse xs)
 
-pub over_is : (bs : Bases) (fs : List Frame) (below : Option Frame) → over bs below (frames bs fs) ≡ frames bs (with_below fs below)
-over_is bs fs None = refl
-over_is bs fs (Some f) = sym (map_reverse (frame bs) fs f)
+pub over_is : (big : Sight) (fs : List Frame) (below : Option Frame) → over big below (frames big fs) ≡ frames big (with_below fs below)
+over_is big fs None = refl
+over_is big fs (Some f) = sym (map_reverse (frame big) fs f)
 
 -- the code from a place on
 pub code_at : (is : List Instr) (k : ℕ) (i : Instr) → k < length is → slice_get is k ≡ Some i →
@@ -37,8 +36,8 @@ code_at is k i lt e =
     let n : k + 1 ≡ suc k = omega arith in
     ap codes (drop-cons is k i lt ∙ ap (λ j. j ∷ drop (suc k) is) (get_or_from_slice_get is k i i e) ∙ ap (λ n. i ∷ drop n is) (sym n))
 
-pub length_tops : (bs : Bases) (vs : List Value) → length (tops bs vs) ≡ length vs
-length_tops bs vs = length-map (reverse vs) (val_in bs) ∙ length-reverse vs
+pub length_tops : (big : Sight) (vs : List Value) → length (tops big vs) ≡ length vs
+length_tops big vs = length-map (reverse vs) (seen big) ∙ length-reverse vs
 
 drop_map : {A B : Type 0} (g : A → B) (n : ℕ) (xs : List A) → drop n (map g xs) ≡ map g (drop n xs)
 drop_map g zero xs = refl
@@ -68,5 +67,5 @@ pub elements_are : (vs : List Val) → elements (vals_of vs) ≡ vs
 elements_are [] = refl
 elements_are (x ∷ vs) = ap (λ ys. x ∷ ys) (elements_are vs)
 
-pub val_list : (bs : Bases) (vs : List Value) → val_in bs (value.List vs) ≡ list (vals_of (map (val_in bs) vs))
-val_list bs vs = search (rules, values.the_lemmas)
+pub val_list : (big : Sight) (vs : List Value) → seen big (value.List vs) ≡ list (vals_of (map (seen big) vs))
+val_list big vs = search (rules, values.the_lemmas)

@@ -17,7 +17,7 @@ use Rattle.mich_machine.specs.declared.state.State.{State}
 
 -- what the evaluation gives on a block of nodes, in a context, on the values of a state of these types
 abbrev pub outcome_of : Beyond → Costs → State → Context → Trees → List Kind → Outcome
-outcome_of x costs m c ts A = eval (seq ts) (at (around x costs m) c) 0 A (tops x.bases m.stack) (tally x m)
+outcome_of x costs m c ts A = eval (seq ts) (at (around x costs m) c) 0 A (tops x.sight m.stack) (tally x m)
 
 -- the code is the typed code of the nodes, from the types A to Z; each kind costs gas; and the evaluation isn't stuck
 pub record Begins (x : Beyond) (costs : Costs) (code : List Instr) (m : State) (c : Context) (ts : Trees) (A Z : List Kind) : Type 0 where

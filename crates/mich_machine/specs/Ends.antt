@@ -11,8 +11,7 @@ use Rattle.rules_evaluation.specs.Operations.{Tally}
 use Rattle.rules_evaluation.specs.Outcome.{Outcome, failed}
 use Rattle.mich_gas.specs.declared.costs.Costs.{Costs}
 use Rattle.mich_base.specs.TypeView.{kind}
-use Rattle.mich_machine.specs.Bases.{Bases}
-use Rattle.mich_machine.specs.Standing.{val_in}
+use Rattle.mich_stack.specs.Views.{Sight, seen}
 use Rattle.mich_instr.specs.Code.{Code}
 use Rattle.mich_instr.specs.View.{codes}
 use Rattle.mich_frames.specs.Around.{Around}
@@ -32,25 +31,25 @@ IsPaid true prices kind weight old new = (cost prices kind weight ≤ old) × (n
 IsPaid false prices kind weight old new = old < cost prices kind weight
 
 -- the failure that one of the code stands for
-abbrev pub failure : Bases → Failed → Failure
-failure bs (x.With ty value) = f.failed_with (kind ty) (val_in bs value)
-failure bs x.OutOfGas = f.out_of_gas
-failure bs x.IntegerLimit = f.integer_limit
-failure bs x.MutezOverflow = f.mutez_overflow
-failure bs x.ShiftLimit = f.shift_limit
-failure bs x.SizeLimit = f.size_limit
-failure bs x.DepthLimit = f.depth_limit
-failure bs x.TooManyOperations = f.too_many_operations
+abbrev pub failure : Sight → Failed → Failure
+failure big (x.With ty value) = f.failed_with (kind ty) (seen big value)
+failure big x.OutOfGas = f.out_of_gas
+failure big x.IntegerLimit = f.integer_limit
+failure big x.MutezOverflow = f.mutez_overflow
+failure big x.ShiftLimit = f.shift_limit
+failure big x.SizeLimit = f.size_limit
+failure big x.DepthLimit = f.depth_limit
+failure big x.TooManyOperations = f.too_many_operations
 
 -- frames below another one, or below none
-abbrev pub over : Bases → Option Frame → List fr.Frame → List fr.Frame
-over bs None fs = fs
-over bs (Some below) fs = frame bs below ∷ fs
+abbrev pub over : Sight → Option Frame → List fr.Frame → List fr.Frame
+over big None fs = fs
+over big (Some below) fs = frame big below ∷ fs
 
-abbrev pub ActsAt : Bases → Act → List fr.Frame → Around → List Val → Tally → ℕ → List Kind → Outcome → Type 0
-ActsAt bs a.On fs u V m d Z o = StandsAt fs u V m d Z o
-ActsAt bs (a.Open below body) fs u V m d Z o = OpensAt (codes body) (over bs below fs) u V m d Z o
-ActsAt bs (a.Failed why) fs u V m d Z o = o ≡ failed (failure bs why)
+abbrev pub ActsAt : Sight → Act → List fr.Frame → Around → List Val → Tally → ℕ → List Kind → Outcome → Type 0
+ActsAt big a.On fs u V m d Z o = StandsAt fs u V m d Z o
+ActsAt big (a.Open below body) fs u V m d Z o = OpensAt (codes body) (over big below fs) u V m d Z o
+ActsAt big (a.Failed why) fs u V m d Z o = o ≡ failed (failure big why)
 
 -- what was paid for leaves less gas
 abbrev pub Spends : Act → ℕ → ℕ → Type 0
@@ -65,15 +64,15 @@ Turns _ old new = new < old
 
 -- this instruction comes first, and these frames are below it
 abbrev pub Meets : Code → Beyond → Costs → State → List fr.Frame → ℕ → List Kind → Outcome → Type 0
-Meets i x costs m fs d Z o = MeetsAt i fs (around x costs m) (tops x.bases m.stack) (tally x m) d Z o
+Meets i x costs m fs d Z o = MeetsAt i fs (around x costs m) (tops x.sight m.stack) (tally x m) d Z o
 
 -- this frame comes first
 abbrev pub Stands : Frame → Beyond → Costs → State → List fr.Frame → ℕ → List Kind → Outcome → Type 0
-Stands f x costs m fs d Z o = StandsAt (frame x.bases f ∷ fs) (around x costs m) (tops x.bases m.stack) (tally x m) d Z o
+Stands f x costs m fs d Z o = StandsAt (frame x.sight f ∷ fs) (around x costs m) (tops x.sight m.stack) (tally x m) d Z o
 
 -- what came first has acted
 abbrev pub Acts : Act → Beyond → Costs → State → List fr.Frame → ℕ → List Kind → Outcome → Type 0
-Acts a x costs m fs d Z o = ActsAt x.bases a fs (around x costs m) (tops x.bases m.stack) (tally x m) d Z o
+Acts a x costs m fs d Z o = ActsAt x.sight a fs (around x costs m) (tops x.sight m.stack) (tally x m) d Z o
 
 -- a state is met, in which this instruction comes first
 abbrev pub Comes : Code → Costs → State → Type 0

@@ -4,18 +4,19 @@ use Rattle.rules_values.specs.Val.{Val, both}
 use Rattle.mich_term.specs.View.{datum}
 use Rattle.mich_term.specs.declared.datum.Datum.{Datum}
 use Rattle.mich_term.specs.declared.value.Value.{Value}
-use Rattle.mich_machine.specs.Bases.{Bases}
-use Rattle.mich_machine.specs.Standing.{val_in}
+use Rattle.mich_stack.specs.Views.{Sight, seen}
 use Rattle.mich_machine.specs.declared.items.Items.{Items}
 use Rattle.mich_machine.specs.declared.items.Items.TheVariants as i
 
-abbrev pub entry_pair : Bases → Datum × Value → Val
-entry_pair bs e = both (datum e.0) (val_in bs e.1)
+abbrev pub entry_pair : Sight → Datum × Value → Val
+entry_pair big e = both (datum e.0) (seen big e.1)
 
-abbrev pub items_left : Bases → Items → List Val
-items_left bs (i.Values vs) = map (val_in bs) (reverse vs)
-items_left bs (i.Elements ds) = map datum (reverse ds)
-items_left bs (i.Entries es) = map (entry_pair bs) (reverse es)
+abbrev pub entry_by : Sight → Datum × Value → Datum × Val
+entry_by big e = (e.0, seen big e.1)
+
+abbrev pub items_left : Sight → Items → List Val
+items_left big (i.Values vs) = map (seen big) (reverse vs)
+items_left big (i.Entries es) = map (entry_pair big) (reverse es)
 
 abbrev pub IsNotEmpty : List Val → Type 0
 IsNotEmpty [] = ⊥

@@ -1,5 +1,3 @@
-pub mod Bases
-pub mod Standing
 pub mod Items
 pub mod Parts
 pub mod View

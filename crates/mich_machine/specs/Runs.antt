@@ -20,6 +20,7 @@ use Rattle.mich_machine.specs.declared.machine.Ended.{Ended}
 use Rattle.mich_machine.specs.declared.machine.Ended.TheVariants as e
 use Rattle.mich_machine.specs.View.{Beyond, tops, frames, around, tally}
 use Rattle.mich_machine.specs.Ends.{failure, ActsAt}
+use Rattle.mich_term.specs.ValueView.{big_step}
 
 -- what is left of the block that runs
 abbrev pub left_of : Machine → Codes
@@ -28,23 +29,23 @@ left_of m = codes (drop m.at m.block)
 -- the run is in its block
 abbrev pub InBlock : Beyond → Costs → Machine → List Kind → Outcome → Type 0
 InBlock x costs m Z o =
-    StandsAt (fr.rest (left_of m) ∷ frames x.bases m.frames) (around x costs m.state) (tops x.bases m.state.stack) (tally x m.state)
+    StandsAt (fr.rest (left_of m) ∷ frames x.sight m.frames) (around x costs m.state) (tops x.sight m.state.stack) (tally x m.state)
     m.depth Z o
 
 -- the run is behind its block
 abbrev pub Behind : Beyond → Costs → Machine → List Kind → Outcome → Type 0
 Behind x costs m Z o =
-    StandsAt (frames x.bases m.frames) (around x costs m.state) (tops x.bases m.state.stack) (tally x m.state) m.depth Z o
+    StandsAt (frames x.sight m.frames) (around x costs m.state) (tops x.sight m.state.stack) (tally x m.state) m.depth Z o
 
 -- what has acted is in front of the frames
 abbrev pub HasActed : Act → Beyond → Costs → Machine → List Kind → Outcome → Type 0
 HasActed act x costs m Z o =
-    ActsAt x.bases act (frames x.bases m.frames) (around x costs m.state) (tops x.bases m.state.stack) (tally x m.state) m.depth Z o
+    ActsAt x.sight act (frames x.sight m.frames) (around x costs m.state) (tops x.sight m.state.stack) (tally x m.state) m.depth Z o
 
 -- what has acted is in front of the rest of the block
 abbrev pub HasActedIn : Act → Beyond → Costs → Machine → List Kind → Outcome → Type 0
 HasActedIn act x costs m Z o =
-    ActsAt x.bases act (fr.rest (left_of m) ∷ frames x.bases m.frames) (around x costs m.state) (tops x.bases m.state.stack)
+    ActsAt x.sight act (fr.rest (left_of m) ∷ frames x.sight m.frames) (around x costs m.state) (tops x.sight m.state.stack)
     (tally x m.state) m.depth Z o
 
 -- frames with one more, or none
@@ -71,12 +72,12 @@ with_rest m = m.frames ++ f.Rest m.block m.at ∷ []
 abbrev pub IsStep : Step → Beyond → Costs → Machine → List Kind → Outcome → Type 0
 IsStep s.Free x costs m Z o = InBlock x costs m Z o
 IsStep s.Paid x costs m Z o = InBlock x costs m Z o
-IsStep s.Done x costs m Z o = o ≡ stack Z (tops x.bases m.state.stack) (tally x m.state)
-IsStep (s.Failed why) x costs m Z o = o ≡ failed (failure x.bases why)
+IsStep s.Done x costs m Z o = o ≡ stack Z (tops x.sight m.state.stack) (tally x m.state)
+IsStep (s.Failed why) x costs m Z o = o ≡ failed (failure x.sight why)
 
 -- how much there is that costs nothing
 abbrev pub size_of : Machine → ℕ
-size_of m = frames_size (fr.rest (left_of m) ∷ frames [] m.frames)
+size_of m = frames_size (fr.rest (left_of m) ∷ frames big_step m.frames)
 
 -- a step costs gas, or leaves less that costs nothing
 abbrev pub IsSpent : Step → Machine → Machine → Type 0
@@ -87,7 +88,7 @@ IsSpent (s.Failed why) old new = Unit {0}
 
 -- what comes of frames that are taken off, of a size
 abbrev pub HasLeft : Step → Machine → Machine → Type 0
-HasLeft s.Free old new = (new.state.meter ≡ old.state.meter) × (size_of new ≤ frames_size (frames [] old.frames))
+HasLeft s.Free old new = (new.state.meter ≡ old.state.meter) × (size_of new ≤ frames_size (frames big_step old.frames))
 HasLeft s.Paid old new = new.state.meter < old.state.meter
 HasLeft s.Done old new = Unit {0}
 HasLeft (s.Failed why) old new = Unit {0}
@@ -112,8 +113,8 @@ SomeEnd costs m = (x : Beyond) × (Z : List Kind) × (o : Outcome) × Behind x c
 
 -- how the whole ends
 abbrev pub IsEnd : Ended → Beyond → List Kind → Outcome → Type 0
-IsEnd (e.Stack m) x Z o = o ≡ stack Z (tops x.bases m.stack) (tally x m)
-IsEnd (e.Failed why) x Z o = o ≡ failed (failure x.bases why)
+IsEnd (e.Stack m) x Z o = o ≡ stack Z (tops x.sight m.stack) (tally x m)
+IsEnd (e.Failed why) x Z o = o ≡ failed (failure x.sight why)
 
 -- the frame isn't the rest of a block
 abbrev pub IsNoBlock : Frame → Type 0

@@ -29,3 +29,12 @@ pub(crate) fn act_failwith(
     let ty = copy_type(alloc, ty)?;
     Ok(Act::Failed(Failed::With(ty, value)))
 }
+
+// No run comes to NEVER.
+pub(crate) fn act_never(m: &mut State, costs: &Costs) -> Result<Act, Memory>
+    requires { Comes made.never costs.now m.old }
+    ensures acts { Carries made.never costs.now m.old m.new result }
+    ensures less { IfOk result (λ a. Spends a m.old.meter m.new.meter) }
+{
+    unreachable!()
+}

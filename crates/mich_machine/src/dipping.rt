@@ -1,7 +1,7 @@
 // DIP.
 ghost use Rattle.std.specs.Prelude.{◌≡◌, IfOk, take, drop, ◌≤◌, length};
 ghost use Rattle.rules_base.specs.Tree.{Trees};
-ghost use Rattle.mich_machine.specs.Bases.{Bases};
+ghost use Rattle.mich_stack.specs.Views.{Sight};
 ghost use Rattle.mich_instr.specs.Code as made;
 ghost use Rattle.mich_instr.specs.View.{codes};
 ghost use Rattle.mich_machine.specs.View.{tops};
@@ -21,7 +21,7 @@ use std::mem;
 // Takes so many values from the top.
 fn take_above(alloc: Global, stack: &mut Rows<Value>, count: usize) -> Result<Rows<Value>, Memory>
     requires { count ≤ length stack.old }
-    ensures { IfOk result (λ above. (bs : Bases) → (tops bs above ≡ take count (tops bs stack.old)) × (tops bs stack.new ≡ drop count (tops bs stack.old))) }
+    ensures { IfOk result (λ above. (big : Sight) → (tops big above ≡ take count (tops big stack.old)) × (tops big stack.new ≡ drop count (tops big stack.old))) }
 {
     let mut values = mem::replace(stack, Rows::new(alloc)).into_vec();
     let place = values.len() - count;

@@ -54,7 +54,7 @@ pub(crate) fn act_iter(
         return Ok(Act::Failed(Failed::OutOfGas));
     }
     let over = pop(&mut m.stack);
-    let items = items_of(over)?;
+    let items = items_of(alloc, over)?;
     let body = body.share()?;
     let act = next_each(alloc, m, costs, body, items)?;
     Ok(act)

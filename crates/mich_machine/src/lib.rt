@@ -6,6 +6,7 @@ mod branches;
 mod calls;
 mod dipping;
 mod frame;
+mod giving;
 mod items;
 mod iterating;
 mod loops;

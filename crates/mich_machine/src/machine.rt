@@ -9,13 +9,14 @@ ghost use Rattle.mich_machine.specs.Ends.{Comes, Carries, Waits, Resumes, Spends
 ghost use Rattle.mich_machine.specs.Runs.{InBlock, Behind, HasActedIn, IsStep, IsBegun, IsSpent, IsPaidStep, IsSettled, HasLeft, with_below, with_rest, SomeRun, SomeEnd, IsEnd, IsNoBlock, IsNoSequence};
 
 use crate::act::{Act, Failed};
-use crate::branches::{act_if, act_if_left, act_if_none};
-use crate::calls::act_failwith;
+use crate::branches::{act_if, act_if_cons, act_if_left, act_if_none};
+use crate::calls::{act_failwith, act_never};
 use crate::dipping::act_dip;
 use crate::frame::Frame;
+use crate::giving::act_lambda;
 use crate::iterating::{act_iter, next_each};
 use crate::loops::{act_loop, act_loop_left, next_left_turn, next_turn};
-use crate::stack::put_all;
+use crate::stack::{put_all, put_below};
 use crate::state::State;
 use mich_base::{Memory, Rows};
 use mich_gas::Costs;
@@ -64,11 +65,18 @@ fn perform(alloc: Global, m: &mut State, costs: &Costs, instr: &Instr) -> Result
         Instr::If(first, second) => Ok(act_if(m, costs, first, second)?),
         Instr::IfNone(first, second) => Ok(act_if_none(m, costs, first, second)?),
         Instr::IfLeft(first, second) => Ok(act_if_left(m, costs, first, second)?),
+        Instr::IfCons(first, second) => Ok(act_if_cons(m, costs, first, second)?),
         Instr::Loop(body) => Ok(act_loop(m, costs, body)?),
         Instr::LoopLeft(body) => Ok(act_loop_left(m, costs, body)?),
         Instr::Iter(body) => Ok(act_iter(alloc, m, costs, body)?),
         Instr::Dip { count, body, .. } => Ok(act_dip(alloc, m, costs, *count, body)?),
         Instr::Failwith(ty) => Ok(act_failwith(alloc, m, costs, ty)?),
+        Instr::Lambda {
+            recursive,
+            body,
+            ..
+        } => Ok(act_lambda(m, costs, *recursive, body)?),
+        Instr::Never => Ok(act_never(m, costs)?),
         Instr::Seq(_) => unreachable!(),
         _ => Err(Memory),
     }
@@ -89,8 +97,11 @@ fn unwind(alloc: Global, m: &mut State, costs: &Costs, frame: Frame) -> Result<A
             put_all(&mut m.stack, above)?;
             Ok(Act::On)
         }
+        Frame::Call(below) => {
+            put_below(&mut m.stack, below)?;
+            Ok(Act::On)
+        }
         Frame::Rest(_, _) => unreachable!(),
-        _ => Err(Memory),
     }
 }
 

@@ -6,13 +6,14 @@ use Rattle.std.specs.Io.KnownBytes.{Consumes, IsAtEnd}
 use Rattle.rules_text.specs.Fault.{file_limit}
 use Rattle.rules_replay.specs.Answers.{Answer, status_of, usage_answer}
 use Rattle.rules_replay.specs.Codec.{encode_node, decode_node}
-use Rattle.rules_replay.specs.Commands.{Verb, Replaying, Checking, Encoding, Decoding, Command, OnFile, NoCommand, IsVerbAnswer, IsTold, IsAnswer}
+use Rattle.rules_replay.specs.Packs.{pack_node}
+use Rattle.rules_replay.specs.Commands.{Verb, Replaying, Checking, Encoding, Decoding, Packing, Command, OnFile, NoCommand, IsVerbAnswer, IsTold, IsAnswer}
 use Rattle.rules_replay.specs.Replay.{Ending, State, RefusedAt}
 use Rattle.mich_text.proofs.Limited.{split}
 use Rattle.mich_base.specs.declared.memory.Memory.{Memory}
 use Rattle.mich_replay.specs.Fronts.{IsRest, IsReadOf}
-use Rattle.mich_replay.specs.View.{answer_seen}
-use Rattle.mich_replay.specs.declared.answer.Answer.{Answer as Reply}
+use Rattle.mich_answers.specs.View.{answer_seen}
+use Rattle.mich_answers.specs.declared.answer.Answer.{Answer as Reply}
 use Rattle.mich_replay.proofs.Fronts.{replay_on, codec_on, check_on, replay_refused, codec_refused, check_refused}
 
 -- ---- what was read
@@ -34,6 +35,7 @@ verb_on Replaying file more answer past (done, r, e) = (done, replay_on file mor
 verb_on Checking file more answer past p = check_on file more past answer p
 verb_on Encoding file more answer past p = codec_on file more past encode_node answer p
 verb_on Decoding file more answer past p = codec_on file more past decode_node answer p
+verb_on Packing file more answer past p = codec_on file more past pack_node answer p
 
 pub verb_cut : (verb : Verb) (file more : List ℕ) (answer : Answer) → IsRest file more → IsVerbAnswer verb file answer → IsVerbAnswer verb (file ++ more) answer
 verb_cut verb file more answer rest p = elim (split (length file) file_limit) [
@@ -49,6 +51,7 @@ not_done Replaying file answer past (done, r, e) zero = by done.ending refl wher
 not_done Checking file answer past p zero = omega (arith, zero, check_refused file answer past p)
 not_done Encoding file answer past p zero = omega (arith, zero, codec_refused encode_node file answer past p)
 not_done Decoding file answer past p zero = omega (arith, zero, codec_refused decode_node file answer past p)
+not_done Packing file answer past p zero = omega (arith, zero, codec_refused pack_node file answer past p)
 
 pub verb_done : (verb : Verb) (file : List ℕ) (answer : Answer) → IsVerbAnswer verb file answer → answer.status ≡ 0 → length file ≤ file_limit
 verb_done verb file answer p zero = elim (split (length file) file_limit) [

@@ -1,12 +1,9 @@
-pub mod Wholes
 pub mod Conserved
 pub mod Entries
 pub mod Failures
-pub mod Listing
 pub mod Once
 pub mod Promise
 pub mod Reaching
-pub mod Shorter
 pub mod Sums
 pub mod Texts
 pub mod Truth

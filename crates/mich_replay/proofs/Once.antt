@@ -10,7 +10,8 @@ use Rattle.rules_replay.specs.Replay.{Replay, Closes, FileFault, TextFault, Refu
 use Rattle.rules_replay.specs.Answers.{Answer, replay_answer}
 use Rattle.rules_replay.specs.Codec.{of_text, IsCodecAnswer, of_listing, encode_node, decode_node}
 use Rattle.rules_replay.specs.Scripts.{check_statements, IsCheckAnswer}
-use Rattle.rules_replay.specs.Commands.{Command, OnFile, NoCommand, Verb, Replaying, Checking, Encoding, Decoding, IsVerbAnswer, IsAnswer}
+use Rattle.rules_replay.specs.Packs.{pack_node}
+use Rattle.rules_replay.specs.Commands.{Command, OnFile, NoCommand, Verb, Replaying, Checking, Encoding, Decoding, Packing, IsVerbAnswer, IsAnswer}
 
 -- ---- what stands at a place
 
@@ -127,6 +128,7 @@ verbs-one Replaying file a b m n =
 verbs-one Checking file a b m n = check-one file a b m n
 verbs-one Encoding file a b m n = codec-one encode_node file a b m n
 verbs-one Decoding file a b m n = codec-one decode_node file a b m n
+verbs-one Packing file a b m n = codec-one pack_node file a b m n
 
 some_is : (x y : List ℕ) → Some x ≡ Some y → x ≡ y
 some_is x y e = cc

@@ -12,14 +12,9 @@ use Rattle.rules_replay.specs.Answers.{Answer}
 use Rattle.rules_replay.specs.Commands.{Replaying, IsVerbAnswer}
 use Rattle.mich_base.specs.declared.memory.Memory.{Memory}
 use Rattle.mich_replay.specs.declared.outcome.FileFault.{FileFault as CodeFault}
-use Rattle.mich_replay.specs.declared.answer.Answer.{Answer as Reply}
-use Rattle.mich_replay.specs.View.{file_fault_seen, answer_seen}
+use Rattle.mich_answers.proofs.Stated.{statements-more}
+use Rattle.mich_replay.specs.View.{file_fault_seen}
 use Rattle.mich_replay.specs.Steps.{IsTaken, Reached, closing}
-
--- one more statement
-pub statements-more : (file : List ℕ) (p q r : ℕ) (ss : List Placed) (s : Placed) → AreStatements file p ss q → IsNodeAt file q s.node s.place r → AreStatements file p (ss ++ s ∷ []) r
-statements-more file p q r [] s same node = (r, subst (λ (x : ℕ). IsNodeAt file x s.node s.place r) (sym same) node, refl)
-statements-more file p q r (t ∷ ts) s stand node = (stand.0, stand.1, statements-more file stand.0 q r ts s stand.2 node)
 
 run-more : (r : Run) (ss : List Placed) (s : Placed) → run_all r (ss ++ s ∷ []) ≡ run_one (run_all r ss) s
 run-more r [] s = refl
@@ -89,8 +84,3 @@ module _ (file : List ℕ) (place : ℕ) (world : Option World) (lines : List (L
 -- nothing is reached yet
 pub reached-start : (file : List ℕ) → Reached file 0 None []
 reached-start file = record { statements = []; receipts = []; stand = refl; run = refl; told = refl }
-
--- what holds of an answer holds of its reply
-pub ok_answer : (r : Result Reply Memory) (x : Answer) (Q : Answer → Type 0) → IfOk r (λ a. answer_seen a ≡ x) → Q x → IfOk r (λ a. Q (answer_seen a))
-ok_answer (Ok a) x Q e q = subst Q (sym e) q
-ok_answer (Err e) x Q p q = tt

@@ -7,11 +7,9 @@ pub use Rattle.rules_replay.specs.Codec
 pub use Rattle.rules_replay.specs.Places
 pub use Rattle.rules_replay.specs.Commands
 pub use Rattle.rules_replay.specs.Promise
-pub use Rattle.rules_replay.specs.Nodes
 pub use Rattle.rules_replay.specs.Scripts
+pub use Rattle.rules_replay.specs.Packs
 pub mod Laws
-pub mod Listed
 pub mod Steps
 pub mod View
 pub mod Fronts
-pub mod Checked

@@ -1,14 +1,9 @@
 -- What the code's values stand for.
-use Rattle.std.specs.Prelude.{◌≡◌, ◌⊎◌, ℕ, Option}
+use Rattle.std.specs.Prelude.{ℕ}
 use Rattle.rules_replay.specs.Receipts as receipts
 use Rattle.rules_replay.specs.World as world
 use Rattle.rules_replay.specs.Replay as replay
 use Rattle.rules_replay.specs.Commands as commands
-use Rattle.rules_base.specs.Tree.{Tree}
-use Rattle.rules_replay.specs.Answers.{Answer}
-use Rattle.rules_replay.specs.Codec.{encode_node, decode_node}
-use Rattle.mich_replay.specs.declared.codec.Codec.{Codec}
-use Rattle.mich_replay.specs.declared.codec.Codec.TheVariants as codecs
 use Rattle.mich_replay.specs.declared.command.Verb.{Verb}
 use Rattle.mich_replay.specs.declared.command.Verb.TheVariants as verbs
 use Rattle.mich_replay.specs.declared.command.Command.{Command}
@@ -23,13 +18,13 @@ use Rattle.mich_replay.specs.declared.outcome.Grant.{Grant}
 use Rattle.mich_replay.specs.declared.outcome.Grant.TheVariants as grants
 use Rattle.mich_replay.specs.declared.outcome.FileFault.{FileFault}
 use Rattle.mich_replay.specs.declared.outcome.FileFault.TheVariants as files
-use Rattle.mich_replay.specs.declared.answer.Answer.{Answer as Reply}
 
 abbrev pub verb_seen : Verb → commands.Verb
 verb_seen verbs.Replay = commands.Replaying
 verb_seen verbs.Check = commands.Checking
 verb_seen verbs.Encode = commands.Encoding
 verb_seen verbs.Decode = commands.Decoding
+verb_seen verbs.Pack = commands.Packing
 
 abbrev pub command_seen : Command → commands.Command
 command_seen (words.OnFile verb path) = commands.OnFile (verb_seen verb) path.now
@@ -71,14 +66,3 @@ file_fault_seen files.BadStatement = replay.BadStatement
 file_fault_seen files.BadOrder = replay.BadOrder
 file_fault_seen files.RepeatedAccount = replay.RepeatedAccount
 file_fault_seen files.SupplyLimit = replay.SupplyLimit
-
-abbrev pub answer_seen : Reply → Answer
-answer_seen a = record { status = a.status; lines = a.lines }
-
--- what a codec answers to a node
-abbrev pub codec_seen : Codec → Tree → Option Answer
-codec_seen codecs.Encode = encode_node
-codec_seen codecs.Decode = decode_node
-
-abbrev pub IsDoneOrRefused : ℕ → Type 0
-IsDoneOrRefused status = (status ≡ 0) ⊎ (status ≡ 2)

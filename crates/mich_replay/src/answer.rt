@@ -4,52 +4,19 @@ ghost use Rattle.std.specs.Io.KnownBytes.{IsAtEnd};
 ghost use Rattle.rules_io.specs.Causes.{HasCause};
 ghost use Rattle.rules_text.specs.Fault.{file_limit};
 ghost use Rattle.mich_replay.specs.Fronts.{IsRest, read_limit};
-ghost use Rattle.rules_replay.specs.Answers.{done_with, refused_with, misplaced, usage_answer};
+ghost use Rattle.rules_replay.specs.Answers.{usage_answer};
 ghost use Rattle.rules_replay.specs.Commands.{IsVerbAnswer, IsTold, IsAnswer, command_of, file_of, IsOwn};
-ghost use Rattle.mich_replay.specs.View.{verb_seen, answer_seen, IsDoneOrRefused};
+ghost use Rattle.mich_replay.specs.View.{verb_seen};
+ghost use Rattle.mich_answers.specs.View.{answer_seen, IsDoneOrRefused};
 
-use crate::checking::answer_check;
-use crate::codec::{Codec, answer_codec};
 use crate::command::{Command, Verb, read_words};
-use crate::lines::{as_text, file_fault_name, refusal_line, usage_line};
-use crate::outcome::FileFault;
+use crate::lines::usage_line;
 use crate::reading::read_file;
 use crate::replaying::replay;
-use mich_base::{Memory, Text, Texts};
+use mich_answers::{Answer, NodeCommand, answer_check, answer_node, as_text};
+use mich_base::{Memory, Texts};
 use mich_io::{Files, FilesFault};
 use std::alloc::Global;
-
-/// A status, and the lines that are written.
-#[derive(Drop)]
-pub struct Answer {
-    pub status: u8,
-    pub lines: Texts,
-}
-
-/// The answer of one line where a command is done.
-pub(crate) fn done(alloc: Global, line: Text) -> Result<Answer, Memory>
-    ensures { IfOk result (λ a. answer_seen a ≡ done_with line) }
-{
-    let mut lines = Texts::new(alloc);
-    lines.push(line)?;
-    Ok(Answer { status: 0, lines })
-}
-
-/// The answer of one line where a command refuses its file.
-pub(crate) fn refused(alloc: Global, name: &str, place: u64) -> Result<Answer, Memory>
-    ensures { IfOk result (λ a. answer_seen a ≡ refused_with name.now place) }
-{
-    let mut lines = Texts::new(alloc);
-    lines.push(as_text(refusal_line(alloc, name, place)?))?;
-    Ok(Answer { status: 2, lines })
-}
-
-/// The answer where no statement of the command's form stands at a place.
-pub(crate) fn misplaced(alloc: Global, place: u64) -> Result<Answer, Memory>
-    ensures { IfOk result (λ a. answer_seen a ≡ misplaced place) }
-{
-    refused(alloc, file_fault_name(FileFault::BadStatement), place)
-}
 
 fn usage(alloc: Global) -> Result<Answer, Memory>
     ensures { IfOk result (λ a. answer_seen a ≡ usage_answer) }
@@ -68,8 +35,9 @@ fn answer_file(alloc: Global, verb: Verb, file: &[u8]) -> Result<Answer, Memory>
     match verb {
         Verb::Replay => replay(alloc, file),
         Verb::Check => answer_check(alloc, file),
-        Verb::Encode => answer_codec(alloc, Codec::Encode, file),
-        Verb::Decode => answer_codec(alloc, Codec::Decode, file),
+        Verb::Encode => answer_node(alloc, NodeCommand::Encode, file),
+        Verb::Decode => answer_node(alloc, NodeCommand::Decode, file),
+        Verb::Pack => answer_node(alloc, NodeCommand::Pack, file),
     }
 }
 

@@ -14,6 +14,7 @@ pub enum Verb {
     Check,
     Encode,
     Decode,
+    Pack,
 }
 
 /// A command with its file, or none.
@@ -44,6 +45,8 @@ fn verb_of(word: &[u8]) -> Option<Verb>
         Some(Verb::Encode)
     } else if word == b"decode".as_slice() {
         Some(Verb::Decode)
+    } else if word == b"pack".as_slice() {
+        Some(Verb::Pack)
     } else {
         None
     }

@@ -2,8 +2,6 @@
 #![tactic(auto)]
 
 mod answer;
-mod checking;
-mod codec;
 mod command;
 mod failing;
 mod honest;
@@ -12,7 +10,6 @@ mod lines;
 mod outcome;
 mod reading;
 mod replaying;
-mod statements;
 mod steps;
 mod top;
 mod world;

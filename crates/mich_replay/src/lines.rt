@@ -5,20 +5,15 @@ ghost use Rattle.hex.specs.Hex.{encode_lower};
 ghost use Rattle.rules_forms.specs.Spelling.{implicit_place};
 ghost use Rattle.rules_replay.specs.Receipts as receipts;
 ghost use Rattle.rules_replay.specs.World.{transfer_receipt, receipt_by};
-ghost use Rattle.rules_replay.specs.Lines.{transfer_text, failure_text, group_fault_name, text_kind_name, file_fault_name, group_line, account_line, fees_line, supply_line, refusal_line, usage_line};
-ghost use Rattle.rules_replay.specs.Codec.{decode_kind_name, bytes_line, node_line};
-ghost use Rattle.mich_base.specs.View.{tree};
+ghost use Rattle.rules_replay.specs.Lines.{transfer_text, failure_text, group_fault_name, file_fault_name, group_line, account_line, fees_line, supply_line, usage_line};
 ghost use Rattle.mich_scenario.specs.View.{action_said, content_said};
 ghost use Rattle.mich_forms.specs.Spelled.{place_bytes};
 ghost use Rattle.mich_replay.specs.View.{group_fault_seen, failure_seen, verdict_seen, file_fault_seen};
 
 use crate::outcome::{Failure, FileFault, GroupFault, Verdict};
-use mich_base::{Memory, Node, Text};
+use mich_answers::text_kind_name;
 use mich_forms::{KeyHash, Place};
 use mich_scenario::{Action, Group};
-use mich_text::print;
-use rules_binary::DecodeKind;
-use rules_text::TextKind;
 use std::alloc::{AllocError, Global};
 
 // The bytes of a key hash in hexadecimal digits.
@@ -168,29 +163,6 @@ pub(crate) fn supply_line(alloc: Global, mutez: u64) -> Result<String, AllocErro
     format!(in alloc; "Supply {mutez}\n")
 }
 
-/// The line of a refusal with a name, at a place or location.
-pub(crate) fn refusal_line(alloc: Global, name: &str, place: u64) -> Result<String, AllocError>
-    ensures { IfOk result (λ s. string_bytes s ≡ refusal_line name.now place) }
-{
-    format!(in alloc; "Refused {name} {place}\n")
-}
-
-/// The name of a fault of a text.
-pub(crate) fn text_kind_name(kind: TextKind) -> &'static str
-    ensures { result.now ≡ text_kind_name kind }
-{
-    match kind {
-        TextKind::BadChar => "BadChar",
-        TextKind::BadString => "BadString",
-        TextKind::BadBytes => "BadBytes",
-        TextKind::BadNumber => "BadNumber",
-        TextKind::Unclosed => "Unclosed",
-        TextKind::Unexpected => "Unexpected",
-        TextKind::TooDeep => "TooDeep",
-        TextKind::TooLong => "TooLong",
-    }
-}
-
 /// The name of why a file is refused.
 pub(crate) fn file_fault_name(fault: FileFault) -> &'static str
     ensures { result.now ≡ file_fault_name (file_fault_seen fault) }
@@ -202,48 +174,6 @@ pub(crate) fn file_fault_name(fault: FileFault) -> &'static str
         FileFault::RepeatedAccount => "RepeatedAccount",
         FileFault::SupplyLimit => "SupplyLimit",
     }
-}
-
-/// The name of a fault of binary forms.
-pub(crate) fn decode_kind_name(kind: DecodeKind) -> &'static str
-    ensures { result.now ≡ decode_kind_name kind }
-{
-    match kind {
-        DecodeKind::BadTag => "BadTag",
-        DecodeKind::BadPrim => "BadPrim",
-        DecodeKind::BadLength => "BadLength",
-        DecodeKind::BadInteger => "BadInteger",
-        DecodeKind::BadString => "BadString",
-        DecodeKind::Trailing => "Trailing",
-        DecodeKind::TooDeep => "TooDeep",
-        DecodeKind::TooWide => "TooWide",
-    }
-}
-
-/// The line of a literal of bytes.
-pub(crate) fn bytes_line(alloc: Global, bytes: &[u8]) -> Result<String, AllocError>
-    ensures { IfOk result (λ s. string_bytes s ≡ bytes_line bytes.now) }
-{
-    let digits = hex::encode(alloc, bytes)?;
-    let digits = digits.as_str();
-    format!(in alloc; "0x{digits}\n")
-}
-
-/// The line of a node.
-pub(crate) fn node_line(alloc: Global, node: &Node) -> Result<Text, Memory>
-    ensures { IfOk result (λ line. line ≡ node_line (tree node.now)) }
-{
-    let text = print(alloc, node)?;
-    let mut line = text.as_slice().to_vec(alloc)?;
-    line.push(b'\n')?;
-    Ok(Text::from_vec(line))
-}
-
-/// A line as its bytes.
-pub(crate) fn as_text(line: String) -> Text
-    ensures { result ≡ string_bytes line }
-{
-    Text::from_vec(line.into_bytes())
 }
 
 /// The line for words that are no command.

@@ -3,14 +3,14 @@ ghost use Rattle.std.specs.Prelude.{◌≡◌, ◌<◌, ◌≤◌, ◌^◌, ℕ,
 ghost use Rattle.rules_replay.specs.Replay.{Ending, RefusedAt, ending_of};
 ghost use Rattle.mich_replay.specs.Steps.{Reached, closing};
 ghost use Rattle.rules_replay.specs.Commands.{Replaying, IsVerbAnswer};
-ghost use Rattle.mich_replay.specs.View.{answer_seen, file_fault_seen};
+ghost use Rattle.mich_replay.specs.View.{file_fault_seen};
+ghost use Rattle.mich_answers.specs.View.{answer_seen};
 
-use crate::answer::Answer;
-use crate::lines::{as_text, file_fault_name, refusal_line};
+use crate::lines::file_fault_name;
 use crate::outcome::FileFault;
-use crate::statements::{Next, read_next};
 use crate::steps::take;
 use crate::world::World;
+use mich_answers::{Answer, Next, as_text, read_next, refusal_line};
 use mich_base::{Memory, Texts};
 use std::alloc::Global;
 

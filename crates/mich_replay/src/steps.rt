@@ -9,9 +9,10 @@ ghost use Rattle.mich_scenario.specs.View.{said, content_said};
 ghost use Rattle.mich_replay.specs.View.{file_fault_seen};
 ghost use Rattle.mich_replay.specs.Steps.{IsGranting, IsTaken};
 
-use crate::lines::{as_text, group_line};
+use crate::lines::group_line;
 use crate::outcome::{FileFault, Grant};
 use crate::world::World;
+use mich_answers::as_text;
 use mich_base::{Memory, Node, Texts};
 use mich_forms::KeyHash;
 use mich_scenario::{FormError, Group, Statement, read_form};

@@ -8,8 +8,9 @@ ghost use Rattle.mich_replay.specs.View.{group_fault_seen, failure_seen, verdict
 ghost use Rattle.mich_replay.specs.declared.outcome.Grant.TheVariants as grants;
 
 use crate::failing::failure_of;
-use crate::lines::{account_line, as_text, fees_line, supply_line};
+use crate::lines::{account_line, fees_line, supply_line};
 use crate::outcome::{Grant, GroupFault, Verdict};
+use mich_answers::as_text;
 use mich_base::{Memory, Texts};
 use mich_forms::{ChainId, KeyHash, Place};
 use mich_scenario::{Action, Content, Group};

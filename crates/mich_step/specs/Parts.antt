@@ -1,6 +1,6 @@
 -- Parts of pairs and combs.
-use Rattle.std.specs.Prelude.{◌≡◌, List, ◌++◌, Option, Some, None, flat_map}
-use Rattle.rules_values.specs.Val.{Val, both}
+use Rattle.std.specs.Prelude.{◌≡◌, List, ◌∷◌, ◌++◌, Option, Some, None, flat_map}
+use Rattle.rules_values.specs.Val.{Val, number, both, ticket}
 use Rattle.rules_values.specs.Tickets.{Held, tickets}
 use Rattle.rules_steps.specs.Stack.{Part, Replaced}
 
@@ -17,3 +17,20 @@ IsPart None found ts = ⊥
 abbrev pub IsReplaced : Option Replaced → Val → Val → Type 0
 IsReplaced (Some r) comb old = (r.comb ≡ comb) × (r.old ≡ old)
 IsReplaced None comb old = ⊥
+
+abbrev pub IsNumber : Val → Type 0
+IsNumber (number n) = Unit {0}
+IsNumber _ = ⊥
+
+abbrev pub IsTicket : Val → Type 0
+IsTicket (ticket issuer k content n) = Unit {0}
+IsTicket _ = ⊥
+
+-- two numbers stand in a pair on top, or two tickets
+abbrev pub IsAmountsOnTop : List Val → Type 0
+IsAmountsOnTop (both (number a) (number b) ∷ V) = Unit {0}
+IsAmountsOnTop _ = ⊥
+
+abbrev pub IsTicketsOnTop : List Val → Type 0
+IsTicketsOnTop (both (ticket issuer k content n) (ticket issuer' k' content' n') ∷ V) = Unit {0}
+IsTicketsOnTop _ = ⊥

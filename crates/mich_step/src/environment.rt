@@ -33,7 +33,7 @@ pub struct Env {
 }
 
 // The bytes of a place as a value.
-fn place_value(alloc: Global, place: &Place) -> Result<Value, Memory>
+pub(crate) fn place_value(alloc: Global, place: &Place) -> Result<Value, Memory>
     ensures { IfOk result (λ v. (big : Sight) → seen big v ≡ bytes (place_bytes place.now)) }
 {
     Ok(Value::Bytes(Bytes::from_slice(alloc, place.bytes().as_slice())?))

@@ -1,13 +1,18 @@
 //! What instructions without bodies do to the values of the stack.
 #![tactic(auto)]
 
+mod burning;
+mod dispatching;
 mod environment;
 mod logic;
 mod numbers;
+mod operations;
 mod order;
 mod pairs;
+mod tickets;
 mod unions;
 
+pub use dispatching::step;
 pub use environment::{Env, environment_step};
 pub use logic::logic_step;
 pub use numbers::number_step;

@@ -76,7 +76,7 @@ fn unpair(count: u32, stack: &mut Rows<Value>) -> Result<(), StepError>
 }
 
 // The parts of a pair.
-fn split_pair(pair: Value) -> (Value, Value)
+pub(crate) fn split_pair(pair: Value) -> (Value, Value)
     requires { (big : Sight) × IsPair (seen big pair) }
     ensures { (big : Sight) → seen big pair ≡ both (seen big result.0) (seen big result.1) }
 {

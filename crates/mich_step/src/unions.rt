@@ -9,7 +9,7 @@ ghost use Rattle.mich_stack.specs.Ends.{Fits, Keeps};
 use mich_base::{Link, Memory, Rows};
 use mich_overload::UnionRow;
 use mich_stack::{StepError, pop, push};
-use mich_term::Value;
+use mich_term::{Chain, Value};
 use std::alloc::Global;
 
 // Takes the value on top.
@@ -24,12 +24,11 @@ fn boxed_top(alloc: Global, stack: &mut Rows<Value>) -> Result<Link<Value>, Memo
 }
 
 // Puts an element before a list.
-fn in_front(value: Value, list: Rows<Value>) -> Result<Rows<Value>, Memory>
+fn in_front(value: Value, mut list: Chain<Value>) -> Result<Chain<Value>, Memory>
     ensures { IfOk result (λ vs. vs ≡ value ∷ list) }
 {
-    let mut items = list.into_vec();
-    items.insert(0, value)?;
-    Ok(Rows::from_vec(items))
+    list.push(value)?;
+    Ok(list)
 }
 
 fn cons(stack: &mut Rows<Value>) -> Result<(), StepError>
@@ -58,7 +57,7 @@ pub fn union_step(alloc: Global, row: &UnionRow, stack: &mut Rows<Value>) -> Res
         UnionRow::Right(_) => Value::Right(boxed_top(alloc, stack)?),
         UnionRow::Some => Value::Some(boxed_top(alloc, stack)?),
         UnionRow::None(_) => Value::None,
-        UnionRow::Nil(_) => Value::List(Rows::new(alloc)),
+        UnionRow::Nil(_) => Value::List(Chain::new(alloc)),
         UnionRow::Cons => return cons(stack),
     };
     push(stack, value)?;

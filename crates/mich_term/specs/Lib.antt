@@ -1,5 +1,6 @@
 pub mod IdentityOrder
 pub mod Keyed
+pub mod Layers
 pub mod Laws
 pub mod TicketView
 pub mod ValueView

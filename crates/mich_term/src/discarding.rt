@@ -3,10 +3,11 @@ ghost use Rattle.std.specs.Prelude.{◌≡◌, IfOk, List, ◌++◌};
 ghost use Rattle.rules_values.specs.Tickets.{Held, tickets, all_tickets, pair_tickets};
 ghost use Rattle.mich_term.specs.ValueView.{val, vals, pairs, big_pairs};
 
+use crate::chain::Chain;
 use crate::table::Table;
 use crate::ticket::Burner;
 use crate::value::{BigMap, Value};
-use mich_base::{Memory, Rows};
+use mich_base::Memory;
 use std::alloc::Global;
 
 /// Discards a value: each ticket in it is burnt, parts from left to right and entries by key. After Memory the burner is given
@@ -34,7 +35,7 @@ pub fn discard<B: Burner>(alloc: Global, value: Value, burner: &mut B) -> Result
 }
 
 #[cycle(discard)]
-fn discard_all<B: Burner>(alloc: Global, values: Rows<Value>, burner: &mut B) -> Result<(), Memory>
+fn discard_all<B: Burner>(alloc: Global, values: Chain<Value>, burner: &mut B) -> Result<(), Memory>
     requires { B.ready burner.old (all_tickets (vals values)) }
     ensures tells { IfOk result (λ _. B.told burner.new ≡ B.told burner.old ++ all_tickets (vals values)) }
     ensures stays_ready { IfOk result (λ _. (l : List Held) → B.ready burner.old (all_tickets (vals values) ++ l) → B.ready burner.new l) }

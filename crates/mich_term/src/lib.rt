@@ -4,6 +4,7 @@
 //! a set as the list of its elements in order, and a map as the list of its entries by key.
 #![tactic(auto)]
 
+mod chain;
 mod comparing;
 mod convert;
 mod datum;
@@ -18,6 +19,7 @@ mod ticket;
 mod value;
 mod weighing;
 
+pub use chain::{Chain, split_head};
 pub use comparing::compare_values;
 pub use datum::{Datum, compare, copy_datum};
 pub use discarding::discard;

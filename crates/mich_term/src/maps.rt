@@ -1,6 +1,7 @@
 //! Maps of values, as the definitions see them.
 ghost use Rattle.std.specs.Prelude.{◌≡◌, length, IfOk, OnErr, option_map};
 ghost use Rattle.rules_values.specs.Tables.{value_at, with_value, without_key, AreIncreasingKeys};
+ghost use Rattle.mich_term.specs.Keyed.{found, with, without};
 ghost use Rattle.mich_term.specs.Laws.{PutsIncreasing, TakesIncreasing};
 ghost use Rattle.mich_term.specs.View.{datum};
 ghost use Rattle.mich_term.specs.ValueView.{val, pairs};
@@ -13,7 +14,8 @@ use mich_base::Memory;
 /// The value at a key. None where there is no entry; takes no memory (Michelson reference, "GET").
 #[tactic(auto, using(crate::proofs::Pairing::found_is))]
 pub fn get<'a>(table: &'a Table<Value>, key: &Datum) -> Option<&'a Value>
-    ensures { option_map (λ v. val v.now) result ≡ value_at (datum key.now) (pairs table.now) }
+    ensures value { option_map (λ v. val v.now) result ≡ value_at (datum key.now) (pairs table.now) }
+    ensures entry { option_map (λ v. v.now) result ≡ found key.now table.now }
 {
     table.get(key)
 }
@@ -24,6 +26,8 @@ pub fn get<'a>(table: &'a Table<Value>, key: &Datum) -> Option<&'a Value>
 pub fn put(table: &mut Table<Value>, key: Datum, value: Value) -> Result<Option<Value>, Memory>
     ensures old { IfOk result (λ old. option_map val old ≡ value_at (datum key) (pairs table.old)) }
     ensures new { IfOk result (λ _. pairs table.new ≡ with_value (datum key) (val value) (pairs table.old)) }
+    ensures replaced { IfOk result (λ old. old ≡ found key table.old) }
+    ensures entries { IfOk result (λ _. table.new ≡ with key value table.old) }
     ensures unchanged { OnErr result (table.new ≡ table.old) }
 {
     table.insert(key, value)
@@ -35,6 +39,8 @@ pub fn put(table: &mut Table<Value>, key: Datum, value: Value) -> Result<Option<
 pub fn take(table: &mut Table<Value>, key: &Datum) -> Option<Value>
     ensures old { option_map val result ≡ value_at (datum key.now) (pairs table.old) }
     ensures new { pairs table.new ≡ without_key (datum key.now) (pairs table.old) }
+    ensures removed { result ≡ found key.now table.old }
+    ensures entries { table.new ≡ without key.now table.old }
 {
     table.remove(key)
 }

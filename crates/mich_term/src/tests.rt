@@ -3,8 +3,8 @@ ghost use Rattle.std.specs.Prelude.{◌≡◌, [], map};
 ghost use Rattle.mich_term.specs.TicketView.{held};
 
 use crate::{
-    BigMap, Burner, Datum, Elements, Table, Ticket, TicketId, Value, abandon, compare,
-    datum_weight, discard, dup, maps, same_datum, same_id, shadow, weight,
+    BigMap, Burner, Chain, Datum, Elements, Table, Ticket, TicketId, Value, abandon, compare,
+    datum_weight, discard, dup, maps, same_datum, same_id, shadow, split_head, weight,
 };
 use mich_base::{Bytes, Link, Memory, Node, Rows, Shared, Text, Ty};
 use mich_forms::Place;
@@ -216,7 +216,7 @@ fn list(alloc: Global) -> Result<Value, Memory> {
     let mut values = Rows::new(alloc);
     values.push(Value::Number(1))?;
     values.push(Value::None)?;
-    Ok(Value::List(values))
+    Ok(Value::List(Chain::from_rows(values)))
 }
 
 fn lambda(alloc: Global) -> Result<Value, Memory> {
@@ -335,4 +335,47 @@ fn values_without_tickets_are_copied(rt: HostRuntime) -> Result<(), Fail> {
 #[test]
 fn identities_differ_by_their_content(rt: HostRuntime) {
     assert!(rt; same_id(&identity(1), &identity(1)) && !same_id(&identity(1), &identity(2)));
+}
+
+// A list of so many numbers, each of them put before the others.
+fn long_list(alloc: Global, count: usize) -> Result<Chain<Value>, Memory> {
+    let mut list = Chain::new(alloc);
+    for n in 0..count {
+        list.push(Value::Number(n as i128))?;
+    }
+    Ok(list)
+}
+
+// Whether the elements of a list, taken one by one from its head on, are numbers that go down to 0.
+fn goes_down(mut list: Chain<Value>) -> bool {
+    let mut after = list.len() as i128;
+    while let Some(value) = list.pop() {
+        match value {
+            Value::Number(n) if n < after => after = n,
+            _ => return false,
+        }
+    }
+    after == 0
+}
+
+#[test]
+fn a_long_list_is_made_and_taken_apart_at_its_head(rt: HostRuntime) -> Result<(), Fail> {
+    let list = long_list(rt.alloc(), 200_000)?;
+    assert!(rt; list.len() == 200_000 && !list.is_empty());
+    assert!(rt; goes_down(list));
+    Ok(())
+}
+
+#[test]
+fn a_list_has_the_elements_of_rows_in_their_order(rt: HostRuntime) -> Result<(), Fail> {
+    let mut rows = Rows::new(rt.alloc());
+    rows.push(7)?;
+    rows.push(8)?;
+    rows.push(9)?;
+    let list = Chain::from_rows(rows);
+    assert!(rt; list.as_reversed_slice() == [9, 8, 7].as_slice());
+    assert!(rt; split_head(list.as_reversed_slice()).map(|p| *p.0) == Some(7));
+    let reversed = list.into_reversed();
+    assert!(rt; reversed.as_slice() == [9, 8, 7].as_slice());
+    Ok(())
 }

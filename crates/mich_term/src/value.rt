@@ -3,6 +3,7 @@ ghost use Rattle.std.specs.Prelude.{◌≡◌, IfOk, []};
 ghost use Rattle.rules_values.specs.Tickets.{tickets};
 ghost use Rattle.mich_term.specs.ValueView.{val};
 
+use crate::chain::Chain;
 use crate::datum::{Datum, copy_datum};
 use crate::elements::Elements;
 use crate::table::Table;
@@ -26,7 +27,7 @@ pub enum Value {
     Left(Link<Value>),
     Right(Link<Value>),
     Pair(Link<Value>, Link<Value>),
-    List(Rows<Value>),
+    List(Chain<Value>),
     Set(Elements),
     Map(Table<Value>),
     BigMap(Link<BigMap>),
@@ -97,11 +98,11 @@ fn shadow_link(alloc: Global, value: &Link<Value>) -> Result<Link<Value>, Memory
 }
 
 #[cycle(shadow)]
-fn shadow_all(alloc: Global, values: &Rows<Value>) -> Result<Rows<Value>, Memory>
+fn shadow_all(alloc: Global, values: &Chain<Value>) -> Result<Chain<Value>, Memory>
     ensures { IfOk result (λ vs. vs ≡ values.now) }
 {
-    let mut copies = Rows::new(alloc);
-    for value in values.as_slice() {
+    let mut copies = Chain::new(alloc);
+    for value in values.as_reversed_slice() {
         copies.push(shadow(alloc, value)?)?;
     }
     Ok(copies)

@@ -5,11 +5,11 @@ ghost use Rattle.mich_term.specs.Weights.{capped};
 ghost use Rattle.mich_term.specs.View.{datum, datums};
 ghost use Rattle.mich_term.specs.ValueView.{val, vals, pairs};
 
+use crate::chain::Chain;
 use crate::datum::Datum;
 use crate::elements::Elements;
 use crate::table::Table;
 use crate::value::Value;
-use mich_base::Rows;
 
 /// What a value weighs where gas is charged for it, at most 2^64-1; takes no memory (this host's cost table).
 #[cycle(weight)]
@@ -29,11 +29,11 @@ pub fn weight(value: &Value) -> u64
 }
 
 #[cycle(weight)]
-fn list_weight(values: &Rows<Value>) -> u64
+fn list_weight(values: &Chain<Value>) -> u64
     ensures { result ≡ capped (weights (vals values.now)) }
 {
     let mut total: u64 = 0;
-    for value in values.as_slice() {
+    for value in values.as_reversed_slice() {
         total = total.saturating_add(weight(value));
     }
     total

@@ -1,7 +1,8 @@
 // Contracts that are made, and storages that are kept.
 ghost use Rattle.std.specs.Prelude.{◌≡◌, ◌≤◌, true, false, is_some, IfOk, OnErr, OnOk};
 ghost use Rattle.rules_values.specs.Tickets.{tickets};
-ghost use Rattle.mich_bigmap.specs.Layers.{AreFormed, HasBases};
+ghost use Rattle.mich_term.specs.Layers.{AreFormed};
+ghost use Rattle.mich_bigmap.specs.Layers.{HasBases};
 ghost use Rattle.mich_term.specs.ValueView.{val};
 ghost use Rattle.mich_tickets.specs.Carrying.{MayEnter};
 ghost use Rattle.mich_world.specs.Answers.{IsInstall};

@@ -6,6 +6,7 @@ use Rattle.rules_replay.specs.Replay.{Replay, IsReplay}
 use Rattle.rules_replay.specs.Answers.{Answer, replay_answer, usage_answer}
 use Rattle.rules_replay.specs.Codec.{IsCodecAnswer, encode_node, decode_node}
 use Rattle.rules_replay.specs.Scripts.{IsCheckAnswer}
+use Rattle.rules_replay.specs.Packs.{pack_node}
 
 -- the commands that take a file
 pub data Verb : Type 0 where
@@ -13,6 +14,7 @@ pub data Verb : Type 0 where
   Checking : Verb
   Encoding : Verb
   Decoding : Verb
+  Packing : Verb
 
 -- what the words ask for: a command with its file, or none
 pub data Command : Type 0 where
@@ -29,6 +31,7 @@ verb_of word =
     else if bytes_eq word (codes "check") then Some Checking
     else if bytes_eq word (codes "encode") then Some Encoding
     else if bytes_eq word (codes "decode") then Some Decoding
+    else if bytes_eq word (codes "pack") then Some Packing
     else None
 
 abbrev pub on_file : Option Verb → List ℕ → Command
@@ -54,6 +57,7 @@ IsVerbAnswer Replaying file answer = (done : Replay) × IsReplay file done × (a
 IsVerbAnswer Checking file answer = IsCheckAnswer file answer
 IsVerbAnswer Encoding file answer = IsCodecAnswer encode_node file answer
 IsVerbAnswer Decoding file answer = IsCodecAnswer decode_node file answer
+IsVerbAnswer Packing file answer = IsCodecAnswer pack_node file answer
 
 -- it is known what a command reads
 abbrev pub IsTold : Command → (List ℕ → Option (List ℕ)) → Type 0

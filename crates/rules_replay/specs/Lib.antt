@@ -6,7 +6,7 @@ pub mod Replay
 pub mod Lines
 pub mod Answers
 pub mod Codec
-pub mod Nodes
 pub mod Scripts
+pub mod Packs
 pub mod Commands
 pub mod Promise

@@ -5,9 +5,9 @@ use Rattle.rules_instructions.specs.Arguments.{Found, found, fault}
 use Rattle.rules_typing.specs.Scripts.{Script}
 use Rattle.rules_typing.specs.Nodes.{script}
 use Rattle.rules_replay.specs.Places.{Placed, Listing, IsListing}
-use Rattle.rules_replay.specs.Nodes.{over, word, number}
+use Rattle.rules_lines.specs.Nodes.{line, over, word, number}
 use Rattle.rules_replay.specs.Answers.{Answer, done_with}
-use Rattle.rules_replay.specs.Codec.{node_line, of_text}
+use Rattle.rules_replay.specs.Codec.{of_text}
 
 -- the one statement of a file, where it is a sequence, is the script; else all statements are its sections
 abbrev pub script_of : List Tree → Tree
@@ -18,8 +18,8 @@ abbrev pub ill_typed : ℕ → Tree
 ill_typed location = over (codes "IllTyped") (number location ∷ [])
 
 abbrev pub checking_answer : Found Script → Answer
-checking_answer (found accepted) = done_with (node_line (word (codes "WellTyped")))
-checking_answer (fault location) = record { status = 2; lines = node_line (ill_typed location) ∷ [] }
+checking_answer (found accepted) = done_with (line (word (codes "WellTyped")))
+checking_answer (fault location) = record { status = 2; lines = line (ill_typed location) ∷ [] }
 
 abbrev pub check_statements : List Placed → Answer
 check_statements statements = checking_answer (script (script_of (map (λ s. s.node) statements)))

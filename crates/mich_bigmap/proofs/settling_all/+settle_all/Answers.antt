@@ -4,8 +4,9 @@ use Rattle.std.specs.List.{AllByRecursion}
 use Rattle.mich_term.specs.declared.datum.Datum.{Datum}
 use Rattle.mich_bigmap.specs.Settling.{SettlesAll, SettlesEntries}
 use Rattle.mich_term.specs.declared.value.Value.{Value, the_lemmas}
-use Rattle.mich_bigmap.specs.Layers.{AreFormed, HasBases, FormedLayer, BasedLayer}
-use Rattle.mich_bigmap.proofs.Each as e
+use Rattle.mich_term.specs.Layers.{AreFormed, FormedLayer}
+use Rattle.mich_bigmap.specs.Layers.{HasBases, BasedLayer}
+use Rattle.mich_term.proofs.Each as e
 use Rattle.mich_bigmap.proofs.Settled as s
 use Rattle.mich_bigmap.proofs.settling_all.+settle_all.Goals as goal
 

@@ -1,7 +1,8 @@
 use Rattle.std.proofs.Common.{◌≡◌, ◌++◌}
 use Rattle.std.specs.Vec.Iter.{into_iter_items}
 use Rattle.std.specs.List.{AllByRecursion}
-use Rattle.mich_bigmap.specs.Layers.{AreFormed, HasBases}
+use Rattle.mich_term.specs.Layers.{AreFormed}
+use Rattle.mich_bigmap.specs.Layers.{HasBases}
 use Rattle.mich_bigmap.specs.Settling.{SettlesAll, SettlesEntries, Lays}
 use Rattle.mich_bigmap.proofs.settling_all.+settle_all.Given as goal
 

@@ -1,4 +1,4 @@
-use Rattle.std.proofs.Common.{◌≡◌, ◌≤◌, ◌++◌, drop, length}
+use Rattle.std.proofs.Common.{◌≡◌, ◌≤◌, ◌++◌, length, reverse}
 use Rattle.rules_values.specs.Literals.{byte_limit}
 use Rattle.rules_steps.specs.Texts.{joined}
 use Rattle.mich_stack.specs.Views.{Sight}
@@ -8,5 +8,8 @@ use Rattle.mich_collections.proofs.bytes.join_all.Given as goal
 abbrev pub invariant-loop-value : goal.invariant-loop-value
 invariant-loop-value l = record {
   small : length l.bytes.items ≤ byte_limit;
-  same : (big : Sight) → l.bytes.items ++ joined (vals_by big (drop l.value-index l.list)) ≡ joined (vals_by big l.list);
+  same : (big : Sight) → l.bytes.items ++ joined (vals_by big (reverse l.left)) ≡ joined (vals_by big l.list);
 }
+
+abbrev pub decreases-loop-value : goal.decreases-loop-value
+decreases-loop-value l = length l.left

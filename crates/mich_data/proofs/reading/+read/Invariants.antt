@@ -10,6 +10,8 @@ use Rattle.mich_data.proofs.Lists.{put_before}
 use Rattle.mich_data.proofs.Sets.{IsReadUpTo}
 use Rattle.mich_data.proofs.Tables.{AreReadUpTo}
 use Rattle.std.specs.Prelude.{None}
+use Rattle.std.specs.List.{AllByRecursion}
+use Rattle.mich_data.specs.Whole.{IsWhole, AreWholeEntries}
 use Rattle.mich_data.proofs.reading.+read.Given as goal
 
 abbrev pub decreases-read_at : goal.decreases-read_at
@@ -72,6 +74,7 @@ invariant-read_elements-loop-node l =
     (with_pending (all_pending l.initial.pending) (read_elements (read (kind l.part)) l.initial.next (trees l.nodes))
     ≡ mapped (put_before (map val l.values)) (with_pending (all_pending l.pending) (read_elements (read (kind l.part)) l.next left)))
     × (l.next + sizes left ≡ l.initial.next + sizes (trees l.nodes))
+    × AllByRecursion (IsWhole (kind l.part)) l.values
 
 abbrev pub invariant-read_increasing-loop-node : goal.invariant-read_increasing-loop-node
 invariant-read_increasing-loop-node l =
@@ -86,3 +89,4 @@ invariant-read_entries-loop-node l =
     AreReadUpTo (with_pending (all_pending l.initial.pending) (read_entries (read (kind l.key)) (read (kind l.value)) None l.initial.next (trees l.nodes)))
     (read (kind l.key)) (read (kind l.value)) l.table l.next left (all_pending l.pending)
     × (l.next + sizes left ≡ l.initial.next + sizes (trees l.nodes))
+    × AreWholeEntries (kind l.value) l.table

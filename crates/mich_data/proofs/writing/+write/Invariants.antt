@@ -1,4 +1,4 @@
-use Rattle.std.proofs.Common.{◌≡◌, ◌++◌, drop, map}
+use Rattle.std.proofs.Common.{◌≡◌, ◌++◌, drop, map, reverse, take}
 use Rattle.std.specs.Map.Iter.{deref_pair}
 use Rattle.mich_base.specs.View.{tree}
 use Rattle.mich_term.specs.ValueView.{vals, pairs, put_pairs, big_pairs}
@@ -6,7 +6,7 @@ use Rattle.mich_data.specs.Written.{element_trees, entry_trees}
 use Rattle.mich_data.proofs.writing.+write.Given as goal
 
 abbrev pub invariant-list_node-loop-value : goal.invariant-list_node-loop-value
-invariant-list_node-loop-value l = map tree l.nodes ++ element_trees (vals (drop l.value-index l.value-items)) ≡ element_trees (vals l.values)
+invariant-list_node-loop-value l = map tree l.nodes ≡ element_trees (vals (reverse (take l.value-index l.value-items)))
 
 abbrev pub invariant-table_node-loop-key : goal.invariant-table_node-loop-key
 invariant-table_node-loop-key l = record {

@@ -11,17 +11,17 @@ returns-then-not-pay-clause-acts c = λ x fs d Z o h.
     if_any_broke _ (rw c.if-not-pay.true at c.pay.ensures) h (if_top h)
 
 pub pop_truth-requires : goal.pop_truth-requires
-pop_truth-requires c = (c.requires.0.bases, if_top c.requires.5)
+pop_truth-requires c = (c.requires.0.sight, if_top c.requires.5)
 
 pub returns-in_ok-body-clause-acts : goal.returns-in_ok-body-clause-acts
 returns-in_ok-body-clause-acts c = λ x fs d Z o h.
     let p = rw c.if-not-pay.false at c.pay.ensures in
-    rw c.in_ok-body.ensures (opens_paid g.If 0 _ c.pay.new.meter p.1 (if_opens true p.0 (rw (c.pop_truth.ensures x.bases, c.if-pop_truth.true) at h)))
+    rw c.in_ok-body.ensures (opens_paid g.If 0 _ c.pay.new.meter p.1 (if_opens true p.0 (rw (c.pop_truth.ensures x.sight, c.if-pop_truth.true) at h)))
 
 pub returns-in_ok-body-2-clause-acts : goal.returns-in_ok-body-2-clause-acts
 returns-in_ok-body-2-clause-acts c = λ x fs d Z o h.
     let p = rw c.if-not-pay.false at c.pay.ensures in
-    rw c.in_ok-body-2.ensures (opens_paid g.If 0 _ c.pay.new.meter p.1 (if_opens false p.0 (rw (c.pop_truth.ensures x.bases, c.if-pop_truth.false) at h)))
+    rw c.in_ok-body-2.ensures (opens_paid g.If 0 _ c.pay.new.meter p.1 (if_opens false p.0 (rw (c.pop_truth.ensures x.sight, c.if-pop_truth.false) at h)))
 
 pub returns-in_ok-body-clause-less : goal.returns-in_ok-body-clause-less
 returns-in_ok-body-clause-less c =

@@ -11,12 +11,12 @@ returns-then-not-pay-clause-acts c = λ written x fs d Z o h. dip_broke (rw c.if
 pub take_above-requires : goal.take_above-requires
 take_above-requires c =
     let r = c.requires.1 in
-    rw (length_tops r.0.bases c.args.m.now.stack) at (dip_top r.5)
+    rw (length_tops r.0.sight c.args.m.now.stack) at (dip_top r.5)
 
 pub returns-clause-acts : goal.returns-clause-acts
 returns-clause-acts c = λ written x fs d Z o h.
     let p = rw c.if-not-pay.false at c.pay.ensures in
-    let both = c.in_ok-above.ensures x.bases in
+    let both = c.in_ok-above.ensures x.sight in
     rw (c.in_ok-body.ensures, both.0, both.1) (opens_paid g.Dip 0 _ c.pay.new.meter p.1 (dip_opens p.0 h))
 
 pub returns-clause-less : goal.returns-clause-less

@@ -6,16 +6,16 @@ use Rattle.mich_machine.proofs.loops.next_turn.Goals as goal
 
 pub returns-then-not-pop_truth-clause-acts : goal.returns-then-not-pop_truth-clause-acts
 returns-then-not-pop_truth-clause-acts c = λ x fs d Z o h.
-    turns_end (rw (c.pop_truth.ensures x.bases, c.if-not-pop_truth.true) at h)
+    turns_end (rw (c.pop_truth.ensures x.sight, c.if-not-pop_truth.true) at h)
 
 pub returns-then-not-pay-clause-acts : goal.returns-then-not-pay-clause-acts
 returns-then-not-pay-clause-acts c = λ x fs d Z o h.
-    turns_broke (rw c.if-not-pay.true at c.pay.ensures) (rw (c.pop_truth.ensures x.bases, c.if-not-pop_truth.false) at h)
+    turns_broke (rw c.if-not-pay.true at c.pay.ensures) (rw (c.pop_truth.ensures x.sight, c.if-not-pop_truth.false) at h)
 
 pub returns-clause-acts : goal.returns-clause-acts
 returns-clause-acts c = λ x fs d Z o h.
     let p = rw c.if-not-pay.false at c.pay.ensures in
-    let opens = opens_paid g.Turn 0 _ c.pay.new.meter p.1 (turn_opens p.0 (rw (c.pop_truth.ensures x.bases, c.if-not-pop_truth.false) at h)) in
+    let opens = opens_paid g.Turn 0 _ c.pay.new.meter p.1 (turn_opens p.0 (rw (c.pop_truth.ensures x.sight, c.if-not-pop_truth.false) at h)) in
     rw c.in_ok-code.ensures opens
 
 pub returns-clause-gas : goal.returns-clause-gas

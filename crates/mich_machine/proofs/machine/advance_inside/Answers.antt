@@ -24,7 +24,7 @@ perform-requires c =
       charged = c.in_default.not-Seq;
       comes = (
         r.0,
-        fr.rest (codes (drop (c.args.m.now.at + 1) c.args.m.now.block)) ∷ frames r.0.bases c.args.m.now.frames,
+        fr.rest (codes (drop (c.args.m.now.at + 1) c.args.m.now.block)) ∷ frames r.0.sight c.args.m.now.frames,
         c.args.m.now.depth,
         r.1,
         r.2,
@@ -64,7 +64,7 @@ returns-in_ok-step c =
     let e : slice_get c.args.m.now.block c.args.m.now.at ≡ Some c.at-instr.result.now = ap (λ b. slice_get b c.args.m.now.at) (sym c.get.ensures) ∙ c.at-instr.ensures in
     record {
       stays = λ x Z o h. c.in_ok-step.ensures.stays x c.args.costs.now Z o
-          (c.in_ok-act.ensures.acts x (fr.rest (codes (drop (c.args.m.now.at + 1) c.args.m.now.block)) ∷ frames x.bases c.args.m.now.frames) c.args.m.now.depth Z o
+          (c.in_ok-act.ensures.acts x (fr.rest (codes (drop (c.args.m.now.at + 1) c.args.m.now.block)) ∷ frames x.sight c.args.m.now.frames) c.args.m.now.depth Z o
           (meets_at x c.args.costs.now Z o c.args.m.now h c.at-instr.result.now c.requires.within e));
       spent = paid_spent c.in_ok-step.step c.args.m.now c.follow.new.m (c.in_ok-step.ensures.spent c.args.m.now.state.meter c.in_ok-act.ensures.less);
     }

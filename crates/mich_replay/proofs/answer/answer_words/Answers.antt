@@ -2,7 +2,8 @@ use Rattle.std.proofs.Common.{rules, ◌≡◌, List, ℕ, ◌++◌, Ok, sym, su
 use Rattle.rules_replay.specs.Answers.{usage_answer}
 use Rattle.rules_replay.specs.Commands.{IsVerbAnswer, command_of}
 use Rattle.mich_replay.specs.Fronts.{IsRest, IsReadOf}
-use Rattle.mich_replay.specs.View.{answer_seen, verb_seen}
+use Rattle.mich_replay.specs.View.{verb_seen}
+use Rattle.mich_answers.specs.View.{answer_seen}
 use Rattle.mich_replay.proofs.Cut.{on_read, on_none, at_ok}
 use Rattle.mich_replay.proofs.answer.answer_words.Goals as goal
 use Rattle.mich_replay.proofs.answer.answer_words.Goals.{in-OnFile+in_ok-file-in-OnFile, in-NoCommand}

@@ -4,9 +4,10 @@ use Rattle.rules_replay.specs.Commands.{Replaying, IsVerbAnswer}
 use Rattle.rules_replay.specs.Replay.{step_by}
 use Rattle.rules_replay.specs.Statements.{form}
 use Rattle.mich_replay.specs.declared.outcome.FileFault.{FileFault}
-use Rattle.mich_replay.specs.Listed.{IsNext}
+use Rattle.mich_answers.specs.Listed.{IsNext}
+use Rattle.mich_answers.proofs.Stated.{ok_answer}
 use Rattle.mich_replay.specs.Steps.{IsTaken, Reached}
-use Rattle.mich_replay.proofs.Reaching.{ok_answer, reached-start, reached-more, reached-refused, reached-end, reached-fault}
+use Rattle.mich_replay.proofs.Reaching.{reached-start, reached-more, reached-refused, reached-end, reached-fault}
 use Rattle.mich_replay.proofs.replaying.replay.Goals as goal
 
 pub statements-init : goal.statements-init

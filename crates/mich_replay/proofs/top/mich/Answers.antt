@@ -1,6 +1,6 @@
 use Rattle.std.proofs.Common.{Err, ap, arith}
 use Rattle.mich_replay.proofs.Promise.{meets, cut_short}
-use Rattle.mich_replay.specs.View.{answer_seen}
+use Rattle.mich_answers.specs.View.{answer_seen}
 use Rattle.mich_replay.proofs.top.mich.Goals as goal
 
 pub returns-in-Ok-write_lines : goal.returns-in-Ok-write_lines

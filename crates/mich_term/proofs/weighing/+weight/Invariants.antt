@@ -1,4 +1,4 @@
-use Rattle.std.proofs.Common.{◌≡◌, ◌≤◌, ◌+◌, ◌-◌, ◌^◌, ◌++◌, drop, map}
+use Rattle.std.proofs.Common.{◌≡◌, ◌≤◌, ◌+◌, ◌-◌, ◌^◌, ◌++◌, reverse, take, map}
 use Rattle.std.specs.Map.Iter.{deref_pair}
 use Rattle.rules_values.specs.Weight.{weights, pair_weights}
 use Rattle.mich_term.specs.Weights.{capped}
@@ -7,7 +7,7 @@ use Rattle.mich_term.proofs.weighing.+weight.Given as goal
 
 abbrev pub invariant-list_weight-loop-value : goal.invariant-list_weight-loop-value
 invariant-list_weight-loop-value l = record {
-  same : capped (l.total + weights (vals (drop l.value-index l.value-items))) ≡ capped (weights (vals l.values));
+  behind : l.total ≡ capped (weights (vals (reverse (take l.value-index l.value-items))));
   small : l.total ≤ 2 ^ 64 - 1;
 }
 

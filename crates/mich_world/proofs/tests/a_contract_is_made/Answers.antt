@@ -1,5 +1,6 @@
-use Rattle.mich_bigmap.proofs.Each as each
-use Rattle.mich_bigmap.specs.Layers.{FormedLayer, BasedLayer}
+use Rattle.mich_term.proofs.Each as each
+use Rattle.mich_term.specs.Layers.{FormedLayer}
+use Rattle.mich_bigmap.specs.Layers.{BasedLayer}
 use Rattle.mich_world.proofs.tests.a_contract_is_made.Goals as goal
 
 pub install-requires-clause-formed : goal.install-requires-clause-formed

@@ -1,0 +1,4 @@
+pub mod Listing
+pub mod Shorter
+pub mod Stated
+pub mod Wholes

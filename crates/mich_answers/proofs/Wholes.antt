@@ -1,0 +1,169 @@
+-- The nodes of a file, and the answer to its script.
+use Rattle.std.proofs.Common.{◌≡◌, ℕ, ◌+◌, ◌≤◌, true, false, List, [], ◌∷◌, ◌++◌, length, map, Option, Some, None, Result, Ok, Err, IfOk, inl, inr, refl, ap, ◌∙◌, sym, subst, rules, arith}
+use Rattle.std.proofs.lemmas.List.{map-append}
+use Rattle.rules_base.specs.Tree.{Tree, int, str, bytes, prim, seq, trees_of, size, sizes}
+use Rattle.std.specs.Prelude.{codes}
+use Rattle.rules_text.specs.declared.TextKind.{TextKind}
+use Rattle.rules_instructions.specs.Arguments.{Found, found, fault}
+use Rattle.rules_typing.specs.Scripts.{Script}
+use Rattle.rules_typing.specs.Nodes.{script}
+use Rattle.rules_replay.specs.Answers.{Answer, done_with}
+use Rattle.rules_replay.specs.Codec.{of_text}
+use Rattle.rules_lines.specs.Nodes.{line, word}
+use Rattle.rules_replay.specs.Places.{Placed, IsNodeAt, IsEndAt, IsFaultAt}
+use Rattle.rules_replay.specs.Scripts.{script_of, checking_answer, check_statements, IsCheckAnswer}
+use Rattle.mich_base.specs.View.{tree, trees}
+use Rattle.mich_base.specs.declared.node.Node.{Node}
+use Rattle.mich_instr.specs.Code.{ScriptCode}
+use Rattle.mich_instr.specs.Typed.{IsScript, is_script}
+use Rattle.mich_base.specs.declared.memory.Memory.{Memory}
+use Rattle.mich_text.specs.declared.reader.Placed.{Placed as CodePlaced}
+use Rattle.mich_answers.specs.Checked.{is_one_sequence, Through, IsWhole}
+use Rattle.mich_answers.specs.Listed.{placed_seen}
+use Rattle.mich_answers.specs.View.{answer_seen, IsDoneOrRefused}
+use Rattle.mich_answers.specs.declared.answer.Answer.{Answer as Reply}
+use Rattle.mich_answers.specs.declared.checking.Statements.{Statements}
+use Rattle.mich_answers.proofs.Stated.{statements-more}
+
+-- ---- the nodes
+
+sizes-more : (ns : List Node) (n : Node) → sizes (trees (ns ++ n ∷ [])) ≡ sizes (trees ns) + size (tree n)
+sizes-more [] n = omega arith
+sizes-more (m ∷ ms) n = let e = sizes-more ms n in omega (arith, e)
+
+-- one more statement
+pub through_more : (file : List ℕ) (place : ℕ) (nodes : List Node) (p : CodePlaced) → Through file place nodes → IsNodeAt file place (tree p.node) p.start p.end →
+    size (tree p.node) + place ≤ p.end → Through file p.end (nodes ++ p.node ∷ [])
+through_more file place nodes p h node fits = record {
+  statements = h.statements ++ placed_seen p ∷ [];
+  stand = statements-more file 0 place p.end h.statements (placed_seen p) h.stand node;
+  nodes_are = map-append tree nodes (p.node ∷ []) ∙ ap (λ (ts : List Tree). ts ++ tree p.node ∷ []) h.nodes_are ∙ sym (map-append (λ (s : Placed). s.node) h.statements (placed_seen p ∷ []));
+  small = omega (arith, sizes-more nodes p.node, h.small, fits);
+}
+
+pub through_end : (file : List ℕ) (place : ℕ) (nodes : List Node) → place ≤ length file → Through file place nodes → IsEndAt file place →
+    IsWhole file (record { nodes = nodes; fault = None })
+through_end file place nodes within h end = record {
+  found = record { statements = h.statements; fault = None };
+  listing = (place, h.stand, end);
+  nodes_are = h.nodes_are;
+  small = omega (arith, within, h.small);
+  fault_is = refl;
+}
+
+pub through_fault : (file : List ℕ) (place : ℕ) (nodes : List Node) (kind : TextKind) (at : ℕ) → place ≤ length file → Through file place nodes → IsFaultAt file place kind at →
+    IsWhole file (record { nodes = nodes; fault = Some (kind, at) })
+through_fault file place nodes kind at within h there = record {
+  found = record { statements = h.statements; fault = Some (kind, at) };
+  listing = (place, h.stand, there);
+  nodes_are = h.nodes_are;
+  small = omega (arith, within, h.small);
+  fault_is = refl;
+}
+
+-- ---- the script
+
+one_script : (ts : List Tree) → is_one_sequence ts ≡ true → (t : Tree) → ts ≡ t ∷ [] → script_of ts ≡ t
+one_script ts h (seq us) e = ap script_of e
+one_script ts h (int n) e = let f : false ≡ true = sym (ap is_one_sequence e) ∙ h in absurd cc
+one_script ts h (str s) e = let f : false ≡ true = sym (ap is_one_sequence e) ∙ h in absurd cc
+one_script ts h (bytes b) e = let f : false ≡ true = sym (ap is_one_sequence e) ∙ h in absurd cc
+one_script ts h (prim name annots us) e = let f : false ≡ true = sym (ap is_one_sequence e) ∙ h in absurd cc
+
+pub all_script : (ts : List Tree) → is_one_sequence ts ≡ false → script_of ts ≡ seq (trees_of ts)
+all_script [] h = refl
+all_script (int n ∷ []) h = refl
+all_script (str s ∷ []) h = refl
+all_script (bytes b ∷ []) h = refl
+all_script (prim name annots us ∷ []) h = refl
+all_script (seq us ∷ []) h = absurd cc
+all_script (int n ∷ u ∷ us) h = refl
+all_script (str s ∷ u ∷ us) h = refl
+all_script (bytes b ∷ u ∷ us) h = refl
+all_script (prim name annots vs ∷ u ∷ us) h = refl
+all_script (seq vs ∷ u ∷ us) h = refl
+
+pub script_size : (ts : List Tree) → size (script_of ts) ≤ sizes (trees_of ts) + 1
+script_size [] = omega arith
+script_size (int n ∷ []) = omega arith
+script_size (str s ∷ []) = omega arith
+script_size (bytes b ∷ []) = omega arith
+script_size (prim name annots us ∷ []) = omega arith
+script_size (seq us ∷ []) = omega arith
+script_size (int n ∷ u ∷ us) = omega arith
+script_size (str s ∷ u ∷ us) = omega arith
+script_size (bytes b ∷ u ∷ us) = omega arith
+script_size (prim name annots vs ∷ u ∷ us) = omega arith
+script_size (seq vs ∷ u ∷ us) = omega arith
+
+-- the last of them is the only one
+last_only : (ns : List Node) (n : Node) → is_one_sequence (map tree (ns ++ n ∷ [])) ≡ true → map tree (ns ++ n ∷ []) ≡ tree n ∷ []
+last_only [] n h = refl
+last_only (m ∷ []) n h = absurd (not_two (tree m) (tree n) h)
+  where
+    not_two : (t u : Tree) → is_one_sequence (t ∷ u ∷ []) ≡ true → ⊥
+    not_two (int n) u h = cc
+    not_two (str s) u h = cc
+    not_two (bytes b) u h = cc
+    not_two (prim name annots us) u h = cc
+    not_two (seq us) u h = cc
+last_only (m ∷ k ∷ ms) n h = absurd (not_many (tree m) (tree k) (map tree (ms ++ n ∷ [])) h)
+  where
+    not_many : (t u : Tree) (us : List Tree) → is_one_sequence (t ∷ u ∷ us) ≡ true → ⊥
+    not_many (int n) u us h = cc
+    not_many (str s) u us h = cc
+    not_many (bytes b) u us h = cc
+    not_many (prim name annots vs) u us h = cc
+    not_many (seq vs) u us h = cc
+
+pub popped_script : (ns : List Node) (whole : List Node) (n : Node) → whole ≡ ns ++ n ∷ [] → is_one_sequence (map tree whole) ≡ true → tree n ≡ script_of (map tree whole)
+popped_script ns whole n e h =
+    let f : is_one_sequence (map tree (ns ++ n ∷ [])) ≡ true = sym (ap (λ ws. is_one_sequence (map tree ws)) e) ∙ h in
+    sym (ap (λ ws. script_of (map tree ws)) e ∙ one_script (map tree (ns ++ n ∷ [])) f (tree n) (last_only ns n f))
+
+-- ---- the answer
+
+-- the answer to the nodes is the answer to the file
+pub whole_answer : (file : List ℕ) (l : Statements) (answer : Answer) → IsWhole file l → answer ≡ of_text l.fault (checking_answer (script (script_of (map tree l.nodes)))) → IsCheckAnswer file answer
+whole_answer file l answer h e = (
+  h.found,
+  h.listing,
+  e ∙ ap (λ (ts : List Tree). of_text l.fault (checking_answer (script (script_of ts)))) h.nodes_are
+      ∙ ap (λ (f : Option (TextKind × ℕ)). of_text f (check_statements h.found.statements)) h.fault_is,
+)
+
+-- a typed script is accepted
+pub accepted : (t : Tree) (c : ScriptCode) → IsScript t c → (a : Script) × (script t ≡ found a)
+accepted t c (is_script e code views) = (_, e)
+
+pub well_answer : (r : Result Reply Memory) (t : Tree) → (a : Script) × (script t ≡ found a) → IfOk r (λ x. answer_seen x ≡ done_with (line (word (codes "WellTyped")))) →
+    IfOk r (λ x. answer_seen x ≡ checking_answer (script t))
+well_answer (Ok x) t (a, e) h = h ∙ sym (ap checking_answer e)
+well_answer (Err x) t (a, e) h = tt
+
+pub ill_answer : (r : Result Reply Memory) (t : Tree) (l : ℕ) → script t ≡ fault l → IfOk r (λ x. answer_seen x ≡ checking_answer (fault l)) →
+    IfOk r (λ x. answer_seen x ≡ checking_answer (script t))
+ill_answer (Ok x) t l e h = h ∙ sym (ap checking_answer e)
+ill_answer (Err x) t l e h = tt
+
+-- it has the status of one that is done, or of one that refuses
+checking_status : (f : Found Script) → IsDoneOrRefused (checking_answer f).status
+checking_status (found a) = inl refl
+checking_status (fault l) = inr refl
+
+text_status : (o : Option (TextKind × ℕ)) (answer : Answer) → IsDoneOrRefused answer.status → IsDoneOrRefused (of_text o answer).status
+text_status None answer h = h
+text_status (Some f) answer h = inr refl
+
+pub check_status : (file : List ℕ) (answer : Answer) → IsCheckAnswer file answer → IsDoneOrRefused answer.status
+check_status file answer (listed, l, e) =
+    subst (λ (a : Answer). IsDoneOrRefused a.status) (sym e) (text_status listed.fault (check_statements listed.statements) (checking_status (script (script_of (map (λ s. s.node) listed.statements)))))
+
+pub check_ends : (file : List ℕ) (r : Result Reply Memory) → IfOk r (λ a. IsCheckAnswer file (answer_seen a)) → IfOk r (λ a. IsDoneOrRefused a.status)
+check_ends file (Ok a) h = check_status file (answer_seen a) h
+check_ends file (Err e) h = tt
+
+pub whole_ok : (file : List ℕ) (l : Statements) (r : Result Reply Memory) → IsWhole file l →
+    IfOk r (λ a. answer_seen a ≡ of_text l.fault (checking_answer (script (script_of (map tree l.nodes))))) → IfOk r (λ a. IsCheckAnswer file (answer_seen a))
+whole_ok file l (Ok a) h e = whole_answer file l (answer_seen a) h e
+whole_ok file l (Err x) h e = tt

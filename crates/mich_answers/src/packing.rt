@@ -1,0 +1,125 @@
+// A node whose literal is packed.
+ghost use Rattle.std.specs.Prelude.{◌≡◌, ◌+◌, ◌<◌, ◌^◌, true, IfOk, Some, option_map};
+ghost use Rattle.rules_base.specs.Tree.{size};
+ghost use Rattle.rules_types.specs.Attributes.{packable};
+ghost use Rattle.rules_types.specs.Reading.{type_at};
+ghost use Rattle.rules_values.specs.Literals.{read};
+ghost use Rattle.rules_steps.specs.Packing.{packed};
+ghost use Rattle.rules_typing.specs.Literals.{of_reading};
+ghost use Rattle.rules_replay.specs.Packs.{first_claim, ill_typed_at, literal_answer, pack_literal, pack_node, packed_answer, packing_answer};
+ghost use Rattle.laws_packing.specs.Names.{IsPackable};
+ghost use Rattle.mich_base.specs.TypeView.{kind};
+ghost use Rattle.mich_base.specs.View.{tree};
+ghost use Rattle.mich_check.specs.Pending.{checked};
+ghost use Rattle.mich_data.specs.View.{all_pending};
+ghost use Rattle.mich_term.specs.ValueView.{val};
+ghost use Rattle.rules_instructions.specs.Arguments.{found};
+ghost use Rattle.mich_answers.specs.View.{answer_seen};
+
+use crate::answer::{Answer, done, refused};
+use crate::lines::{as_text, bytes_line};
+use mich_base::{Memory, Node, Ty, size_within};
+use mich_check::{CheckError, Checked, check_literal_at};
+use mich_data::Pending;
+use mich_pack::{PackError, pack};
+use mich_term::Value;
+use mich_types::{TypeError, behind, packable, type_at};
+use std::alloc::Global;
+
+fn ill_typed(alloc: Global, location: u32) -> Result<Answer, Memory>
+    ensures { IfOk result (λ a. answer_seen a ≡ ill_typed_at location) }
+{
+    refused(alloc, "IllTyped", u64::from(location))
+}
+
+// The bytes of a value.
+fn packed_value(alloc: Global, value: &Value) -> Result<Answer, Memory>
+    requires { IsPackable (val value.now) }
+    ensures { IfOk result (λ a. answer_seen a ≡ packed_answer (packed (val value.now))) }
+{
+    match pack(alloc, value) {
+        Ok(bytes) => done(alloc, as_text(bytes_line(alloc, bytes.as_slice())?)),
+        Err(PackError::SizeLimit) => refused(alloc, "SizeLimit", 0),
+        Err(PackError::Memory) => Err(Memory),
+    }
+}
+
+// The location of the first contract that a literal names.
+fn first_claim(pending: &[Pending]) -> Option<u32>
+    ensures { result ≡ first_claim (all_pending pending.now) }
+{
+    for item in pending {
+        if let Pending::Claim { location, .. } = item {
+            return Some(*location);
+        }
+    }
+    None
+}
+
+// The answer to a literal that is read.
+fn checked_literal(alloc: Global, literal: &Checked) -> Result<Answer, Memory>
+    requires { IsPackable (val literal.now.value) }
+    ensures { IfOk result (λ a. answer_seen a ≡ literal_answer (found (checked literal.now))) }
+{
+    match first_claim(literal.claims.as_slice()) {
+        Some(location) => ill_typed(alloc, location),
+        None => packed_value(alloc, &literal.value),
+    }
+}
+
+// The answer to a literal of a type that can be packed.
+#[tactic(auto, using(laws_packing::proofs::Packables::checked_is_packable))]
+fn read_literal(alloc: Global, ty: &Ty, literal: &Node, at: u32) -> Result<Answer, Memory>
+    requires fits { at + size (tree literal.now) < 2 ^ 32 }
+    requires packs { packable (kind ty.now) ≡ true }
+    ensures { IfOk result (λ a. answer_seen a ≡ literal_answer (of_reading (read (kind ty.now) at (tree literal.now)))) }
+{
+    match check_literal_at(alloc, ty, literal, at) {
+        Ok(literal) => checked_literal(alloc, &literal),
+        Err(CheckError::IllTyped(location)) => ill_typed(alloc, location),
+        Err(CheckError::Memory) => Err(Memory),
+    }
+}
+
+// The answer to a literal of a type.
+fn pack_literal(alloc: Global, ty: &Ty, literal: &Node, at: u32) -> Result<Answer, Memory>
+    requires { at + size (tree literal.now) < 2 ^ 32 }
+    ensures { IfOk result (λ a. answer_seen a ≡ pack_literal (kind ty.now) at (tree literal.now)) }
+{
+    if packable(ty) {
+        read_literal(alloc, ty, literal, at)
+    } else {
+        ill_typed(alloc, 1)
+    }
+}
+
+// The answer to a type and a literal.
+fn pack_typed(alloc: Global, ty: &Node, literal: &Node) -> Result<Answer, Memory>
+    requires { 1 + size (tree ty.now) + size (tree literal.now) < 2 ^ 32 }
+    ensures { IfOk result (λ a. answer_seen a ≡ packing_answer (type_at 1 (tree ty.now)) (tree ty.now) (tree literal.now)) }
+{
+    match type_at(alloc, ty, 1) {
+        Ok(found) => pack_literal(alloc, &found, literal, behind(ty, 1)),
+        Err(TypeError::BadType(location)) => ill_typed(alloc, location),
+        Err(TypeError::TypeTooLarge | TypeError::RepeatedEntrypoint(_)) => ill_typed(alloc, 1),
+        Err(TypeError::Memory) => Err(Memory),
+    }
+}
+
+/// The answer to a node that is `Pack type literal`: the bytes of PACK, or why there are none. None where the node hasn't this
+/// form.
+pub(crate) fn pack_node(alloc: Global, node: &Node) -> Result<Option<Answer>, Memory>
+    requires { size (tree node.now) < 2 ^ 32 }
+    ensures { IfOk result (λ a. option_map answer_seen a ≡ pack_node (tree node.now)) }
+{
+    let Node::Prim(app) = node else {
+        return Ok(None);
+    };
+    if !app.annots.is_empty() || app.name.as_slice() != b"Pack".as_slice() {
+        return Ok(None);
+    }
+    match app.args.both() {
+        Some((ty, literal)) => Ok(Some(pack_typed(alloc, ty, literal)?)),
+        None => Ok(None),
+    }
+}
