@@ -3,8 +3,8 @@ use Rattle.mich_overload.specs.View.{kinds}
 use Rattle.mich_control.proofs.Branches.{branches_none, branches_stand}
 use Rattle.mich_control.proofs.shapes.branch_stacks.Goals as goal
 
-pub returns-in_None-2 : goal.returns-in_None-2
-returns-in_None-2 c = branches_none _ _ _ _ (sym (ap kinds c.as_slice.ensures) ∙ c.in-Some.ensures) (rw c.in_None-2.is at c.in_ok-first.ensures)
+pub returns-in_default-2 : goal.returns-in_default-2
+returns-in_default-2 c = branches_none _ _ _ _ (sym (ap kinds c.as_slice.ensures) ∙ c.in-Some.ensures) (rw c.in_default-2.is at c.in_ok-first.ensures)
 
 pub returns : goal.returns
 returns c =
