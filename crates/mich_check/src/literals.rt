@@ -76,12 +76,7 @@ pub fn check_literal(alloc: Global, ty: &Ty, node: &Node) -> Result<Checked, Che
 }
 
 /// The same of the node at a location, from which its locations are counted.
-pub fn check_literal_at(
-    alloc: Global,
-    ty: &Ty,
-    node: &Node,
-    at: u32,
-) -> Result<Checked, CheckError>
+pub fn check_literal_at(alloc: Global, ty: &Ty, node: &Node, at: u32) -> Result<Checked, CheckError>
     requires { at + size (tree node.now) < 2 ^ 32 }
     ensures { IsChecked (of_reading (read (kind ty.now) at (tree node.now))) result }
 {
