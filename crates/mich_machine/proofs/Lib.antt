@@ -1,9 +1,12 @@
+pub mod Keys
 pub mod Flat
 pub mod Paid
 pub mod Codes
 pub mod Any
 pub mod Listed
 pub mod Mapped
+pub mod Rebuilt
+pub mod Results
 pub mod Begun
 pub mod Left
 pub mod Stepped

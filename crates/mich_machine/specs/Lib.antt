@@ -1,4 +1,5 @@
 pub mod Items
+pub mod Made
 pub mod Parts
 pub mod View
 pub mod Ends

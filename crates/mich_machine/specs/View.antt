@@ -14,6 +14,7 @@ use Rattle.mich_frames.specs.Frames as fr
 use Rattle.rules_steps.specs.Environment.{Environment}
 use Rattle.rules_steps.specs.Changes.{Change}
 use Rattle.mich_machine.specs.Items.{items_left}
+use Rattle.mich_machine.specs.Made.{making_of}
 use Rattle.mich_machine.specs.declared.frame.Frame.{Frame}
 use Rattle.mich_machine.specs.declared.frame.Frame.TheVariants as f
 use Rattle.mich_machine.specs.declared.state.State.{State}
@@ -37,6 +38,7 @@ frame big (f.Rest block at) = fr.rest (codes (drop at block))
 frame big (f.Turns body) = fr.turns (codes body)
 frame big (f.LeftTurns body) = fr.left_turns (codes body)
 frame big (f.Each body items) = fr.each (codes body) (items_left big items)
+frame big (f.Making body making) = making_of big (codes body) making
 frame big (f.Under above) = fr.under (tops big above)
 frame big (f.Call below) = fr.call (tops big below)
 

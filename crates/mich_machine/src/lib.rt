@@ -11,6 +11,8 @@ mod items;
 mod iterating;
 mod loops;
 mod machine;
+mod made;
+mod mapping;
 mod paying;
 mod run;
 mod stack;
