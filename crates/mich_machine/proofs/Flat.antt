@@ -6,7 +6,7 @@ use Rattle.rules_values.specs.Val as v
 use Rattle.mich_term.specs.View.{datum, vals_of, pairs_of}
 use Rattle.mich_term.specs.ValueView.{val, value_step, big_step, big_pairs}
 use Rattle.mich_term.specs.declared.datum.Datum.{Datum}
-use Rattle.mich_machine.proofs.Keys.{datum_comparable}
+use Rattle.mich_data.proofs.Keys.{datum_comparable}
 use Rattle.mich_term.specs.declared.value.Value.{Value, roll-Value, ind-Value, fold-roll-Value, map-Value}
 use Rattle.mich_term.specs.declared.value.Value.TheOpen.{Value-F}
 use Rattle.mich_term.specs.declared.value.BigMap.{BigMap, fold-BigMap}

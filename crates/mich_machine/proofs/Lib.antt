@@ -1,5 +1,8 @@
-pub mod Keys
 pub mod Flat
+pub mod Moved
+pub mod Weighed
+pub mod Showing
+pub mod Ruled
 pub mod Paid
 pub mod Codes
 pub mod Any

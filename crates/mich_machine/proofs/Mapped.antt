@@ -1,9 +1,9 @@
 -- Collections and their items.
-use Rattle.std.proofs.Common.{◌≡◌, ℕ, Bool, List, [], ◌∷◌, ◌++◌, map, reverse, length, refl, sym, ap, ◌∙◌, rules}
-use Rattle.std.proofs.lemmas.List.{reverse-reverse, append-nil}
+use Rattle.std.proofs.Common.{◌≡◌, ℕ, Bool, List, [], ◌∷◌, ◌++◌, map, reverse, length, append_assoc, refl, sym, ap, ◌∙◌, rules}
+use Rattle.std.proofs.lemmas.List.{reverse-reverse, append-nil, map-append}
 use Rattle.rules_values.specs.Val.{Val, Vals, Pairs, no_val, more_vals, no_pair, more_pairs}
 use Rattle.rules_values.specs.Val as v
-use Rattle.rules_evaluation.specs.Items.{entries, list_of, with_values, rebuilt}
+use Rattle.rules_evaluation.specs.Items.{elements, entries, list_of, with_values, rebuilt}
 use Rattle.mich_base.specs.View.{tree}
 use Rattle.mich_base.specs.declared.node.Node.{Node}
 use Rattle.mich_term.specs.View.{datum, datums, vals_of}
@@ -14,7 +14,10 @@ use Rattle.mich_term.specs.declared.value.Value.TheVariants as value
 use Rattle.mich_stack.specs.Views.{Sight, seen}
 use Rattle.mich_machine.specs.Made.{vals_by, pairs_by}
 use Rattle.mich_frames.proofs.Remapped.{AreAlike}
+use Rattle.mich_term.specs.ValueView.{val}
 use Rattle.mich_machine.specs.Items.{entry_pair}
+use Rattle.mich_machine.proofs.Flat.{datum_is}
+use Rattle.mich_machine.proofs.Listed.{elements_are}
 use Rattle.mich_machine.specs.Made.{Entry, keyed, key_of, value_in}
 
 pub seen_set : (big : Sight) (ds : List Datum) → seen big (value.Set ds) ≡ v.set (datums ds)
@@ -73,3 +76,22 @@ rebuilt_list big made = ap v.list (list_of_is (map (seen big) made))
 
 pub rebuilt_table : (big : Sight) (made : List Entry) → rebuilt (v.table (keyed (map key_of made ++ []))) (map (value_in big) made) ≡ v.table (pairs_by big made)
 rebuilt_table big made = ap (λ ks. v.table (with_values (keyed ks) (map (value_in big) made))) (append-nil (map key_of made)) ∙ ap v.table (with_own big made)
+
+pub elements_are_data : (ds : List Datum) → elements (datums ds) ≡ map datum ds
+elements_are_data ds = elements_are (map datum ds)
+
+-- a key and a value as a pair
+pub pair_is : (big : Sight) (k : Datum) (first second : Value) → val first ≡ datum k → seen big (value.Pair first second) ≡ entry_pair big (k, second)
+pair_is big k first second e = seen_pair big first second ∙ ap (λ x. v.both x (seen big second)) (datum_is big first k e)
+
+-- one more element as a value
+pub elements_step : (big : Sight) (vs new : List Value) (x : Value) (iter rest all : List Datum) (d : Datum) → iter ≡ d ∷ rest → new ≡ vs ++ x ∷ [] → val x ≡ datum d →
+    map (seen big) vs ++ map datum iter ≡ map datum all → map (seen big) new ++ map datum rest ≡ map datum all
+elements_step big vs new x iter rest all d step pushed e so_far =
+    ap (λ l. map (seen big) l ++ map datum rest) pushed
+    ∙ ap (λ l. l ++ map datum rest) (map-append (seen big) vs (x ∷ []))
+    ∙ append_assoc (map (seen big) vs) (seen big x ∷ []) (map datum rest)
+    ∙ ap (λ y. map (seen big) vs ++ y ∷ map datum rest) (datum_is big x d e)
+    ∙ ap (λ ds. map (seen big) vs ++ map datum ds) (sym step)
+    ∙ so_far
+

@@ -11,6 +11,9 @@ use Rattle.mich_machine.specs.declared.items.Items.TheVariants as i
 abbrev pub entry_pair : Sight → Datum × Value → Val
 entry_pair big e = both (datum e.0) (seen big e.1)
 
+abbrev pub entry_by : Sight → Datum × Value → Datum × Val
+entry_by big e = (e.0, seen big e.1)
+
 abbrev pub items_left : Sight → Items → List Val
 items_left big (i.Values vs) = map (seen big) (reverse vs)
 items_left big (i.Entries es) = map (entry_pair big) (reverse es)

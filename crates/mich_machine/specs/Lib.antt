@@ -1,3 +1,6 @@
+pub mod Shown
+pub mod Rules
+pub mod Issues
 pub mod Items
 pub mod Made
 pub mod Parts

@@ -3,7 +3,7 @@ use Rattle.std.specs.Prelude.{ℕ, ℤ, List, map, reverse, drop, Option}
 use Rattle.rules_values.specs.Val.{Val}
 use Rattle.rules_values.specs.Tickets.{Identity}
 use Rattle.rules_evaluation.specs.Surroundings.{Contract}
-use Rattle.rules_evaluation.specs.Operations.{Issued, Tally}
+use Rattle.rules_evaluation.specs.Operations.{Tally}
 use Rattle.mich_gas.specs.declared.costs.Costs.{Costs}
 use Rattle.mich_gas.specs.View.{listed}
 use Rattle.mich_term.specs.declared.value.Value.{Value}
@@ -11,23 +11,21 @@ use Rattle.mich_stack.specs.Views.{Sight, seen}
 use Rattle.mich_instr.specs.View.{codes}
 use Rattle.mich_frames.specs.Around.{Around}
 use Rattle.mich_frames.specs.Frames as fr
-use Rattle.rules_steps.specs.Environment.{Environment}
-use Rattle.rules_steps.specs.Changes.{Change}
+use Rattle.mich_step.specs.Views.{environment}
+use Rattle.mich_machine.specs.Issues.{all_issued_by}
+use Rattle.mich_machine.specs.Rules.{Shows, changes}
 use Rattle.mich_machine.specs.Items.{items_left}
 use Rattle.mich_machine.specs.Made.{making_of}
 use Rattle.mich_machine.specs.declared.frame.Frame.{Frame}
 use Rattle.mich_machine.specs.declared.frame.Frame.TheVariants as f
 use Rattle.mich_machine.specs.declared.state.State.{State}
 
--- what a run sees that its own state doesn't hold: the sight of big maps, its environment, the contracts, what was minted before
--- it, and what was issued and changed in it
+-- what a run sees that its own state doesn't hold: the sight of big maps, the contracts, and what was minted before it
 pub record Beyond : Type 0 where
   pub sight : Sight
-  pub environment : Environment
+  pub shows : Shows sight
   pub contract_at : List ℕ → Option Contract
   pub minted : Identity → ℤ
-  pub issued : List Issued
-  pub changes : List Change
 
 -- a stack of values, whose last element is on top, as it is written: the top first
 abbrev pub tops : Sight → List Value → List Val
@@ -48,7 +46,7 @@ frames big fs = map (frame big) (reverse fs)
 
 abbrev pub around : Beyond → Costs → State → Around
 around x costs m = record {
-  environment = x.environment;
+  environment = environment m.env;
   group = m.counts.group;
   prices = listed costs;
   contract_at = x.contract_at;
@@ -60,6 +58,6 @@ tally x m = record {
   gas = m.meter;
   operations = m.counts.issued;
   originations = m.counts.originated;
-  issued = x.issued;
-  changes = x.changes;
+  issued = all_issued_by x.sight m.issued;
+  changes = changes m.told;
 }

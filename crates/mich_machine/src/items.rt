@@ -25,6 +25,15 @@ pub(crate) fn values_of(list: Rows<Value>) -> Rows<Value>
     Rows::from_vec(values)
 }
 
+// Entries, the first one last.
+pub(crate) fn backwards(entries: Rows<(Datum, Value)>) -> Rows<(Datum, Value)>
+    ensures { result ≡ reverse entries }
+{
+    let mut entries = entries.into_vec();
+    entries.reverse();
+    Rows::from_vec(entries)
+}
+
 // The first value of a list, and the others. None where there is none.
 pub(crate) fn split_list(list: Rows<Value>) -> Option<(Value, Rows<Value>)>
     ensures { MatchOption result (list ≡ []) (λ p. list ≡ p.0 ∷ p.1) }
@@ -38,6 +47,7 @@ pub(crate) fn split_list(list: Rows<Value>) -> Option<(Value, Rows<Value>)>
 }
 
 // The elements of a set as values, in order.
+#[tactic(auto, using(crate::proofs::Mapped::elements_step))]
 fn elements_of(alloc: Global, set: &Elements) -> Result<Rows<Value>, Memory>
     ensures { IfOk result (λ vs. (big : Sight) → map (seen big) vs ≡ map datum set.now) }
 {
@@ -48,17 +58,15 @@ fn elements_of(alloc: Global, set: &Elements) -> Result<Rows<Value>, Memory>
     Ok(values)
 }
 
-// The entries of a map, the first one last.
+// The entries of a map, in order.
 pub(crate) fn entries_of(alloc: Global, table: Table<Value>) -> Result<Rows<(Datum, Value)>, Memory>
-    ensures { IfOk result (λ es. es ≡ reverse table) }
+    ensures { IfOk result (λ es. es ≡ table) }
 {
     let mut entries = Rows::new(alloc);
     for entry in table.into_entries() {
         entries.push(entry)?;
     }
-    let mut entries = entries.into_vec();
-    entries.reverse();
-    Ok(Rows::from_vec(entries))
+    Ok(entries)
 }
 
 // The items of a list, a set or a map.
@@ -74,7 +82,7 @@ pub(crate) fn items_of(alloc: Global, value: Value) -> Result<Items, Memory>
         }
         Value::Map(table) => {
             let entries = entries_of(alloc, table)?;
-            Ok(Items::Entries(entries))
+            Ok(Items::Entries(backwards(entries)))
         }
         _ => unreachable!(),
     }
@@ -91,6 +99,7 @@ pub(crate) fn is_done(items: &Items) -> bool
 }
 
 // A key and its value as a pair.
+#[tactic(auto, using(crate::proofs::Mapped::pair_is))]
 pub(crate) fn pair_of(alloc: Global, key: &Datum, value: Value) -> Result<Value, Memory>
     ensures { IfOk result (λ v. (big : Sight) → seen big v ≡ entry_pair big (key.now, value)) }
 {

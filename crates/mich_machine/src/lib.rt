@@ -13,10 +13,15 @@ mod loops;
 mod machine;
 mod made;
 mod mapping;
+mod operations;
 mod paying;
+mod prices;
+mod rows;
 mod run;
 mod stack;
 mod state;
+mod straights;
+mod weights;
 
 pub use act::Failed;
 pub use machine::Ended;

@@ -10,14 +10,15 @@ ghost use Rattle.mich_machine.specs.Runs.{InBlock, Behind, HasActedIn, IsStep, I
 
 use crate::act::{Act, Failed};
 use crate::branches::{act_if, act_if_cons, act_if_left, act_if_none};
-use crate::calls::act_failwith;
+use crate::calls::{act_exec, act_failwith};
 use crate::dipping::act_dip;
 use crate::frame::Frame;
-use crate::giving::act_lambda;
+use crate::giving::{act_lambda, act_push, act_self};
 use crate::iterating::{act_iter, next_each};
 use crate::loops::{act_loop, act_loop_left, next_left_turn, next_turn};
 use crate::mapping::{act_map, next_made};
 use crate::stack::{put_all, put_below};
+use crate::straights::act_straight;
 use crate::state::State;
 use mich_base::{Memory, Rows};
 use mich_gas::Costs;
@@ -72,10 +73,14 @@ fn perform(alloc: Global, m: &mut State, costs: &Costs, instr: &Instr) -> Result
         Instr::Iter(body) => Ok(act_iter(alloc, m, costs, body)?),
         Instr::Map(body) => Ok(act_map(alloc, m, costs, body)?),
         Instr::Dip { count, body, .. } => Ok(act_dip(alloc, m, costs, *count, body)?),
+        Instr::Exec { arg, ret } => Ok(act_exec(alloc, m, costs, arg, ret)?),
         Instr::Failwith(ty) => Ok(act_failwith(alloc, m, costs, ty)?),
+        Instr::Straight(instr, _) => Ok(act_straight(alloc, m, costs, instr)?),
+        Instr::Push { ty, literal, .. } => Ok(act_push(alloc, m, costs, ty, literal)?),
         Instr::Lambda {
             recursive, body, ..
         } => Ok(act_lambda(m, costs, *recursive, body)?),
+        Instr::SelfContract { entrypoint, .. } => Ok(act_self(alloc, m, costs, entrypoint)?),
         Instr::Never | Instr::Seq(_) => unreachable!(),
         _ => Err(Memory),
     }

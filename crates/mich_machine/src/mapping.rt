@@ -13,7 +13,7 @@ ghost use Rattle.mich_machine.specs.Ends.{Comes, Carries, Waits, Resumes, WaitsO
 
 use crate::act::{Act, Failed};
 use crate::frame::Frame;
-use crate::items::{entries_of, pair_of, values_of};
+use crate::items::{backwards, entries_of, pair_of, values_of};
 use crate::made::{Making, OverList, OverTable};
 use crate::paying::pay;
 use crate::stack::{pop, push};
@@ -25,7 +25,7 @@ use mich_term::{Datum, Table, Value, compare};
 use std::alloc::Global;
 use std::cmp::Ordering;
 
-#[tactic(auto, using(crate::proofs::Keys::datum_comparable))]
+#[tactic(auto, using(mich_data::proofs::Keys::datum_comparable))]
 fn stands_behind(before: Option<&Datum>, key: &Datum) -> bool
     ensures { result ≡ is_behind (option_map (λ d. datum d.now) before.entry) (datum key.now) }
 {
@@ -198,7 +198,7 @@ fn begin_map(
         }
         Value::Map(table) => {
             let body = body.share()?;
-            let left = entries_of(alloc, table)?;
+            let left = backwards(entries_of(alloc, table)?);
             let made = Table::new(alloc);
             Ok(next_entry(alloc, m, costs, body, OverTable { left, made })?)
         }

@@ -1,9 +1,9 @@
 use Rattle.std.proofs.Common.{ap, ◌∙◌}
-use Rattle.mich_base.specs.View.{trees}
+use Rattle.mich_base.specs.View.{tree, trees, app_tree}
 use Rattle.mich_base.specs.TypeView.{kind}
 use Rattle.mich_instr.specs.View.{code, codes}
 use Rattle.mich_frames.proofs.Calls.{never_meets}
-use Rattle.mich_machine.proofs.Codes.{code_dip, code_lambda, code_never}
+use Rattle.mich_machine.proofs.Codes.{code_dip, code_push, code_lambda, code_self, code_straight, code_never}
 use Rattle.mich_machine.proofs.machine.perform.Goals as goal
 
 pub act_dip-requires : goal.act_dip-requires
@@ -14,6 +14,15 @@ act_dip-requires c =
 pub returns-in_ok-act_dip-in-Dip-clause-acts : goal.returns-in_ok-act_dip-in-Dip-clause-acts
 returns-in_ok-act_dip-in-Dip-clause-acts c = λ x fs d Z o h.
     c.in_ok-act_dip-in-Dip.ensures.acts (trees c.in-Dip.written) x fs d Z o (rw (ap code c.in-Dip.is ∙ code_dip c.in-Dip.count c.in-Dip.written c.in-Dip.body) at h)
+
+pub act_push-requires : goal.act_push-requires
+act_push-requires c =
+    let r = c.requires.comes in
+    (tree c.in-Push.written, (r.0, r.1, r.2, r.3, r.4, rw (ap code c.in-Push.is ∙ code_push c.in-Push.ty c.in-Push.written c.in-Push.literal) at r.5))
+
+pub returns-in_ok-act_push-in-Push-clause-acts : goal.returns-in_ok-act_push-in-Push-clause-acts
+returns-in_ok-act_push-in-Push-clause-acts c = λ x fs d Z o h.
+    c.in_ok-act_push-in-Push.ensures.acts (tree c.in-Push.written) x fs d Z o (rw (ap code c.in-Push.is ∙ code_push c.in-Push.ty c.in-Push.written c.in-Push.literal) at h)
 
 pub act_lambda-requires : goal.act_lambda-requires
 act_lambda-requires c =
@@ -26,3 +35,11 @@ returns-in_ok-act_lambda-in-Lambda-clause-acts c = λ x fs d Z o h.
     let l = c.in-Lambda in
     c.in_ok-act_lambda-in-Lambda.ensures.acts (kind l.arg) (kind l.ret) (trees l.written) (codes l.code) x fs d Z o (rw (ap code l.is ∙ code_lambda l.recursive l.arg l.ret l.written l.body l.code) at h)
 
+pub act_self-requires : goal.act_self-requires
+act_self-requires c =
+    let r = c.requires.comes in
+    (c.in-SelfContract.annots, (r.0, r.1, r.2, r.3, r.4, rw (ap code c.in-SelfContract.is ∙ code_self c.in-SelfContract.entrypoint c.in-SelfContract.annots) at r.5))
+
+pub returns-in_ok-act_self-in-SelfContract-clause-acts : goal.returns-in_ok-act_self-in-SelfContract-clause-acts
+returns-in_ok-act_self-in-SelfContract-clause-acts c = λ x fs d Z o h.
+    c.in_ok-act_self-in-SelfContract.ensures.acts c.in-SelfContract.annots x fs d Z o (rw (ap code c.in-SelfContract.is ∙ code_self c.in-SelfContract.entrypoint c.in-SelfContract.annots) at h)
