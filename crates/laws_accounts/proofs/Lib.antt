@@ -5,7 +5,6 @@ pub mod Environments
 pub mod Holdings
 pub mod Identities
 pub mod KindTexts
-pub mod Literals
 pub mod More
 pub mod Mutez
 pub mod ReadKinds

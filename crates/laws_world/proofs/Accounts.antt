@@ -28,7 +28,7 @@ use Rattle.rules_world.specs.Good.{FitsIn}
 use Rattle.laws_runs.specs.Going.{KeepsGoing}
 use Rattle.laws_accounts.proofs.Amounts.{ticket_positive}
 use Rattle.laws_accounts.proofs.Holdings.{credited_held, with_amount_form}
-use Rattle.laws_accounts.proofs.Literals.{simple_bare}
+use Rattle.laws_agreement.proofs.Literals.{IsBare, simple_bare}
 use Rattle.laws_accounts.proofs.More.{Extends}
 use Rattle.laws_accounts.proofs.Mutez.{account_supply}
 use Rattle.laws_runs.proofs.Moves.{in_order, implicit_hash, moved_moves, moved_supply}
@@ -187,7 +187,7 @@ module _ (start : World) (s : Setting) (contents : ℕ) (w : World) (t : Transac
       no_ticket (v.ticket issuer kind content amount) h = absurd cc
       no_ticket _ h = refl
 
-      by : (o : Option Val) → Rattle.laws_accounts.proofs.Literals.IsBare o → IsHandedOver o
+      by : (o : Option Val) → IsBare o → IsHandedOver o
       by None h = tt
       by (Some x) h = let n = no_ticket x h in rw n (tt, e)
 

@@ -1,5 +1,5 @@
 -- The nodes of a file, and the answer to its script.
-use Rattle.std.proofs.Common.{◌≡◌, ℕ, ◌+◌, ◌≤◌, true, false, List, [], ◌∷◌, ◌++◌, length, map, Option, Some, None, Result, Ok, Err, IfOk, inl, inr, refl, ap, ◌∙◌, sym, subst, rules, arith}
+use Rattle.std.proofs.Common.{◌≡◌, ℕ, ◌+◌, ◌≤◌, true, false, List, [], ◌∷◌, ◌++◌, length, map, Option, Some, None, Result, Ok, Err, IfOk, inl, inr, refl, ap, ◌∙◌, sym, subst, arith}
 use Rattle.std.proofs.lemmas.List.{map-append}
 use Rattle.rules_base.specs.Tree.{Tree, int, str, bytes, prim, seq, trees_of, size, sizes}
 use Rattle.std.specs.Prelude.{codes}

@@ -1,6 +1,6 @@
 // A file whose script is typed.
-ghost use Rattle.std.specs.Prelude.{◌≡◌, ◌<◌, ◌≤◌, ◌^◌, ◌+◌, [], IfOk, length, map, codes};
-ghost use Rattle.rules_base.specs.Tree.{size, sizes, trees_of};
+ghost use Rattle.std.specs.Prelude.{◌≡◌, ◌<◌, ◌^◌, ◌+◌, IfOk, length, map, codes};
+ghost use Rattle.rules_base.specs.Tree.{size, sizes};
 ghost use Rattle.rules_replay.specs.Codec.{of_text};
 ghost use Rattle.rules_replay.specs.Answers.{done_with};
 ghost use Rattle.rules_lines.specs.Nodes.{line, word};

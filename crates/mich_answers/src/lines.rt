@@ -1,5 +1,5 @@
 // The lines that are written.
-ghost use Rattle.std.specs.Prelude.{◌≡◌, ◌++◌, ◌∷◌, [], IfOk, string_bytes, codes};
+ghost use Rattle.std.specs.Prelude.{◌≡◌, IfOk, string_bytes};
 ghost use Rattle.rules_lines.specs.Nodes.{line};
 ghost use Rattle.rules_replay.specs.Lines.{refusal_line, text_kind_name};
 ghost use Rattle.mich_base.specs.View.{tree};

@@ -1,5 +1,5 @@
 // A node whose literal is packed.
-ghost use Rattle.std.specs.Prelude.{◌≡◌, ◌+◌, ◌<◌, ◌^◌, true, IfOk, Some, option_map};
+ghost use Rattle.std.specs.Prelude.{◌≡◌, ◌+◌, ◌<◌, ◌^◌, true, IfOk, option_map};
 ghost use Rattle.rules_base.specs.Tree.{size, sizes};
 ghost use Rattle.rules_types.specs.Attributes.{packable};
 ghost use Rattle.rules_types.specs.Reading.{type_at};
