@@ -1,0 +1,9 @@
+//! The text of a workload to measure with.
+#![tactic(auto)]
+
+mod workload;
+
+pub use workload::scenario;
+
+#[cfg(test)]
+mod tests;
