@@ -14,7 +14,7 @@ use Rattle.rules_typing.specs.Fits.{Known, AllFit, Leads}
 use Rattle.rules_steps.specs.Changes.{amount_among, amount_in, minted_in, burnt_in}
 use Rattle.rules_evaluation.specs.Surroundings.{Surroundings}
 use Rattle.rules_evaluation.specs.Operations.{Issued, Tally, operation_tickets}
-use Rattle.rules_evaluation.specs.Outcome.{Outcome, stack}
+use Rattle.rules_evaluation.specs.Outcome.{Outcome, stack, stuck}
 use Rattle.rules_evaluation.specs.Evaluation.{node, tree_run, eval_task, eval}
 use Rattle.laws_types.specs.Laws.{IsWellFormed}
 use Rattle.laws_evaluation.specs.Laws.{IsCharged, IsGood, known}
@@ -112,3 +112,13 @@ node_leaves e d t A M B V W m n charged small leads good sound same =
     leaves e m V (tree_type t e.context A) M B W n leads (tree_types t e.context (contexts e good) A sound.types)
     (subst (KeepsFrom (seen e) m.issued m.changes V (tree_type t e.context A)) whole (safe_eval parts t small e d A V m good sound))
     (subst (KeepsTotal V m) whole (totals t e d A V m (sees e good) (all_fitting_agree (known e.contract_at m.issued) A V (all_well A sound.types) sound.fit)))
+
+pub node_sound : (e : Surroundings) (d : ℕ) (t : Tree) (A M : List Kind) (V : List Val) (m : Tally) → size t < 2 ^ 32 → Leads (tree_type t e.context A) M → IsGood e →
+    Sound (seen e) m.issued m.changes A V → eval t e d A V m ≡ stuck → ⊥
+node_sound e d t A M V m small leads good sound same =
+    by (tree_type t e.context A) leads (subst (KeepsFrom (seen e) m.issued m.changes V (tree_type t e.context A)) same (safe_eval parts t small e d A V m good sound))
+  where
+    by : (x : Typing) → Leads x M → KeepsFrom (seen e) m.issued m.changes V x stuck → ⊥
+    by (goes B) l h = h
+    by fails l h = h
+    by (bad i) l h = l

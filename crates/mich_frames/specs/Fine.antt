@@ -1,6 +1,6 @@
 -- What holds while typed code runs: the values on the stack and in what is pending fit their types, and their tickets, with those
 -- of issued operations and those that were burnt, are within what was minted (Octez "Tickets").
-use Rattle.std.specs.Prelude.{◌≡◌, ◌+◌, ℕ, ℤ, pos, ◌+ℤ◌, ◌≤ℤ◌, List, [], ◌∷◌, length}
+use Rattle.std.specs.Prelude.{◌≡◌, ◌+◌, ◌++◌, ℕ, suc, ℤ, pos, ◌+ℤ◌, ◌≤ℤ◌, List, [], ◌∷◌, length}
 use Rattle.std.specs.List.{AllByRecursion}
 use Rattle.rules_types.specs.Kind.{Kind}
 use Rattle.rules_instructions.specs.Context.{Context}
@@ -9,7 +9,7 @@ use Rattle.rules_values.specs.Tickets.{Identity}
 use Rattle.rules_typing.specs.Fits.{Known, Fits, AllFit}
 use Rattle.rules_steps.specs.Changes.{Change, minted_in, burnt_in}
 use Rattle.rules_evaluation.specs.Operations.{Issued}
-use Rattle.rules_evaluation.specs.Items.{with_items}
+use Rattle.rules_evaluation.specs.Items.{with_items, rebuilt}
 use Rattle.laws_evaluation.specs.Laws.{known, IsType, IsGood, most_tickets, amount_on, amount_issued}
 use Rattle.laws_stacks.specs.Sound.{seen, AllTypes, IsWell}
 use Rattle.mich_instr.specs.Typed.{IsMapped}
@@ -42,13 +42,16 @@ burnt_by u cs id = u.burnt id +ℤ burnt_in id cs
 
 -- ---- what is pending
 
--- what MAP goes over has its type, and an item for each result that is made and each item that is left
-pub record IsMapping (w : Known) (m : Mapping) (ys xs : List Val) : Type 0 where
+-- MAP went over a collection of its type, which has an item for each result that is made and each that is still to come; what is kept
+-- of it is rebuilt as the collection is
+pub record IsMapping (w : Known) (m : Mapping) (left : ℕ) (ys xs : List Val) : Type 0 where
   pub kinds : IsMapped m.collection m.item m.result (with_items m.collection m.result)
   pub item : IsType m.item
   pub whole : IsType (with_items m.collection m.result)
-  pub over : Fits w m.collection m.over
-  pub count : length ys + length xs ≡ length (items_in m.over)
+  pub origin : Val
+  pub fits : Fits w m.collection origin
+  pub count : length ys + left ≡ length (items_in origin)
+  pub alike : (zs : List Val) → length zs ≡ left → rebuilt origin (ys ++ zs) ≡ rebuilt m.over (ys ++ zs)
   pub results : AllByRecursion (Fits w m.result) ys
   pub items : AllByRecursion (Fits w m.item) xs
 
@@ -59,8 +62,8 @@ PendingFits w (p.rest ts ∷ ps) = PendingFits w ps
 PendingFits w (p.turns A ts ∷ ps) = PendingFits w ps
 PendingFits w (p.left_turns a b A ts ∷ ps) = PendingFits w ps
 PendingFits w (p.each a A ts xs ∷ ps) = IsType a × AllByRecursion (Fits w a) xs × PendingFits w ps
-PendingFits w (p.mapping m ys xs ∷ ps) = IsMapping w m ys xs × PendingFits w ps
-PendingFits w (p.making m ys xs ∷ ps) = IsMapping w m ys xs × PendingFits w ps
+PendingFits w (p.mapping m ys xs ∷ ps) = IsMapping w m (length xs) ys xs × PendingFits w ps
+PendingFits w (p.making m ys xs ∷ ps) = IsMapping w m (suc (length xs)) ys xs × PendingFits w ps
 PendingFits w (p.under A W ∷ ps) = AllTypes A × AllFit w A W × PendingFits w ps
 PendingFits w (p.call e r A W ∷ ps) = IsGood e × AllTypes A × AllFit w A W × PendingFits w ps
 PendingFits w (p.viewing e is cs b A W ∷ ps) = ⊥
