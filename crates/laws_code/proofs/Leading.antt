@@ -49,70 +49,72 @@ next_leads {c = c} {t = t} {ts = ts} {A = A} {M = M} {B = B} x y h = by (tree_ty
     by fails (more u us) y s shifted h = absurd h
     by (bad l) ts y s shifted h = absurd h
 
-module _ {name : List ℕ} {annots : List (List ℕ)} {c : Context} where
-  form_typed : (form : f.Form) (ts : Trees) (A B : List Kind) → HasForm form name → Leads (tree_type (prim name annots ts) c A) B →
+abbrev two : Trees → Trees → Trees
+two ts us = more (seq ts) (more (seq us) none)
+
+abbrev one : Trees → Trees
+one ts = more (seq ts) none
+
+module _ (name : List ℕ) (annots : List (List ℕ)) where
+  form_typed : (form : f.Form) (ts : Trees) (c : Context) (A B : List Kind) → HasForm form name → Leads (tree_type (prim name annots ts) c A) B →
       IsTyped (act_type form (primitive_of_name name) annots ts (meanings ts) c A)
-  form_typed form ts A B has_form h = subst IsTyped (type_is form name annots ts c A has_form) (typed_of (tree_type (prim name annots ts) c A) B h)
+  form_typed form ts c A B has_form h = subst IsTyped (type_is form name annots ts c A has_form) (typed_of (tree_type (prim name annots ts) c A) B h)
 
-  module _ {ts us : Trees} {is js : Codes} {A B : List Kind} where
-    abbrev two : Trees
-    two = more (seq ts) (more (seq us) none)
+  pub if_leads : {c : Context} {ts us : Trees} {is js : Codes} {A B : List Kind} → HasForm f.if_bool name → AreCode c ts is A B → AreCode c us js A B →
+      Leads (tree_type (prim name annots (two ts us)) c (t.bool ∷ A)) B → Leads (trees_type ts c A) B × Leads (trees_type us c A) B
+  if_leads {c = c} {ts = ts} {us = us} {A = A} {B = B} form x y h = let p = typed_join _ _ (form_typed f.if_bool (two ts us) c (t.bool ∷ A) B form h) in (body_leads _ x p.0, body_leads _ y p.1)
 
-    pub if_leads : HasForm f.if_bool name → AreCode c ts is A B → AreCode c us js A B → Leads (tree_type (prim name annots two) c (t.bool ∷ A)) B →
-        Leads (trees_type ts c A) B × Leads (trees_type us c A) B
-    if_leads form x y h = let p = typed_join _ _ (form_typed f.if_bool two (t.bool ∷ A) B form h) in (body_leads _ x p.0, body_leads _ y p.1)
+  pub if_none_leads : {c : Context} {ts us : Trees} {is js : Codes} {a : Kind} {A B : List Kind} → HasForm f.if_none name → AreCode c ts is A B → AreCode c us js (a ∷ A) B →
+      Leads (tree_type (prim name annots (two ts us)) c (k.option a ∷ A)) B → Leads (trees_type ts c A) B × Leads (trees_type us c (a ∷ A)) B
+  if_none_leads {c = c} {ts = ts} {us = us} {a = a} {A = A} {B = B} form x y h =
+      let p = typed_join _ _ (form_typed f.if_none (two ts us) c (k.option a ∷ A) B form h) in (body_leads _ x p.0, body_leads _ y p.1)
 
-    pub if_none_leads : {a : Kind} → HasForm f.if_none name → AreCode c ts is A B → AreCode c us js (a ∷ A) B → Leads (tree_type (prim name annots two) c (k.option a ∷ A)) B →
-        Leads (trees_type ts c A) B × Leads (trees_type us c (a ∷ A)) B
-    if_none_leads {a = a} form x y h = let p = typed_join _ _ (form_typed f.if_none two (k.option a ∷ A) B form h) in (body_leads _ x p.0, body_leads _ y p.1)
+  pub if_left_leads : {c : Context} {ts us : Trees} {is js : Codes} {a b : Kind} {A B : List Kind} → HasForm f.if_left name → AreCode c ts is (a ∷ A) B → AreCode c us js (b ∷ A) B →
+      Leads (tree_type (prim name annots (two ts us)) c (k.or a b ∷ A)) B → Leads (trees_type ts c (a ∷ A)) B × Leads (trees_type us c (b ∷ A)) B
+  if_left_leads {c = c} {ts = ts} {us = us} {a = a} {b = b} {A = A} {B = B} form x y h =
+      let p = typed_join _ _ (form_typed f.if_left (two ts us) c (k.or a b ∷ A) B form h) in (body_leads _ x p.0, body_leads _ y p.1)
 
-    pub if_left_leads : {a b : Kind} → HasForm f.if_left name → AreCode c ts is (a ∷ A) B → AreCode c us js (b ∷ A) B → Leads (tree_type (prim name annots two) c (k.or a b ∷ A)) B →
-        Leads (trees_type ts c (a ∷ A)) B × Leads (trees_type us c (b ∷ A)) B
-    if_left_leads {a = a} {b = b} form x y h = let p = typed_join _ _ (form_typed f.if_left two (k.or a b ∷ A) B form h) in (body_leads _ x p.0, body_leads _ y p.1)
+  pub if_cons_leads : {c : Context} {ts us : Trees} {is js : Codes} {a : Kind} {A B : List Kind} → HasForm f.if_cons name → AreCode c ts is (a ∷ k.list a ∷ A) B → AreCode c us js A B →
+      Leads (tree_type (prim name annots (two ts us)) c (k.list a ∷ A)) B → Leads (trees_type ts c (a ∷ k.list a ∷ A)) B × Leads (trees_type us c A) B
+  if_cons_leads {c = c} {ts = ts} {us = us} {a = a} {A = A} {B = B} form x y h =
+      let p = typed_join _ _ (form_typed f.if_cons (two ts us) c (k.list a ∷ A) B form h) in (body_leads _ x p.0, body_leads _ y p.1)
 
-    pub if_cons_leads : {a : Kind} → HasForm f.if_cons name → AreCode c ts is (a ∷ k.list a ∷ A) B → AreCode c us js A B → Leads (tree_type (prim name annots two) c (k.list a ∷ A)) B →
-        Leads (trees_type ts c (a ∷ k.list a ∷ A)) B × Leads (trees_type us c A) B
-    if_cons_leads {a = a} form x y h = let p = typed_join _ _ (form_typed f.if_cons two (k.list a ∷ A) B form h) in (body_leads _ x p.0, body_leads _ y p.1)
+  pub loop_leads : {c : Context} {ts : Trees} {is : Codes} {A : List Kind} (B : List Kind) → HasForm f.loop name → AreCode c ts is A (t.bool ∷ A) →
+      Leads (tree_type (prim name annots (one ts)) c (t.bool ∷ A)) B → Leads (trees_type ts c A) (t.bool ∷ A)
+  loop_leads {c = c} {ts = ts} {A = A} B form x h = body_leads _ x (typed_ends _ _ _ (form_typed f.loop (one ts) c (t.bool ∷ A) B form h))
 
-  module _ {ts : Trees} {is : Codes} {A B : List Kind} where
-    abbrev one : Trees
-    one = more (seq ts) none
+  pub loop_left_leads : {c : Context} {ts : Trees} {is : Codes} {a r : Kind} {A : List Kind} (B : List Kind) → HasForm f.loop_left name → AreCode c ts is (a ∷ A) (k.or a r ∷ A) →
+      Leads (tree_type (prim name annots (one ts)) c (k.or a r ∷ A)) B → Leads (trees_type ts c (a ∷ A)) (k.or a r ∷ A)
+  loop_left_leads {c = c} {ts = ts} {a = a} {r = r} {A = A} B form x h = body_leads _ x (typed_ends _ _ _ (form_typed f.loop_left (one ts) c (k.or a r ∷ A) B form h))
 
-    pub loop_leads : HasForm f.loop name → AreCode c ts is A (t.bool ∷ A) → Leads (tree_type (prim name annots one) c (t.bool ∷ A)) B → Leads (trees_type ts c A) (t.bool ∷ A)
-    loop_leads form x h = body_leads _ x (typed_ends _ _ _ (form_typed f.loop one (t.bool ∷ A) B form h))
+  pub iter_leads : {c : Context} {ts : Trees} {is : Codes} {s a : Kind} {A : List Kind} (B : List Kind) → HasForm f.iter name → HasParts s a → AreCode c ts is (a ∷ A) A →
+      Leads (tree_type (prim name annots (one ts)) c (s ∷ A)) B → Leads (trees_type ts c (a ∷ A)) A
+  iter_leads {c = c} {ts = ts} {A = A} B form (of_list {a = a}) x h = body_leads _ x (typed_ends _ _ _ (form_typed f.iter (one ts) c (k.list a ∷ A) B form h))
+  iter_leads {c = c} {ts = ts} {A = A} B form (of_set {a = a}) x h = body_leads _ x (typed_ends _ _ _ (form_typed f.iter (one ts) c (k.set a ∷ A) B form h))
+  iter_leads {c = c} {ts = ts} {A = A} B form (of_map {a = a} {b = b}) x h = body_leads _ x (typed_ends _ _ _ (form_typed f.iter (one ts) c (k.map a b ∷ A) B form h))
 
-    pub loop_left_leads : {a r : Kind} → HasForm f.loop_left name → AreCode c ts is (a ∷ A) (k.or a r ∷ A) → Leads (tree_type (prim name annots one) c (k.or a r ∷ A)) B →
-        Leads (trees_type ts c (a ∷ A)) (k.or a r ∷ A)
-    loop_left_leads {a = a} {r = r} form x h = body_leads _ x (typed_ends _ _ _ (form_typed f.loop_left one (k.or a r ∷ A) B form h))
+  map_by : (c : Context) (ts : Trees) (A B : List Kind) (s a b : Kind) (new : Kind → Kind) → part_kind (trees_type ts c (a ∷ A)) A ≡ Some b → tree_type (prim name annots (one ts)) c (s ∷ A) ≡ mapped (shift 2 (trees_type ts c (a ∷ A))) new A →
+      Leads (tree_type (prim name annots (one ts)) c (s ∷ A)) B → tree_type (prim name annots (one ts)) c (s ∷ A) ≡ goes (new b ∷ A)
+  map_by c ts A B s a b new part e h =
+      e ∙ mapped_goes (shift 2 (trees_type ts c (a ∷ A))) new A b (part_shift 2 (trees_type ts c (a ∷ A)) A ∙ part)
+      (subst IsTyped e (typed_of (tree_type (prim name annots (one ts)) c (s ∷ A)) B h))
 
-    pub iter_leads : {s a : Kind} → HasForm f.iter name → HasParts s a → AreCode c ts is (a ∷ A) A → Leads (tree_type (prim name annots one) c (s ∷ A)) B → Leads (trees_type ts c (a ∷ A)) A
-    iter_leads form (of_list {a = a}) x h = body_leads _ x (typed_ends _ _ _ (form_typed f.iter one (k.list a ∷ A) B form h))
-    iter_leads form (of_set {a = a}) x h = body_leads _ x (typed_ends _ _ _ (form_typed f.iter one (k.set a ∷ A) B form h))
-    iter_leads form (of_map {a = a} {b = b}) x h = body_leads _ x (typed_ends _ _ _ (form_typed f.iter one (k.map a b ∷ A) B form h))
+  -- MAP goes to the collection of results
+  pub map_goes : (c : Context) (ts : Trees) {s a b r : Kind} (A B : List Kind) → HasForm f.map name → IsMapped s a b r → part_kind (trees_type ts c (a ∷ A)) A ≡ Some b →
+      Leads (tree_type (prim name annots (one ts)) c (s ∷ A)) B → tree_type (prim name annots (one ts)) c (s ∷ A) ≡ goes (r ∷ A)
+  map_goes c ts A B form (to_list {a = a} {b = b}) part h = map_by c ts A B (k.list a) a b k.list part (type_is f.map name annots (one ts) c (k.list a ∷ A) form) h
+  map_goes c ts A B form (to_option {a = a} {b = b}) part h = map_by c ts A B (k.option a) a b k.option part (type_is f.map name annots (one ts) c (k.option a ∷ A) form) h
+  map_goes c ts A B form (to_map {a = a} {b = b} {d = d}) part h = map_by c ts A B (k.map a b) (k.pair a b) d (k.map a) part (type_is f.map name annots (one ts) c (k.map a b ∷ A) form) h
 
-    pub map_leads : (a b : Kind) → part_kind (trees_type ts c (a ∷ A)) A ≡ Some b → AreCode c ts is (a ∷ A) (b ∷ A) → Leads (trees_type ts c (a ∷ A)) (b ∷ A)
-    map_leads a b part x = leads_of (trees_type ts c (a ∷ A)) (b ∷ A) (codes_say x) (typed_part (trees_type ts c (a ∷ A)) A b part)
+  pub dip_leads : {c : Context} {ts : Trees} {is : Codes} (S B C : List Kind) → HasForm f.dip name → AreCode c ts is (drop 1 S) C → Leads (tree_type (prim name annots (one ts)) c S) B → Leads (trees_type ts c (drop 1 S)) C
+  dip_leads {c = c} {ts = ts} S B C form x h =
+      body_leads _ x (typed_under (take 1 S) _ (typed_if (nat_le 1 (length S)) _ 0 (form_typed f.dip (one ts) c S B form h)).1)
 
-    map_by : (s a b : Kind) (new : Kind → Kind) → part_kind (trees_type ts c (a ∷ A)) A ≡ Some b → tree_type (prim name annots one) c (s ∷ A) ≡ mapped (shift 2 (trees_type ts c (a ∷ A))) new A →
-        Leads (tree_type (prim name annots one) c (s ∷ A)) B → tree_type (prim name annots one) c (s ∷ A) ≡ goes (new b ∷ A)
-    map_by s a b new part e h =
-        e ∙ mapped_goes (shift 2 (trees_type ts c (a ∷ A))) new A b (part_shift 2 (trees_type ts c (a ∷ A)) A ∙ part)
-        (subst IsTyped e (typed_of (tree_type (prim name annots one) c (s ∷ A)) B h))
-
-    -- MAP goes to the collection of results
-    pub map_goes : {s a b r : Kind} → HasForm f.map name → IsMapped s a b r → part_kind (trees_type ts c (a ∷ A)) A ≡ Some b → Leads (tree_type (prim name annots one) c (s ∷ A)) B →
-        tree_type (prim name annots one) c (s ∷ A) ≡ goes (r ∷ A)
-    map_goes form (to_list {a = a} {b = b}) part h = map_by (k.list a) a b k.list part (type_is f.map name annots one c (k.list a ∷ A) form) h
-    map_goes form (to_option {a = a} {b = b}) part h = map_by (k.option a) a b k.option part (type_is f.map name annots one c (k.option a ∷ A) form) h
-    map_goes form (to_map {a = a} {b = b} {d = d}) part h = map_by (k.map a b) (k.pair a b) d (k.map a) part (type_is f.map name annots one c (k.map a b ∷ A) form) h
-
-  pub dip_leads : {ts : Trees} {is : Codes} {S B C : List Kind} → HasForm f.dip name → AreCode c ts is (drop 1 S) C → Leads (tree_type (prim name annots (more (seq ts) none)) c S) B →
-      Leads (trees_type ts c (drop 1 S)) C
-  dip_leads {ts = ts} {S = S} {B = B} form x h =
-      body_leads _ x (typed_under (take 1 S) _ (typed_if (nat_le 1 (length S)) _ 0 (form_typed f.dip (more (seq ts) none) S B form h)).1)
-
-  pub dip_by_leads : {u : Tree} {ts : Trees} {n : ℕ} {is : Codes} {S B C : List Kind} → HasForm f.dip name → count_argument 0 count_limit 1 u ≡ found n → AreCode c ts is (drop n S) C →
-      Leads (tree_type (prim name annots (more u (more (seq ts) none))) c S) B → Leads (trees_type ts c (drop n S)) C
-  dip_by_leads {u = u} {ts = ts} {n = n} {S = S} {B = B} form e x h =
-      let p = subst (λ y. IsTyped (on_found y (λ n. dip_type n (λ c A. shift (1 + size u + 1) (trees_type ts c A)) c S))) e (form_typed f.dip (more u (more (seq ts) none)) S B form h) in
+  pub dip_by_leads : {c : Context} {ts : Trees} {is : Codes} (u : Tree) (n : ℕ) (S B C : List Kind) → HasForm f.dip name → count_argument 0 count_limit 1 u ≡ found n → AreCode c ts is (drop n S) C →
+      Leads (tree_type (prim name annots (more u (one ts))) c S) B → Leads (trees_type ts c (drop n S)) C
+  dip_by_leads {c = c} {ts = ts} u n S B C form e x h =
+      let p = subst (λ y. IsTyped (on_found y (λ n. dip_type n (λ c A. shift (1 + size u + 1) (trees_type ts c A)) c S))) e (form_typed f.dip (more u (one ts)) c S B form h) in
       body_leads _ x (typed_under (take n S) _ (typed_if (nat_le n (length S)) _ 0 p).1)
+
+pub map_leads : {c : Context} {ts : Trees} {is : Codes} {a b : Kind} {A : List Kind} → part_kind (trees_type ts c (a ∷ A)) A ≡ Some b → AreCode c ts is (a ∷ A) (b ∷ A) → Leads (trees_type ts c (a ∷ A)) (b ∷ A)
+map_leads {c = c} {ts = ts} {a = a} {b = b} {A = A} part x = leads_of (trees_type ts c (a ∷ A)) (b ∷ A) (codes_say x) (typed_part (trees_type ts c (a ∷ A)) A b part)

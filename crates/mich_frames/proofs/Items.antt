@@ -95,7 +95,7 @@ module _ {fs : List Frame} {u : Around} {m : Tally} {d : ℕ} {Z : List Kind} {o
     where
       by : FineCase (made.iter is) fs u (x ∷ W) m d Z o (StandsAt (fr.each is (items_in x) ∷ fs) u W (less u g.Iter 0 m) d Z o)
       by ps c _ _ M (is_iter {name = name} {annots = annots} {ts = ts} {s = s} {a = a} {A = A} form parts fine) rests depth same typed small holds =
-          stands_of h.runs (p.each a A ts (items_in x) ∷ ps) c A (fr.rests_each (block_of fine (iter_leads form parts fine typed) (small_one name annots ts small)) rests) depth
+          stands_of h.runs (p.each a A ts (items_in x) ∷ ps) c A (fr.rests_each (block_of fine (iter_leads name annots M form parts fine typed) (small_one name annots ts small)) rests) depth
           (ap (λ q. after (only_if q (each_run (block_run ts) a (items_in x) (at u c) (depth_of ps) A W (less u g.Iter 0 m))) (resume ps (at u c))) (same_kinds_refl A)
           ∙ when_paid u g.Iter 0 m (λ m. each_run (block_run ts) a (items_in x) (at u c) (depth_of ps) A W m) o _ (resume ps (at u c)) refl pays
           ((iter_over u m o h.runs ts s a (x ∷ W) c ps A parts (ap (λ p. after p (resume ps (at u c))) (sym (form_is _ _ _ _ _ _ _ _ m form)) ∙ same)).1 x W refl)) (over_items ts parts holds)

@@ -51,7 +51,7 @@ module _ {fs : List Frame} {u : Around} {m : Tally} {d : ℕ} {Z : List Kind} {o
     where
       by : FineCase (made.loop is) fs u (v.truth b ∷ W) m d Z o (StandsAt (fr.turns is ∷ fs) u (v.truth b ∷ W) (less u g.Loop 0 m) d Z o)
       by ps c _ _ M (is_loop {name = name} {annots = annots} {ts = ts} {A = A} form fine) rests depth same typed small holds =
-          stands_of h.runs (p.turns A ts ∷ ps) c (t.bool ∷ A) (fr.rests_turns (block_of fine (loop_leads form fine typed) (small_one name annots ts small)) rests) depth
+          stands_of h.runs (p.turns A ts ∷ ps) c (t.bool ∷ A) (fr.rests_turns (block_of fine (loop_leads name annots M form fine typed) (small_one name annots ts small)) rests) depth
           (ap (λ same. after (only_if same (eval_task (turns ts) (at u c) (depth_of ps) (t.bool ∷ A) (v.truth b ∷ W) (less u g.Loop 0 m))) (resume ps (at u c))) (same_kinds_refl (t.bool ∷ A))
           ∙ when_paid u g.Loop 0 m _ o _ (resume ps (at u c)) (form_is _ _ _ _ _ _ _ _ m form) pays same) (over_turns A ts holds)
 
@@ -75,7 +75,7 @@ module _ {fs : List Frame} {u : Around} {m : Tally} {d : ℕ} {Z : List Kind} {o
     where
       by : FineCase (made.loop_left is) fs u (v.left x ∷ W) m d Z o (StandsAt (fr.left_turns is ∷ fs) u (v.left x ∷ W) (less u g.LoopLeft 0 m) d Z o)
       by ps c _ _ M (is_loop_left {name = name} {annots = annots} {ts = ts} {a = a} {r = r} {A = A} form fine) rests depth same typed small holds =
-          stands_of h.runs (p.left_turns a r A ts ∷ ps) c (k.or a r ∷ A) (fr.rests_left_turns (block_of fine (loop_left_leads form fine typed) (small_one name annots ts small)) rests) depth
+          stands_of h.runs (p.left_turns a r A ts ∷ ps) c (k.or a r ∷ A) (fr.rests_left_turns (block_of fine (loop_left_leads name annots M form fine typed) (small_one name annots ts small)) rests) depth
           (ap (λ same. after (only_if same (eval_task (left_turns ts) (at u c) (depth_of ps) (k.or a r ∷ A) (v.left x ∷ W) (less u g.LoopLeft 0 m))) (resume ps (at u c))) (same_kinds_refl (k.or a r ∷ A))
           ∙ when_paid u g.LoopLeft 0 m _ o _ (resume ps (at u c)) (form_is _ _ _ _ _ _ _ _ m form) pays same) (over_left a r A ts holds)
 
@@ -90,7 +90,7 @@ module _ {fs : List Frame} {u : Around} {m : Tally} {d : ℕ} {Z : List Kind} {o
     where
       by : FineCase (made.loop_left is) fs u (v.right x ∷ W) m d Z o (StandsAt (fr.left_turns is ∷ fs) u (v.right x ∷ W) (less u g.LoopLeft 0 m) d Z o)
       by ps c _ _ M (is_loop_left {name = name} {annots = annots} {ts = ts} {a = a} {r = r} {A = A} form fine) rests depth same typed small holds =
-          stands_of h.runs (p.left_turns a r A ts ∷ ps) c (k.or a r ∷ A) (fr.rests_left_turns (block_of fine (loop_left_leads form fine typed) (small_one name annots ts small)) rests) depth
+          stands_of h.runs (p.left_turns a r A ts ∷ ps) c (k.or a r ∷ A) (fr.rests_left_turns (block_of fine (loop_left_leads name annots M form fine typed) (small_one name annots ts small)) rests) depth
           (ap (λ same. after (only_if same (eval_task (left_turns ts) (at u c) (depth_of ps) (k.or a r ∷ A) (v.right x ∷ W) (less u g.LoopLeft 0 m))) (resume ps (at u c))) (same_kinds_refl (k.or a r ∷ A))
           ∙ when_paid u g.LoopLeft 0 m _ o _ (resume ps (at u c)) (form_is _ _ _ _ _ _ _ _ m form) pays same) (over_left a r A ts holds)
 

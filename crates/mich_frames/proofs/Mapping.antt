@@ -70,10 +70,10 @@ module _ {fs : List Frame} {u : Around} {m : Tally} {d : ℕ} {Z : List Kind} {o
       by ps c _ _ _ (is_map {name = name} {annots = annots} {ts = ts} {s = s} {a = a} {b = b} {r = r} {A = A} form parts part fine) rests depth same typed small holds =
           let w : Mapping = mapping_of a b s x A ts in
           let over = map_over u m o h.runs ts s a b r (x ∷ W) c ps A parts part (ap (λ p. after p (resume ps (at u c))) (sym (form_is _ _ _ _ _ _ _ _ m form)) ∙ same) in
-          stands_of h.runs (p.mapping w [] (items_in x) ∷ ps) c A (fr.rests_mapping (block_of fine (map_leads a b part fine) (small_one name annots ts small)) (subst (λ z. Rests fs ps u c (z ∷ A) Z) (sym over.1) rests)) depth
+          stands_of h.runs (p.mapping w [] (items_in x) ∷ ps) c A (fr.rests_mapping (block_of fine (map_leads part fine) (small_one name annots ts small)) (subst (λ z. Rests fs ps u c (z ∷ A) Z) (sym over.1) rests)) depth
           (ap (λ q. after (only_if q (mapping_run w [] (items_in x) (at u c) (depth_of ps) A W (less u g.Map 0 m))) (resume ps (at u c))) (same_kinds_refl A)
           ∙ when_paid u g.Map 0 m (λ m. mapping_run w [] (items_in x) (at u c) (depth_of ps) A W m) o _ (resume ps (at u c)) refl pays (over.2 x W refl))
-          (over_mapped ts parts (node_types (prim name annots (more (seq ts) none)) (r ∷ A) (map_goes form parts part typed) holds).0 holds)
+          (over_mapped ts parts (node_types (prim name annots (more (seq ts) none)) (r ∷ A) (map_goes name annots c ts A _ form parts part typed) holds).0 holds)
 
   pub map_broke : {is : Codes} (x : Val) {W : List Val} → Lacks u g.Map 0 m → MeetsAt (made.map is) fs u (x ∷ W) m d Z o → o ≡ failed f.out_of_gas
   map_broke {is = is} x {W = W} lacks h = meets_by h by
