@@ -18,13 +18,12 @@ use Rattle.rules_typing.specs.Bodies.{body_fault}
 use Rattle.rules_typing.specs.Literals.{lambda_fault}
 use Rattle.rules_typing.specs.Nodes.{tree_type}
 use Rattle.rules_typing.specs.Fits.{Leads}
-use Rattle.rules_evaluation.specs.Evaluation.{tree_run, eval_task}
+use Rattle.rules_evaluation.specs.Evaluation.{eval_task}
 use Rattle.mich_instr.specs.Code.{Code, Codes}
 use Rattle.mich_instr.specs.Code as made
 use Rattle.mich_frames.specs.Around.{Around, at, less, Pays, Lacks}
 use Rattle.mich_frames.specs.Pending.{Pending, depth_of, block_run, resume}
 use Rattle.mich_frames.specs.Pending as p
-use Rattle.mich_frames.specs.Fine.{IsFine}
 use Rattle.mich_frames.specs.Frames.{Frame, Rests}
 use Rattle.mich_frames.specs.Frames as fr
 use Rattle.mich_frames.specs.Stands.{Runs, StandsAt, MeetsAt, OpensAt}
@@ -196,7 +195,7 @@ module _ {fs : List Frame} {u : Around} {m : Tally} {d : ℕ} {Z : List Kind} {o
             let is = form_is _ name annots none (at u c) (depth_of ps) S V m form in
             let unpaid = ap (λ p. after p (resume ps (at u c))) (sym is) ∙ same in
             let runs = is ∙ tested u m o h.runs c ps a b r A x ts recursive W unpaid in
-            go c ps A rests depth (apply_is u m o h.runs c ps a b r A x ts recursive W unpaid) (ends_of _ h.runs typed small holds runs)
+            go c ps A rests depth (apply_is u m o h.runs c ps a b r A x ts recursive W unpaid) (ends_of (prim name annots none) S V m _ h.runs typed small holds runs)
 
     pub apply_acts : Pays u g.Apply (weight x) m → size (applied a b r x (seq ts) recursive) ≤ applied_size → levels (applied a b r x (seq ts) recursive) ≤ applied_depth →
         StandsAt fs u (v.lambda (applied a b r x (seq ts) recursive) false ∷ W) (less u g.Apply (weight x) m) d Z o

@@ -4,12 +4,11 @@ use Rattle.std.specs.Prelude.{nat_lt}
 use Rattle.rules_base.specs.Tree.{seq, Trees, none}
 use Rattle.rules_types.specs.Kind.{Kind}
 use Rattle.rules_instructions.specs.Context.{Context}
-use Rattle.rules_values.specs.Val.{Val, Vals, no_val, more_vals}
-use Rattle.rules_values.specs.Val as v
+use Rattle.rules_values.specs.Val.{Val}
 use Rattle.rules_steps.specs.Failure as f
 use Rattle.rules_evaluation.specs.Surroundings.{Surroundings}
 use Rattle.rules_evaluation.specs.Operations.{Tally}
-use Rattle.rules_evaluation.specs.Outcome.{Outcome, stack, failed, stuck, after, only_if}
+use Rattle.rules_evaluation.specs.Outcome.{Outcome, stack, failed, after, only_if}
 use Rattle.rules_evaluation.specs.Evaluation.{tree_run, eval_task}
 use Rattle.laws_evaluation.specs.Laws.{IsCharged}
 use Rattle.mich_instr.specs.Code.{Code, Codes}
@@ -32,7 +31,7 @@ use Rattle.rules_evaluation.specs.Outcome.{block_limit, opened}
 use Rattle.rules_evaluation.specs.Evaluation.{node, trees_run, eval}
 use Rattle.std.specs.Prelude.{◌^◌, ℤ}
 use Rattle.rules_values.specs.Tickets.{Identity}
-use Rattle.rules_base.specs.Tree.{Tree, size}
+use Rattle.rules_base.specs.Tree.{size}
 use Rattle.rules_typing.specs.Nodes.{trees_type}
 use Rattle.rules_typing.specs.Fits.{Leads}
 use Rattle.laws_evaluation.proofs.Levels.{eval_is}

@@ -1,41 +1,28 @@
 -- Instructions on contracts and operations.
-use Rattle.std.proofs.Common.{◌≡◌, ℕ, List, [], ◌∷◌, Some, None, refl, sym, ap, ◌∙◌}
-use Rattle.rules_base.specs.Tree.{Tree, seq, Trees}
+use Rattle.std.proofs.Common.{◌≡◌, ℕ, List, [], ◌∷◌, None, refl, ap}
+use Rattle.rules_base.specs.Tree.{Tree}
 use Rattle.rules_types.specs.Kind.{Kind}
-use Rattle.rules_types.specs.Kind as k
-use Rattle.rules_instructions.specs.Context.{Context}
-use Rattle.rules_instructions.specs.Context as place
 use Rattle.rules_values.specs.Val.{Val, Vals, no_val, more_vals}
 use Rattle.rules_values.specs.Val as v
 use Rattle.rules_steps.specs.Failure as f
 use Rattle.rules_evaluation.specs.Surroundings.{Surroundings}
 use Rattle.rules_evaluation.specs.Operations.{Tally}
-use Rattle.rules_evaluation.specs.Outcome.{Outcome, stack, failed, stuck, Go, after, only_if}
+use Rattle.rules_evaluation.specs.Outcome.{Outcome, stack, failed, stuck}
 use Rattle.rules_evaluation.specs.Evaluation.{eval_task}
 use Rattle.mich_instr.specs.Code.{Code, Codes}
 use Rattle.mich_instr.specs.Code as made
 use Rattle.mich_frames.specs.Around.{Around, at, less, Pays}
-use Rattle.mich_frames.specs.Pending.{Pending, depth_of, block_run, resume}
-use Rattle.mich_frames.specs.Pending as p
-use Rattle.mich_frames.specs.Frames.{Frame, Rests}
-use Rattle.mich_frames.specs.Frames as fr
-use Rattle.mich_frames.specs.Stands.{StandsAt, MeetsAt, OpensAt}
-use Rattle.mich_frames.proofs.Paying.{after_after}
-use Rattle.mich_frames.proofs.Made.{opens_of}
+use Rattle.mich_frames.specs.Frames.{Frame}
+use Rattle.mich_frames.specs.Stands.{StandsAt, MeetsAt}
 use Rattle.rules_instructions.specs.Straight.{Straight, OperationRow, on_stack, on_pairs, on_unions, on_collections, on_numbers, on_truth, on_text, on_hashes, on_environment, on_operations, on_tickets}
-use Rattle.rules_instructions.specs.Same.{same_kinds}
 use Rattle.rules_values.specs.Tickets.{tickets}
 use Rattle.rules_steps.specs.Failure.{Failure}
 use Rattle.rules_steps.specs.Changes.{burns}
 use Rattle.rules_steps.specs.Costs.{kind_of, weight_of}
 use Rattle.rules_evaluation.specs.Outcome.{with_changes}
-use Rattle.rules_evaluation.specs.Shapes.{on_top}
-use Rattle.rules_evaluation.specs.Contracts.{Viewed, viewed}
+use Rattle.rules_evaluation.specs.Contracts.{viewed}
 use Rattle.rules_evaluation.specs.Operating.{view_run}
 use Rattle.rules_evaluation.specs.Evaluation.{node}
-use Rattle.laws_evaluation.proofs.Levels.{eval_is}
-use Rattle.mich_instr.specs.Typed.{AreCode}
-use Rattle.mich_frames.specs.Around.{viewing_at, returned}
 use Rattle.rules_instructions.specs.Straight.{HashRow}
 use Rattle.rules_instructions.specs.Straight as i
 use Rattle.rules_steps.specs.Step.{optional}
@@ -48,7 +35,7 @@ use Rattle.rules_evaluation.specs.Issuing.{operation_limit, with_operation}
 use Rattle.mich_frames.specs.Shapes.{HasTop, HasBytes, HasTransfer, HasViewing}
 use Rattle.mich_frames.specs.Rows.{IsPlace, placed}
 use Rattle.mich_frames.proofs.Creating.{issue_is, issue_over}
-use Rattle.mich_frames.proofs.Straights.{row_by, row_same, row_acts, row_fails, row_sound}
+use Rattle.mich_frames.proofs.Straights.{row_acts, row_fails, row_sound}
 
 -- ---- ADDRESS, IMPLICIT_ACCOUNT and CONTRACT
 
