@@ -131,19 +131,24 @@ storage_held w hash c id twenty there =
 pub amounts : (bs : Bases) (v : Value) (id : Identity) → HoldNoTickets bs → AreFormed v → amount_among id (tickets (val v)) ≡ amount_in id (val_in bs v)
 amounts bs v id n f = sym (ap (amount_among id) (tickets_in_store bs v n f))
 
--- what the storage of a contract that is there holds
-pub before_held : (h : Holders) (bs : Bases) (b : Books) (w : PlainWorld) (hash : List ℕ) (c : PlainContract) (id : Identity) → AreThose h bs b w
+-- the tickets in the storage of a contract that is there
+pub stored_are : (h : Holders) (bs : Bases) (b : Books) (w : PlainWorld) (hash : List ℕ) (c : PlainContract) → AreThose h bs b w
     → AllByRecursion (λ (e : List ℕ × Contract). IsStored bs e.1) h.contracts → HoldNoTickets bs → plain_contract_at w hash ≡ Some c
-    → amount_among id (stored_tickets (contract_at h hash)) ≡ amount_in id c.storage
-before_held h bs b w hash c id t a n there = by (contract_at h hash) refl
+    → stored_tickets (contract_at h hash) ≡ tickets c.storage
+stored_are h bs b w hash c t a n there = by (contract_at h hash) refl
   where
-    by : (o : Option Contract) → contract_at h hash ≡ o → amount_among id (stored_tickets o) ≡ amount_in id c.storage
+    by : (o : Option Contract) → contract_at h hash ≡ o → stored_tickets o ≡ tickets c.storage
     by None e = let x : None ≡ Some c = sym (contract_is h bs b w hash t ∙ ap (option_map (plain bs)) e) ∙ there in absurd cc
     by (Some d) e =
         let x : Some (plain bs d) ≡ Some c = sym (contract_is h bs b w hash t ∙ ap (option_map (plain bs)) e) ∙ there in
         let s : plain bs d ≡ c = cc in
-        amounts bs d.storage id n (formed_of d.storage (stored_at h bs hash d a e).settled)
-        ∙ ap (λ (z : PlainContract). amount_in id z.storage) s
+        sym (tickets_in_store bs d.storage n (formed_of d.storage (stored_at h bs hash d a e).settled))
+        ∙ ap (λ (z : PlainContract). tickets z.storage) s
+
+pub before_held : (h : Holders) (bs : Bases) (b : Books) (w : PlainWorld) (hash : List ℕ) (c : PlainContract) (id : Identity) → AreThose h bs b w
+    → AllByRecursion (λ (e : List ℕ × Contract). IsStored bs e.1) h.contracts → HoldNoTickets bs → plain_contract_at w hash ≡ Some c
+    → amount_among id (stored_tickets (contract_at h hash)) ≡ amount_in id c.storage
+before_held h bs b w hash c id t a n there = ap (amount_among id) (stored_are h bs b w hash c t a n there)
 
 -- ---- a contract is set
 

@@ -1,5 +1,5 @@
 pub mod Accounts
-pub mod Agreeing
+pub mod Agreement
 pub mod Contracts
 pub mod Opening
 pub mod Owners

@@ -1,5 +1,5 @@
 -- Owners of tickets, and what each holds after an account or a contract is set.
-use Rattle.std.proofs.Common.{◌≡◌, ◌||◌, ℕ, zero, suc, List, [], ◌∷◌, ◌++◌, length, take, Bool, true, false, cond, Some, None, refl, sym, ap, ◌∙◌, subst}
+use Rattle.std.proofs.Common.{◌≡◌, ◌||◌, ℕ, zero, suc, List, [], ◌∷◌, ◌++◌, length, take, Bool, true, false, cond, Some, None, refl, sym, ap, ◌∙◌, subst, arith}
 use Rattle.std.specs.Prelude.{slice_index, if◌then◌else◌}
 use Rattle.std.specs.declared.option.Option.{Option}
 use Rattle.std.specs.Ordering.{nat_cmp, is_eq}
@@ -53,10 +53,10 @@ front_is n [] ys h = subst (λ (m : ℕ). take m ys ≡ []) h refl
 front_is n (x ∷ xs) ys h = subst (λ (m : ℕ). take m (x ∷ xs ++ ys) ≡ x ∷ xs) h (ap (λ t. x ∷ t) (front_is (length xs) xs ys refl))
 
 last_after : (n : ℕ) (xs : List ℕ) → length xs ≡ suc n → slice_index xs n ≡ 0 → xs ≡ take n xs ++ 0 ∷ []
-last_after n [] h z = absurd cc
+last_after n [] h z = absurd (omega arith)
 last_after zero (x ∷ []) h z = ap (λ y. y ∷ []) z
-last_after zero (x ∷ y ∷ xs) h z = absurd cc
-last_after (suc n) (x ∷ xs) h z = ap (λ t. x ∷ t) (last_after n xs cc z)
+last_after zero (x ∷ y ∷ xs) h z = absurd (omega arith)
+last_after (suc n) (x ∷ xs) h z = ap (λ t. x ∷ t) (last_after n xs (omega arith) z)
 
 -- the place of an account
 pub account_place : (o : List ℕ) → is_implicit o ≡ true → o ≡ implicit_place (key_hash_in o)
@@ -81,9 +81,9 @@ length_more (x ∷ xs) = ap suc (length_more xs)
 
 last_is : (n : ℕ) (xs : List ℕ) → length xs ≡ n → slice_index (xs ++ 0 ∷ []) n ≡ 0
 last_is zero [] h = refl
-last_is zero (x ∷ xs) h = absurd cc
-last_is (suc n) [] h = absurd cc
-last_is (suc n) (x ∷ xs) h = last_is n xs cc
+last_is zero (x ∷ xs) h = absurd (omega arith)
+last_is (suc n) [] h = absurd (omega arith)
+last_is (suc n) (x ∷ xs) h = last_is n xs (omega arith)
 
 or_true : (b c : Bool) → c ≡ true → (b || c) ≡ true
 or_true true c h = refl
@@ -102,30 +102,25 @@ hash_of hash h = front_is 20 hash (0 ∷ []) h
 
 -- ---- what owners hold
 
+without_last : (xs ys : List ℕ) → xs ++ 0 ∷ [] ≡ ys ++ 0 ∷ [] → xs ≡ ys
+without_last [] [] e = refl
+without_last [] (y ∷ []) e = absurd cc
+without_last [] (y ∷ z ∷ ys) e = absurd cc
+without_last (x ∷ []) [] e = absurd cc
+without_last (x ∷ z ∷ xs) [] e = absurd cc
+without_last (x ∷ xs) (y ∷ ys) e =
+    let a : x ≡ y = cc in
+    let b : xs ++ 0 ∷ [] ≡ ys ++ 0 ∷ [] = cc in
+    λ i. a i ∷ without_last xs ys b i
+
 -- a contract is set
 module _ (w : World) (hash : List ℕ) (d : Contract) (twenty : length hash ≡ 20) where
   same_contract : (q : List ℕ) → bytes_eq (contract_place q) (contract_place hash) ≡ is_at (slice_cmp nat_cmp q) hash
   same_contract q =
       same_test (bytes_eq (contract_place q) (contract_place hash)) (is_at (slice_cmp nat_cmp q) hash)
       (λ e. let p : contract_place q ≡ contract_place hash = (bytes_eq-Decides (contract_place q) (contract_place hash)).0 e in
-        subst (λ (x : List ℕ). is_at (slice_cmp nat_cmp x) hash ≡ true) (sym (one_hash q p)) (at_itself hash))
+        subst (λ (x : List ℕ). is_at (slice_cmp nat_cmp x) hash ≡ true) (sym (let e : q ++ 0 ∷ [] ≡ hash ++ 0 ∷ [] = cc in without_last q hash e)) (at_itself hash))
       (λ e. (bytes_eq-Decides (contract_place q) (contract_place hash)).1 (ap contract_place (found_same q hash e)))
-    where
-      one_hash : (q : List ℕ) → contract_place q ≡ contract_place hash → q ≡ hash
-      one_hash q p = last_away q hash (ap tail p)
-        where
-          tail : List ℕ → List ℕ
-          tail [] = []
-          tail (x ∷ xs) = xs
-
-          last_away : (xs ys : List ℕ) → xs ++ 0 ∷ [] ≡ ys ++ 0 ∷ [] → xs ≡ ys
-          last_away [] [] e = refl
-          last_away [] (y ∷ []) e = absurd cc
-          last_away [] (y ∷ z ∷ ys) e = absurd cc
-          last_away (x ∷ []) [] e = absurd cc
-          last_away (x ∷ z ∷ xs) [] e = absurd cc
-          last_away (x ∷ xs) (y ∷ ys) e = let a : x ≡ y = cc in let b : xs ++ 0 ∷ [] ≡ ys ++ 0 ∷ [] = cc in λ i. a i ∷ last_away xs ys b i
-
   by_contract : (id : Identity) (q : List ℕ) (c : Bool) →
       held_by_contract (cond c (Some d) (contract_at w q)) id ≡ (if c then amount_in id d.storage else held_by_contract (contract_at w q) id)
   by_contract id q true = refl

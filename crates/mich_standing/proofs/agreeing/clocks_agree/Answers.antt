@@ -1,4 +1,4 @@
-use Rattle.mich_standing.proofs.Agreeing.{clocks_agree}
+use Rattle.mich_standing.proofs.Agreement.{clocks_agree}
 use Rattle.mich_standing.proofs.agreeing.clocks_agree.Goals as goal
 
 pub returns : goal.returns

@@ -1,4 +1,4 @@
-use Rattle.mich_standing.proofs.Agreeing.{commits_agree}
+use Rattle.mich_standing.proofs.Agreement.{commits_agree}
 use Rattle.mich_standing.proofs.agreeing.commits_agree.Goals as goal
 
 pub returns : goal.returns

@@ -1,4 +1,4 @@
-use Rattle.mich_standing.proofs.Agreeing.{credits_agree}
+use Rattle.mich_standing.proofs.Agreement.{credits_agree}
 use Rattle.mich_standing.proofs.agreeing.credits_agree.Goals as goal
 
 pub returns : goal.returns

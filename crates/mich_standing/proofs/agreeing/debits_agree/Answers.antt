@@ -1,4 +1,4 @@
-use Rattle.mich_standing.proofs.Agreeing.{debits_agree}
+use Rattle.mich_standing.proofs.Agreement.{debits_agree}
 use Rattle.mich_standing.proofs.agreeing.debits_agree.Goals as goal
 
 pub returns : goal.returns

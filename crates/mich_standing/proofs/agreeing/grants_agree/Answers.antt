@@ -1,4 +1,4 @@
-use Rattle.mich_standing.proofs.Agreeing.{grants_agree}
+use Rattle.mich_standing.proofs.Agreement.{grants_agree}
 use Rattle.mich_standing.proofs.agreeing.grants_agree.Goals as goal
 
 pub returns : goal.returns

@@ -1,4 +1,4 @@
-use Rattle.mich_standing.proofs.Agreeing.{installs_agree}
+use Rattle.mich_standing.proofs.Agreement.{installs_agree}
 use Rattle.mich_standing.proofs.agreeing.installs_agree.Goals as goal
 
 pub returns : goal.returns

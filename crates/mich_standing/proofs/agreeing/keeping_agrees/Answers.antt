@@ -1,4 +1,4 @@
-use Rattle.mich_standing.proofs.Agreeing.{keeping_agrees}
+use Rattle.mich_standing.proofs.Agreement.{keeping_agrees}
 use Rattle.mich_standing.proofs.agreeing.keeping_agrees.Goals as goal
 
 pub returns : goal.returns

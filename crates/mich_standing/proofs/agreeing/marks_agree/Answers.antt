@@ -1,4 +1,4 @@
-use Rattle.mich_standing.proofs.Agreeing.{marks_agree}
+use Rattle.mich_standing.proofs.Agreement.{marks_agree}
 use Rattle.mich_standing.proofs.agreeing.marks_agree.Goals as goal
 
 pub returns : goal.returns

@@ -1,4 +1,4 @@
-use Rattle.mich_standing.proofs.Agreeing.{new_worlds_agree}
+use Rattle.mich_standing.proofs.Agreement.{new_worlds_agree}
 use Rattle.mich_standing.proofs.agreeing.new_worlds_agree.Goals as goal
 
 pub returns : goal.returns

@@ -1,4 +1,4 @@
-use Rattle.mich_standing.proofs.Agreeing.{run_ends_agree}
+use Rattle.mich_standing.proofs.Agreement.{run_ends_agree}
 use Rattle.mich_standing.proofs.agreeing.run_ends_agree.Goals as goal
 
 pub returns : goal.returns

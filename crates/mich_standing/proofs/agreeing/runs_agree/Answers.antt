@@ -1,4 +1,4 @@
-use Rattle.mich_standing.proofs.Agreeing.{runs_agree}
+use Rattle.mich_standing.proofs.Agreement.{runs_agree}
 use Rattle.mich_standing.proofs.agreeing.runs_agree.Goals as goal
 
 pub returns : goal.returns

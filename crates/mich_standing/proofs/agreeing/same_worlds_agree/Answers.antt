@@ -1,4 +1,4 @@
-use Rattle.mich_standing.proofs.Agreeing.{same_worlds_agree}
+use Rattle.mich_standing.proofs.Agreement.{same_worlds_agree}
 use Rattle.mich_standing.proofs.agreeing.same_worlds_agree.Goals as goal
 
 pub returns : goal.returns

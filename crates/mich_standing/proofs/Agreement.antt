@@ -6,6 +6,7 @@ use Rattle.std.specs.List.Sorted.{IsStrictlySortedBy}
 use Rattle.std.specs.BTreeMap.{is_at, insert_entry}
 use Rattle.std.specs.Map.{keys_of}
 use Rattle.std.specs.List.{All, AllByRecursion}
+use Rattle.std.proofs.lemmas.Bool.{leb-true, le-leb}
 use Rattle.std.proofs.lemmas.List.Elements.{All-append}
 use Rattle.rules_evaluation.specs.Contracts.{hash_in}
 use Rattle.rules_evaluation.specs.Surroundings.{Contract as PlainContract}
@@ -134,6 +135,13 @@ endowed_those h bs b w who n key t =
       burnt = a.burnt;
     }
 
+above : (a b : ℕ) → b < a → nat_le a b ≡ false
+above a b h = by (nat_le a b) refl
+  where
+    by : (c : Bool) → nat_le a b ≡ c → c ≡ false
+    by true e = let le : a ≤ b = leb-true a b e in absurd (omega arith)
+    by false e = refl
+
 there_is : (o : Option Account) → is_some (option_map (λ (x : Account). x.balance) o) ≡ is_some o
 there_is None = refl
 there_is (Some a) = refl
@@ -164,13 +172,13 @@ module _ (u v : World) (w : PlainWorld) (who : List ℕ) (mutez : ℕ) (key : is
   by_answer : (r : Result (Unit {0}) GrantError) → IsGrant who mutez u.funds v.funds r → Grants v (rules.granted_to w who mutez) r
   by_answer (Ok x) a =
       let fits : (w.granted + mutez) ≤ most_mutez = subst (λ (n : ℕ). (n + mutez) ≤ most_mutez) (sym s.those.granted) a.1 in
-      let test : nat_le (w.granted + mutez) most_mutez ≡ true = omega arith in
+      let test : nat_le (w.granted + mutez) most_mutez ≡ true = le-leb (w.granted + mutez) most_mutez fits in
       subst (λ (g : rules.Grant). Grants v g (Ok x)) (sym (there_by false true a.0 test)) (granted_is a.2)
   by_answer (Err grant.RepeatedAccount) a =
       subst (λ (g : rules.Grant). Grants v g (Err grant.RepeatedAccount)) (sym (there_by true (nat_le (w.granted + mutez) most_mutez) a.0 refl)) tt
   by_answer (Err grant.SupplyLimit) a =
       let over : most_mutez < (w.granted + mutez) = subst (λ (n : ℕ). most_mutez < (n + mutez)) (sym s.those.granted) a.1 in
-      let test : nat_le (w.granted + mutez) most_mutez ≡ false = omega arith in
+      let test : nat_le (w.granted + mutez) most_mutez ≡ false = above (w.granted + mutez) most_mutez over in
       subst (λ (g : rules.Grant). Grants v g (Err grant.SupplyLimit)) (sym (there_by false false a.0 test)) tt
   by_answer (Err grant.Memory) a = any_answer (rules.granted_to w who mutez)
     where
