@@ -18,10 +18,14 @@ use Rattle.rules_world.specs.Forms.{IsTicket}
 use Rattle.rules_world.specs.Gives.{as_value}
 use Rattle.rules_world.specs.Good.{known_with, FitsIn, IsGoodContract, IsGoodOperation, MayRun}
 use Rattle.rules_world.specs.Holdings.{held, held_by, minted_ever, burnt_ever}
+use Rattle.rules_world.specs.Outcomes.{Setting, Counts}
+use Rattle.rules_world.specs.Runs.{Finished}
 use Rattle.rules_world.specs.RunLaws.{amount_returned}
+use Rattle.rules_world.specs.Targets.{Target}
 use Rattle.rules_world.specs.World.{World as PlainWorld, contract_at as plain_contract_at}
 use Rattle.laws_accounts.proofs.Amounts.{tickets_good, among_positive, in_positive, burnt_positive}
 use Rattle.laws_accounts.proofs.Entries.{all_found}
+use Rattle.laws_runs.specs.RunEnds.{IsFinished}
 use Rattle.laws_runs.proofs.Waiting.{operation_good}
 use Rattle.mich_bigmap.specs.Bases.{Bases}
 use Rattle.mich_bigmap.specs.Standing.{val_in}
@@ -34,9 +38,10 @@ use Rattle.mich_tickets.specs.Limits.{IsPositive}
 use Rattle.mich_tickets.specs.Most.{most}
 use Rattle.mich_tickets.specs.Sums.{held_of}
 use Rattle.mich_world.specs.Holders.{Holders, contract_at}
-use Rattle.mich_world.specs.Standing.{plain}
-use Rattle.mich_world.specs.Storages.{MayReplace, owner_of, stored_tickets}
-use Rattle.mich_world.specs.declared.contract.Contract.{Contract}
+use Rattle.mich_world.specs.Standing.{StandsFor}
+use Rattle.mich_world.specs.Storages.{AreStored, MayReplace, owner_of, stored_tickets}
+use Rattle.mich_world.specs.World.{World}
+use Rattle.mich_standing.specs.Runs.{Runs}
 use Rattle.mich_conditions.specs.Laws.{CreditsFit, InstallsFit, CommitsFit}
 use Rattle.mich_conditions.proofs.Room.{owner_part, has_room, positives}
 use Rattle.mich_conditions.proofs.Waiting.{whole_of, one_in}
@@ -83,57 +88,67 @@ returned_positive id w (i ∷ is) h =
     sum a b h g = omega (arith, ints)
 
 -- what is held before is as much as goes, and what comes has room
-comes : (x own b s arg h m r burnt minted gone l after : ℤ) → x ≡ own → b ≡ own → own ≤ℤ h → (h +ℤ arg) ≤ℤ (minted -ℤ gone) → pos 0 ≤ℤ gone
+comes : (x own b s h arg m r burnt minted gone l after : ℤ) → x ≡ own → b ≡ own → own ≤ℤ h → (h +ℤ arg) ≤ℤ (minted -ℤ gone) → pos 0 ≤ℤ gone
     → arg +ℤ own +ℤ m ≡ s +ℤ r +ℤ burnt → pos 0 ≤ℤ r → pos 0 ≤ℤ burnt → (minted +ℤ m) ≤ℤ l → after ≡ s → ((x +ℤ neg_ℤ b) +ℤ after) ≤ℤ l
-comes x own b s arg h m r burnt minted gone l after e f g room gp sum rp bp top a = omega (arith, ints, e, f, g, room, gp, sum, rp, bp, top, a)
+comes x own b s h arg m r burnt minted gone l after e f g room gp sum rp bp top a = omega (arith, ints, e, f, g, room, gp, sum, rp, bp, top, a)
 
 goes : (x own b : ℤ) → x ≡ own → b ≡ own → b ≤ℤ x
 goes x own b e f = omega (arith, ints, e, f)
 
+module _ (u v : World) (w : PlainWorld) (s : Setting) (t : Target) (argument : Val) (counts : Counts) (f : Finished) (given : Value)
+    (is : IsFinished s w t argument counts f) (st : StandsFor u w) (stored : AreStored u) (nu : HoldNoTickets u.store.bases.present)
+    (r : Runs f.changes u v) (nv : HoldNoTickets v.store.bases.present) (m : MayRun w argument)
+    (formed : AreFormed given) (same : val_in v.store.bases.present given ≡ is.storage) where
+  abbrev owner : List ℕ
+  owner = contract_place t.hash
+
+  abbrev own : Identity → ℤ
+  own j = amount_in j is.before.storage
+
+  abbrev gone : Identity → ℤ
+  gone j = amount_among j (stored_tickets (contract_at v.funds.present t.hash))
+
+  twenty : length t.hash ≡ 20
+  twenty = length_is w t.hash is.before m.sound.form is.there
+
+  fits : FitsIn w t.script.storage (val_in v.store.bases.present given)
+  fits = subst (λ (x : Val). FitsIn w t.script.storage x) (sym same) is.fits
+
+  good_tickets : (c : PlainContract) → plain_contract_at w t.hash ≡ Some c → All IsTicket (tickets c.storage)
+  good_tickets c e =
+      let g = (all_found (is_at (slice_cmp nat_cmp t.hash)) (IsGoodContract w) w.contracts c m.sound.contracts e).1 in
+      tickets_good (known_with w []) g.0.storage c.storage g.3
+
+  old_positive : AllByRecursion IsPositive (stored_tickets (contract_at v.funds.present t.hash))
+  old_positive =
+      subst (λ (h : Holders). AllByRecursion IsPositive (stored_tickets (contract_at h t.hash))) (sym r.funds)
+      (subst (λ (ts : List Held). AllByRecursion IsPositive ts)
+      (sym (stored_are u.funds.present u.store.bases.present u.ledger.books.present w t.hash is.before st.those stored nu is.there))
+      (positives (tickets is.before.storage) (good_tickets is.before is.there)))
+
+  held_is : (j : Identity) → held_of v.ledger.books.present j owner ≡ own j
+  held_is j = r.adds.held j owner ∙ st.those.held j owner (contract_is_place t.hash twenty) ∙ storage_held w t.hash is.before j twenty is.there
+
+  gone_is : (j : Identity) → gone j ≡ own j
+  gone_is j =
+      ap (λ (h : Holders). amount_among j (stored_tickets (contract_at h t.hash))) r.funds
+      ∙ before_held u.funds.present u.store.bases.present u.ledger.books.present w t.hash is.before j st.those stored nu is.there
+
+  own_part : (j : Identity) → own j ≤ℤ held w j
+  own_part j = subst (λ (z : ℤ). z ≤ℤ held w j) (storage_held w t.hash is.before j twenty is.there) (owner_part w m.sound j owner)
+
+  may_replace : MayReplace (owner_of t.hash) v.ledger.books.present (stored_tickets (contract_at v.funds.present t.hash)) (tickets (val given))
+  may_replace = record {
+    leave = record { positive = old_positive; fits = λ j. goes (held_of v.ledger.books.present j owner) (own j) (gone j) (held_is j) (gone_is j) };
+    positive = value_positive v.store.bases.present given w t.script.storage nv formed fits;
+    fits = λ j. comes (held_of v.ledger.books.present j owner) (own j) (gone j) (amount_in j is.storage) (held w j) (amount_in j argument)
+        (minted_in j f.changes) (amount_returned j f.returned) (burnt_in j f.changes) (minted_ever w j) (burnt_ever w j) most
+        (amount_among j (tickets (val given))) (held_is j) (gone_is j) (own_part j)
+        (m.tickets j) (burnt_positive j w.log m.sound.form.log) (is.tickets j) (returned_positive j w f.returned is.returned)
+        (burnt_positive j f.changes is.changes) (is.minted j)
+        (amounts v.store.bases.present given j nv formed ∙ ap (amount_in j) same);
+  }
+
 pub commits_fit : CommitsFit
-commits_fit u v w s t argument counts f given is st stored nu r nv m formed same = record {
-  leave = record { positive = old_positive; fits = λ j. goes (held_of v.ledger.books.present j owner) (own j) (gone j) (held_is j) (gone_is j) };
-  positive = value_positive v.store.bases.present given w t.script.storage nv formed fits;
-  fits = λ j. comes (held_of v.ledger.books.present j owner) (own j) (gone j) (amount_in j is.storage) (amount_in j argument) (held w j)
-      (minted_in j f.changes) (amount_returned j f.returned) (burnt_in j f.changes) (minted_ever w j) (burnt_ever w j) most
-      (amount_among j (tickets (val given))) (held_is j) (gone_is j)
-      (subst (λ (z : ℤ). z ≤ℤ held w j) (storage_held w t.hash is.before j twenty is.there) (owner_part w m.sound j owner))
-      (m.tickets j) (burnt_positive j w.log m.sound.form.log) (is.tickets j) (returned_positive j w f.returned is.returned)
-      (burnt_positive j f.changes is.changes) (is.minted j)
-      (amounts v.store.bases.present given j nv formed ∙ ap (amount_in j) same);
-}
-  where
-    abbrev owner : List ℕ
-    owner = contract_place t.hash
-
-    abbrev own : Identity → ℤ
-    own j = amount_in j is.before.storage
-
-    abbrev gone : Identity → ℤ
-    gone j = amount_among j (stored_tickets (contract_at v.funds.present t.hash))
-
-    twenty : length t.hash ≡ 20
-    twenty = length_is w t.hash is.before m.sound.form is.there
-
-    fits : FitsIn w t.script.storage (val_in v.store.bases.present given)
-    fits = subst (λ (x : Val). FitsIn w t.script.storage x) (sym same) is.fits
-
-    old_positive : AllByRecursion IsPositive (stored_tickets (contract_at v.funds.present t.hash))
-    old_positive =
-        subst (λ (h : Holders). AllByRecursion IsPositive (stored_tickets (contract_at h t.hash))) (sym r.funds)
-        (subst (λ (ts : List Held). AllByRecursion IsPositive ts)
-        (sym (stored_are u.funds.present u.store.bases.present u.ledger.books.present w t.hash is.before st.those stored nu is.there))
-        (positives (tickets is.before.storage) (good_tickets is.before is.there)))
-      where
-        good_tickets : (c : PlainContract) → plain_contract_at w t.hash ≡ Some c → All IsTicket (tickets c.storage)
-        good_tickets c e =
-            let g = (all_found (is_at (slice_cmp nat_cmp t.hash)) (IsGoodContract w) w.contracts c m.sound.contracts e).1 in
-            tickets_good (known_with w []) g.0.storage c.storage g.3
-
-    held_is : (j : Identity) → held_of v.ledger.books.present j owner ≡ own j
-    held_is j = r.adds.held j owner ∙ st.those.held j owner (contract_is_place t.hash twenty) ∙ storage_held w t.hash is.before j twenty is.there
-
-    gone_is : (j : Identity) → gone j ≡ own j
-    gone_is j =
-        ap (λ (h : Holders). amount_among j (stored_tickets (contract_at h t.hash))) r.funds
-        ∙ before_held u.funds.present u.store.bases.present u.ledger.books.present w t.hash is.before j st.those stored nu is.there
+commits_fit u v w s t argument counts f given is st stored nu r nv m formed same =
+    may_replace u v w s t argument counts f given is st stored nu r nv m formed same

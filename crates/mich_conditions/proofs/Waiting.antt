@@ -72,36 +72,43 @@ one_more a = omega (arith, ints)
 pub one_in : (id : Identity) (t : Held) → amount_of id t ≡ amount_in id (as_value t)
 one_in id t = one_more (amount_of id t)
 
-gone : (x h old new m r l : ℤ) → x +ℤ old ≡ h +ℤ new → new ≡ old -ℤ m → h +ℤ r ≡ l → pos 0 ≤ℤ r → (x +ℤ m) ≤ℤ l
-gone x h old new m r l e f g p = omega (arith, ints, e, f, g, p)
+gone : (x h old new m n r l : ℤ) → x +ℤ old ≡ h +ℤ new → new ≡ old -ℤ m → h +ℤ r ≡ l → pos 0 ≤ℤ r → m ≡ n → (x +ℤ n) ≤ℤ l
+gone x h old new m n r l e f g p q = omega (arith, ints, e, f, g, p, q)
 
 same_supply : (x w a b : ℕ) → x + a ≡ w + b → b ≡ a → x ≡ w
 same_supply x w a b e f = omega (arith, e, f)
 
+module _ (w : World) (waiting : List Waiting) (who : List ℕ) (t : Held) (g : IsGood w waiting) (key : is_key_hash who ≡ true) (form : IsTicket t)
+    (enough : t.amount ≤ℤ held_by w (identity_of t) (implicit_place who)) where
+  abbrev a : Account
+  a = account_or_none w who
+
+  abbrev b : Account
+  b = debited_account a t
+
+  abbrev x : World
+  x = with_account w who b
+
+  o : IsOrderly w
+  o = orderly_of w g.sound
+
+  has : t.amount ≤ℤ amount_held a (identity_of t)
+  has = subst (λ (z : ℤ). t.amount ≤ℤ z) (account_held w who (identity_of t) key) enough
+
+  gift_has_room : MayRun x (as_value t)
+  gift_has_room = record {
+    sound = sound_again w x g.sound
+        (orderly_account w who b o key (with_amount_form a (identity_of t) (amount_held a (identity_of t) -ℤ t.amount) (account_holdings w o who) form.0))
+        (minted_again w x g.sound refl)
+        (same_supply (supply x) (supply w) a.balance b.balance (account_supply w who b (in_order w o))
+        (same_balance a (identity_of t) (amount_held a (identity_of t) -ℤ t.amount)));
+    tickets = λ id. gone (held x id) (held w id) (amount_held a id) (amount_held b id) (amount_of id t) (amount_in id (as_value t)) (amount_waiting id waiting)
+        (minted_ever w id -ℤ burnt_ever w id)
+        (held_account w who b id o) (debited_held a t id (account_holdings w o who) has) (g.tickets id) (waiting_positive id w waiting g.waits) (one_in id t);
+  }
+
 pub gifts_may_run : GiftsMayRun
-gifts_may_run w waiting who t g key form enough = record {
-  sound = sound_again w x g.sound
-      (orderly_account w who b o key (with_amount_form a (identity_of t) (amount_held a (identity_of t) -ℤ t.amount) (account_holdings w o who) form.0))
-      (minted_again w x g.sound refl)
-      (same_supply (supply x) (supply w) a.balance b.balance (account_supply w who b (in_order w o)) (same_balance a (identity_of t) (amount_held a (identity_of t) -ℤ t.amount)));
-  tickets = λ id. gone (held x id) (held w id) (amount_held a id) (amount_held b id) (amount_of id t) (amount_waiting id waiting) (minted_ever w id -ℤ burnt_ever w id)
-      (held_account w who b id o) (debited_held a t id (account_holdings w o who) has) (g.tickets id) (waiting_positive id w waiting g.waits);
-}
-  where
-    o : IsOrderly w
-    o = orderly_of w g.sound
-
-    abbrev a : Account
-    a = account_or_none w who
-
-    abbrev b : Account
-    b = debited_account a t
-
-    abbrev x : World
-    x = with_account w who b
-
-    has : t.amount ≤ℤ amount_held a (identity_of t)
-    has = subst (λ (z : ℤ). t.amount ≤ℤ z) (account_held w who (identity_of t) key) enough
+gifts_may_run w waiting who t g key form enough = gift_has_room w waiting who t g key form enough
 
 -- ---- moves
 

@@ -1,9 +1,8 @@
 -- What a world stands for after each call.
-use Rattle.std.proofs.Common.{◌≡◌, ◌≤◌, ◌<◌, ◌+◌, nat_le, ℕ, ℤ, pos, ◌+ℤ◌, ◌≤ℤ◌, List, [], ◌∷◌, ◌++◌, map, length, Bool, true, false, cond, option_map, is_some, None, Some, refl, sym, ap, ◌∙◌, subst, arith}
+use Rattle.std.proofs.Common.{◌≡◌, ◌≤◌, ◌<◌, ◌+◌, ◌-◌, nat_le, ℕ, ℤ, pos, ◌+ℤ◌, ◌≤ℤ◌, List, [], ◌∷◌, ◌++◌, Bool, true, false, option_map, is_some, None, Some, refl, sym, ap, ◌∙◌, subst, arith}
 use Rattle.std.specs.Prelude.{if◌then◌else◌, Result, Ok, Err}
 use Rattle.std.specs.declared.option.Option.{Option}
 use Rattle.std.specs.List.Sorted.{IsStrictlySortedBy}
-use Rattle.std.specs.BTreeMap.{is_at, insert_entry}
 use Rattle.std.specs.Map.{keys_of}
 use Rattle.std.specs.List.{All, AllByRecursion}
 use Rattle.std.proofs.lemmas.Bool.{leb-true, le-leb}
@@ -11,10 +10,10 @@ use Rattle.std.proofs.lemmas.List.Elements.{All-append}
 use Rattle.rules_evaluation.specs.Contracts.{hash_in}
 use Rattle.rules_evaluation.specs.Surroundings.{Contract as PlainContract}
 use Rattle.rules_forms.specs.Spelling.{implicit_place, contract_place}
-use Rattle.rules_steps.specs.Changes.{Change, minted_in, burnt_in, identity_of, amount_among}
+use Rattle.rules_steps.specs.Changes.{Change, minted_in, burnt_in, identity_of}
 use Rattle.rules_typing.specs.Fits.{is_place}
 use Rattle.rules_values.specs.ByteForms.{is_implicit, is_key_hash}
-use Rattle.rules_values.specs.Tickets.{Identity, Held, tickets}
+use Rattle.rules_values.specs.Tickets.{Identity, tickets}
 use Rattle.rules_values.specs.Val.{Val}
 use Rattle.rules_world.specs.Balances as rules
 use Rattle.rules_world.specs.Balances.{most_mutez}
@@ -27,21 +26,15 @@ use Rattle.mich_bigmap.specs.Extended.{Extends}
 use Rattle.mich_bigmap.specs.Standing.{val_in}
 use Rattle.mich_bigmap.proofs.Settled.{based_later}
 use Rattle.mich_forms.specs.Spelled.{place_bytes}
-use Rattle.mich_forms.specs.declared.places.Place.{Place}
-use Rattle.mich_forms.specs.declared.places.Place.TheVariants as place
 use Rattle.mich_instr.specs.View.{script_node}
-use Rattle.mich_instr.specs.declared.instr.Script.{Script}
 use Rattle.mich_term.specs.ValueView.{val}
-use Rattle.mich_term.specs.declared.value.Value.{Value}
 use Rattle.mich_tickets.specs.Books.{Books, State}
-use Rattle.mich_tickets.specs.Effects.{Adds}
-use Rattle.mich_tickets.specs.Sums.{held_of, minted_of, burnt_of}
-use Rattle.mich_undo.specs.History.{History, kept as without_past}
+use Rattle.mich_undo.specs.History.{History}
 use Rattle.mich_world.specs.Answers.{IsGrant}
-use Rattle.mich_world.specs.Holders.{Holders, by_bytes, account_at, contract_at, balance_or_none, may_receive, with_less, with_account, with_contract as with_code_contract, endowed, committed}
-use Rattle.mich_world.specs.Marks.{mark_of, at_mark, KeepsWorld, IsSame}
-use Rattle.mich_world.specs.Standing.{purse, plain, contract_in, AreThose, StandsFor}
-use Rattle.mich_world.specs.Storages.{IsStored, AreStored, Installs, Commits, Stands, stored_tickets}
+use Rattle.mich_world.specs.Holders.{Holders, by_bytes, account_at, contract_at, balance_or_none, with_less, with_account, with_contract as with_code_contract, endowed, committed}
+use Rattle.mich_world.specs.Marks.{mark_of}
+use Rattle.mich_world.specs.Standing.{plain, AreThose, StandsFor}
+use Rattle.mich_world.specs.Storages.{IsStored, AreStored, stored_tickets}
 use Rattle.mich_world.specs.World.{World, with_funds, with_ledger}
 use Rattle.mich_world.specs.declared.contract.Contract.{Contract}
 use Rattle.mich_world.specs.declared.errors.GrantError.{GrantError}
@@ -49,7 +42,6 @@ use Rattle.mich_world.specs.declared.errors.GrantError.TheVariants as grant
 use Rattle.mich_world.proofs.Agreeing.{less_is}
 use Rattle.mich_world.proofs.Marks.{undone_is}
 use Rattle.mich_world.proofs.Moves.{contracts_there}
-use Rattle.mich_world.proofs.Seen.{seen_insert}
 use Rattle.mich_standing.specs.Runs.{Runs}
 use Rattle.mich_standing.specs.Laws.{NewWorldsAgree, ClocksAgree, Grants, GrantsAgree, InstallsAgree, CommitsAgree, RunsAgree, RunEndsAgree, CreditsAgree, DebitsAgree, SameWorldsAgree, MarksAgree, KeepingAgrees}
 use Rattle.mich_standing.proofs.Accounts.{keys_seen, account_is, account_held, credit_those, debit_those, balance_those, holder_there}
@@ -74,12 +66,9 @@ new_worlds_agree chain level moment = record {
   };
 }
   where
-    abbrev w : PlainWorld
-    w = new_world chain level moment
-
     by : (id : Identity) (o : List ℕ) (b : Bool) → pos 0
-        ≡ (if b then held_by_account (plain_account_at w (key_hash_in o)) id
-        else held_by_contract (plain_contract_at w (hash_in o)) id)
+        ≡ (if b then held_by_account (plain_account_at (new_world chain level moment) (key_hash_in o)) id
+        else held_by_contract (plain_contract_at (new_world chain level moment) (hash_in o)) id)
     by id o true = refl
     by id o false = refl
 
@@ -195,14 +184,14 @@ grants_agree u v w who mutez r s key e a = by_answer u v w who mutez key s e r a
 sorted_of : (h : Holders) (bs : Bases) (b : Books) (w : PlainWorld) → AreThose h bs b w → IsWorld w → IsStrictlySortedBy by_bytes (keys_of h.contracts)
 sorted_of h bs b w t i = subst (λ (ks : List (List ℕ)). IsStrictlySortedBy by_bytes ks) (ap keys_of t.contracts ∙ keys_seen (plain bs) h.contracts) i.contracts_in_order
 
+abbrev written : PlainWorld → List ℕ → ℕ → Bool → Option PlainContract → PlainWorld
+written w q n b o = if b then rules.with_account_balance w (key_hash_in q) n else rules.with_contract_balance w (hash_in q) n o
+
 -- after a balance was set
 clock_balance : (w : PlainWorld) (q : List ℕ) (n : ℕ) → ((rules.with_balance w q n).chain ≡ w.chain) × ((rules.with_balance w q n).level ≡ w.level) × ((rules.with_balance w q n).moment ≡ w.moment)
 clock_balance w q n = by (is_implicit q) (plain_contract_at w (hash_in q))
   where
-    abbrev after : Bool → Option PlainContract → PlainWorld
-    after b o = if b then rules.with_account_balance w (key_hash_in q) n else rules.with_contract_balance w (hash_in q) n o
-
-    by : (b : Bool) (o : Option PlainContract) → ((after b o).chain ≡ w.chain) × ((after b o).level ≡ w.level) × ((after b o).moment ≡ w.moment)
+    by : (b : Bool) (o : Option PlainContract) → ((written w q n b o).chain ≡ w.chain) × ((written w q n b o).level ≡ w.level) × ((written w q n b o).moment ≡ w.moment)
     by true o = (refl, refl, refl)
     by false None = (refl, refl, refl)
     by false (Some c) = (refl, refl, refl)

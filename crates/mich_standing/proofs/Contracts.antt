@@ -34,7 +34,7 @@ use Rattle.mich_term.specs.Layers.{AreFormed, FormedLayer}
 use Rattle.mich_term.specs.ValueView.{val}
 use Rattle.mich_term.specs.declared.value.Value.{Value}
 use Rattle.mich_tickets.specs.Books.{Books}
-use Rattle.mich_tickets.specs.Carrying.{Enters, Leaves}
+use Rattle.mich_tickets.specs.Carrying.{Enters}
 use Rattle.mich_tickets.specs.Sums.{held_of, totals_of}
 use Rattle.mich_tickets.specs.declared.totals.Totals.{Totals}
 use Rattle.mich_undo.specs.Undone.{changed_at}

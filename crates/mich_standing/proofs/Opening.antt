@@ -1,22 +1,20 @@
 -- An account that a move of no mutez makes.
-use Rattle.std.proofs.Common.{◌≡◌, ◌+◌, ◌-◌, ◌&&◌, ℕ, List, [], ◌∷◌, Bool, true, false, cond, option_map, unwrap_or, is_some, None, Some, refl, sym, ap, ◌∙◌, subst, arith}
-use Rattle.std.specs.Prelude.{if◌then◌else◌}
+use Rattle.std.proofs.Common.{◌≡◌, ◌+◌, ◌-◌, ℕ, List, [], ◌∷◌, Bool, true, cond, option_map, unwrap_or, is_some, None, Some, refl, ap, ◌∙◌, arith}
 use Rattle.std.specs.declared.option.Option.{Option}
 use Rattle.std.specs.declared.cmp.Ordering.{Ordering}
 use Rattle.std.specs.declared.cmp.Ordering.TheVariants.{Less, Equal, Greater}
 use Rattle.std.specs.Ordering.{nat_cmp, match_ordering}
 use Rattle.std.specs.Cmp.{IsTotalOrder, tied_itself}
 use Rattle.std.specs.Cmp.Lexicographic.{slice_cmp}
-use Rattle.std.specs.BTreeMap.{is_at, insert_entry}
+use Rattle.std.specs.BTreeMap.{insert_entry}
 use Rattle.std.proofs.lemmas.Cmp.{nat_list_cmp_total}
-use Rattle.rules_evaluation.specs.Contracts.{hash_in}
 use Rattle.rules_forms.specs.Spelling.{implicit_place}
-use Rattle.rules_values.specs.ByteForms.{is_key_hash, is_implicit}
+use Rattle.rules_values.specs.ByteForms.{is_key_hash}
 use Rattle.rules_values.specs.Tickets.{Held}
-use Rattle.rules_world.specs.Balances.{with_less, with_more, with_balance, balance_or_none, moved}
+use Rattle.rules_world.specs.Balances.{with_less, with_more, with_balance, balance_or_none}
 use Rattle.rules_world.specs.Forms.{IsWorld}
 use Rattle.rules_world.specs.Holdings.{credited, credited_account}
-use Rattle.rules_world.specs.World.{World, Account, account_at, contract_at, account_or_none, no_account, with_account}
+use Rattle.rules_world.specs.World.{World, Account, account_at, account_or_none, no_account, with_account}
 use Rattle.laws_accounts.proofs.Entries.{lookup_insert}
 use Rattle.mich_standing.specs.Laws.{CreditsMakeAccounts}
 use Rattle.mich_standing.proofs.Accounts.{written_same, implicit_is}
