@@ -1,5 +1,5 @@
 -- What the calls ask.
-use Rattle.std.proofs.Common.{◌≡◌, ℕ, ℤ, pos, ◌+ℤ◌, ◌-ℤ◌, ◌≤ℤ◌, List, [], ◌∷◌, length, Some, refl, sym, ap, ◌∙◌, subst, arith}
+use Rattle.std.proofs.Common.{◌≡◌, ℕ, ℤ, pos, ◌+ℤ◌, ◌-ℤ◌, ◌≤ℤ◌, List, [], ◌∷◌, length, Some, sym, ap, ◌∙◌, subst, arith}
 use Rattle.std.specs.Prelude.{neg_ℤ}
 use Rattle.std.proofs.lemmas.Int.{ints}
 use Rattle.std.specs.List.{All, AllByRecursion}
@@ -10,7 +10,7 @@ use Rattle.std.specs.BTreeMap.{is_at}
 use Rattle.rules_evaluation.specs.Operations.{Issued, operation_tickets}
 use Rattle.rules_evaluation.specs.Surroundings.{Contract as PlainContract}
 use Rattle.rules_forms.specs.Spelling.{implicit_place, contract_place}
-use Rattle.rules_steps.specs.Changes.{amount_of, amount_among, amount_in, identity_of, minted_in, burnt_in}
+use Rattle.rules_steps.specs.Changes.{amount_among, amount_in, identity_of, minted_in, burnt_in}
 use Rattle.rules_types.specs.Kind.{Kind}
 use Rattle.rules_values.specs.Tickets.{Identity, Held, tickets}
 use Rattle.rules_values.specs.Val.{Val}
@@ -23,7 +23,7 @@ use Rattle.rules_world.specs.Runs.{Finished}
 use Rattle.rules_world.specs.RunLaws.{amount_returned}
 use Rattle.rules_world.specs.Targets.{Target}
 use Rattle.rules_world.specs.World.{World as PlainWorld, contract_at as plain_contract_at}
-use Rattle.laws_accounts.proofs.Amounts.{tickets_good, among_positive, in_positive, burnt_positive}
+use Rattle.laws_accounts.proofs.Amounts.{tickets_good, among_positive, burnt_positive}
 use Rattle.laws_accounts.proofs.Entries.{all_found}
 use Rattle.laws_runs.specs.RunEnds.{IsFinished}
 use Rattle.laws_runs.proofs.Waiting.{operation_good}

@@ -1,22 +1,20 @@
 -- What there is room for in a good world.
-use Rattle.std.proofs.Common.{◌≡◌, ◌+◌, ℕ, ℤ, pos, ◌+ℤ◌, ◌-ℤ◌, ◌<ℤ◌, ◌≤ℤ◌, List, [], ◌∷◌, Bool, true, false, refl, ap, ◌∙◌, subst, arith}
+use Rattle.std.proofs.Common.{◌≡◌, ◌+◌, ℕ, ℤ, pos, ◌+ℤ◌, ◌-ℤ◌, ◌≤ℤ◌, List, ◌∷◌, Bool, true, refl, ap, ◌∙◌, subst, arith}
 use Rattle.std.specs.Prelude.{if◌then◌else◌}
 use Rattle.std.proofs.lemmas.Int.{ints}
-use Rattle.std.specs.List.{All}
 use Rattle.std.specs.Ordering.{is_eq}
 use Rattle.std.specs.Cmp.{tied_itself}
-use Rattle.std.proofs.lemmas.List.Elements.{All-head, All-tail}
+use Rattle.std.proofs.lemmas.List.Elements.{All-tail}
 use Rattle.rules_evaluation.specs.Operations.{Operation, transfer, origination, operation_tickets}
 use Rattle.rules_forms.specs.Spelling.{implicit_place}
 use Rattle.rules_steps.specs.Changes.{amount_of, amount_among, amount_in, identity_of, is_alike, minted_in, burnt_in}
 use Rattle.rules_values.specs.ByteForms.{is_key_hash}
-use Rattle.rules_values.specs.Tickets.{Identity, Held, tickets}
-use Rattle.rules_values.specs.Val.{Val}
+use Rattle.rules_values.specs.Tickets.{Identity, Held}
 use Rattle.rules_world.specs.Balances.{supply, moved}
 use Rattle.rules_world.specs.Forms.{IsTicket}
 use Rattle.rules_world.specs.Gives.{as_value}
-use Rattle.rules_world.specs.Good.{IsGood, IsGoodWaiting, IsSound, MayRun, amount_waiting}
-use Rattle.rules_world.specs.Holdings.{held, held_by, amount_held, with_amount, debited_account, minted_ever, burnt_ever}
+use Rattle.rules_world.specs.Good.{IsGood, IsGoodWaiting, MayRun, amount_waiting}
+use Rattle.rules_world.specs.Holdings.{held, held_by, amount_held, debited_account, minted_ever, burnt_ever}
 use Rattle.rules_world.specs.Outcomes.{Waiting, issued}
 use Rattle.rules_world.specs.World.{World, Account, account_or_none, with_account}
 use Rattle.laws_accounts.proofs.Holdings.{debited_held, with_amount_form}

@@ -1,10 +1,9 @@
 -- What the calls on a world ask follows from what holds of the good world that it stands for.
-use Rattle.std.specs.Prelude.{◌≡◌, ◌≤◌, ℕ, ℤ, ◌+ℤ◌, ◌≤ℤ◌, true, List, [], ◌∷◌, Option, length}
+use Rattle.std.specs.Prelude.{◌≡◌, ◌≤◌, ℕ, ◌+ℤ◌, ◌≤ℤ◌, true, List, [], ◌∷◌, Option, length}
 use Rattle.rules_base.specs.Tree.{Tree}
-use Rattle.rules_evaluation.specs.Contracts.{hash_in}
-use Rattle.rules_evaluation.specs.Operations.{Operation, transfer, origination}
+use Rattle.rules_evaluation.specs.Operations.{transfer, origination}
 use Rattle.rules_forms.specs.Spelling.{implicit_place}
-use Rattle.rules_steps.specs.Changes.{amount_of, identity_of}
+use Rattle.rules_steps.specs.Changes.{identity_of}
 use Rattle.rules_types.specs.Kind.{Kind}
 use Rattle.rules_values.specs.ByteForms.{is_implicit, is_key_hash}
 use Rattle.rules_values.specs.Tickets.{Held, tickets}
