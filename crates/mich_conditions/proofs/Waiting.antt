@@ -1,14 +1,17 @@
 -- What there is room for in a good world.
-use Rattle.std.proofs.Common.{◌≡◌, ◌+◌, ℕ, ℤ, pos, ◌+ℤ◌, ◌-ℤ◌, ◌≤ℤ◌, List, ◌∷◌, Bool, true, refl, ap, ◌∙◌, subst, arith}
+use Rattle.std.proofs.Common.{◌≡◌, ◌+◌, ℕ, ℤ, pos, ◌+ℤ◌, ◌-ℤ◌, ◌≤ℤ◌, List, ◌∷◌, Bool, true, false, is_some, None, Some, refl, sym, ap, ◌∙◌, subst, arith}
 use Rattle.std.specs.Prelude.{if◌then◌else◌}
 use Rattle.std.proofs.lemmas.Int.{ints}
+use Rattle.std.specs.declared.option.Option.{Option}
 use Rattle.std.specs.Ordering.{is_eq}
 use Rattle.std.specs.Cmp.{tied_itself}
 use Rattle.std.proofs.lemmas.List.Elements.{All-tail}
+use Rattle.rules_evaluation.specs.Contracts.{hash_in}
 use Rattle.rules_evaluation.specs.Operations.{Operation, transfer, origination, operation_tickets}
+use Rattle.rules_evaluation.specs.Surroundings.{Contract}
 use Rattle.rules_forms.specs.Spelling.{implicit_place}
 use Rattle.rules_steps.specs.Changes.{amount_of, amount_among, amount_in, identity_of, is_alike, minted_in, burnt_in}
-use Rattle.rules_values.specs.ByteForms.{is_key_hash}
+use Rattle.rules_values.specs.ByteForms.{is_implicit, is_key_hash}
 use Rattle.rules_values.specs.Tickets.{Identity, Held}
 use Rattle.rules_world.specs.Balances.{supply, moved}
 use Rattle.rules_world.specs.Forms.{IsTicket}
@@ -16,15 +19,15 @@ use Rattle.rules_world.specs.Gives.{as_value}
 use Rattle.rules_world.specs.Good.{IsGood, IsGoodWaiting, MayRun, amount_waiting}
 use Rattle.rules_world.specs.Holdings.{held, held_by, amount_held, debited_account, minted_ever, burnt_ever}
 use Rattle.rules_world.specs.Outcomes.{Waiting, issued}
-use Rattle.rules_world.specs.World.{World, Account, account_or_none, with_account}
+use Rattle.rules_world.specs.World.{World, Account, account_or_none, contract_at, with_account}
 use Rattle.laws_accounts.proofs.Holdings.{debited_held, with_amount_form}
 use Rattle.laws_accounts.proofs.Identities.{identity_total, alike_equal}
-use Rattle.laws_accounts.proofs.Mutez.{account_supply}
+use Rattle.laws_accounts.proofs.Mutez.{IsOwner, account_supply}
 use Rattle.laws_runs.proofs.Moves.{in_order, moved_moves, moved_supply}
 use Rattle.laws_runs.proofs.Steps.{orderly_of, sound_again, minted_again}
 use Rattle.laws_runs.proofs.Waiting.{waiting_positive}
 use Rattle.laws_runs.proofs.Worlds.{IsOrderly, account_holdings, orderly_account, held_account}
-use Rattle.mich_conditions.specs.Laws.{TransfersMayRun, OriginationsMayRun, PlainValuesMayRun, GiftsMayRun, MovesLeaveRoom}
+use Rattle.mich_conditions.specs.Laws.{MayReceive, TransfersMayRun, OriginationsMayRun, PlainValuesMayRun, GiftsMayRun, MovesLeaveRoom}
 use Rattle.mich_standing.proofs.Accounts.{same_balance, account_held}
 
 -- ---- what waits
@@ -110,8 +113,17 @@ gifts_may_run w waiting who t g key form enough = gift_has_room w waiting who t 
 
 -- ---- moves
 
+owner_of : (w : World) (place : List ℕ) → MayReceive w place → IsOwner w place (is_implicit place)
+owner_of w place h = by (is_implicit place) (contract_at w (hash_in place)) refl h
+  where
+    by : (b : Bool) (o : Option Contract) → contract_at w (hash_in place) ≡ o → (b ≡ false → is_some (contract_at w (hash_in place)) ≡ true) → IsOwner w place b
+    by true o e h = tt
+    by false (Some c) e h = (c, e)
+    by false None e h = let x : false ≡ true = ap is_some (sym e) ∙ h refl in absurd cc
+
 pub moves_leave_room : MovesLeaveRoom
-moves_leave_room w from to mutez x m enough owner =
+moves_leave_room w from to mutez x m enough may =
+    let owner = owner_of w to may in
     let o = orderly_of w m.sound in
     let after = moved w from to mutez in
     let only = moved_moves w from to mutez o in

@@ -1,6 +1,7 @@
 -- What the calls on a world ask follows from what holds of the good world that it stands for.
-use Rattle.std.specs.Prelude.{◌≡◌, ◌≤◌, ℕ, ◌+ℤ◌, ◌≤ℤ◌, true, List, [], ◌∷◌, Option, length}
+use Rattle.std.specs.Prelude.{◌≡◌, ◌≤◌, ℕ, ◌+ℤ◌, ◌≤ℤ◌, true, false, is_some, List, [], ◌∷◌, Option, length}
 use Rattle.rules_base.specs.Tree.{Tree}
+use Rattle.rules_evaluation.specs.Contracts.{hash_in}
 use Rattle.rules_evaluation.specs.Operations.{transfer, origination}
 use Rattle.rules_forms.specs.Spelling.{implicit_place}
 use Rattle.rules_steps.specs.Changes.{identity_of}
@@ -16,8 +17,7 @@ use Rattle.rules_world.specs.Holdings.{held_by, debited}
 use Rattle.rules_world.specs.Outcomes.{Setting, Counts, Waiting, issued}
 use Rattle.rules_world.specs.Runs.{Finished}
 use Rattle.rules_world.specs.Targets.{Target}
-use Rattle.rules_world.specs.World.{World as PlainWorld}
-use Rattle.laws_accounts.proofs.Mutez.{IsOwner}
+use Rattle.rules_world.specs.World.{World as PlainWorld, contract_at as plain_contract_at}
 use Rattle.laws_runs.specs.RunEnds.{IsFinished}
 use Rattle.mich_bigmap.specs.Standing.{val_in}
 use Rattle.mich_bigmap.specs.Ticketless.{HoldNoTickets}
@@ -55,10 +55,14 @@ GiftsMayRun = (w : PlainWorld) (waiting : List Waiting) (who : List ℕ) (t : He
     → t.amount ≤ℤ held_by w (identity_of t) (implicit_place who)
     → MayRun (debited w who t) (as_value t)
 
+-- mutez may come to any account, and to a contract that is there
+abbrev pub MayReceive : PlainWorld → List ℕ → Type 0
+MayReceive w place = is_implicit place ≡ false → is_some (plain_contract_at w (hash_in place)) ≡ true
+
 -- after a move of mutez there is as much room
 abbrev pub MovesLeaveRoom : Type 0
 MovesLeaveRoom = (w : PlainWorld) (from to : List ℕ) (mutez : ℕ) (x : Val) → MayRun w x → mutez ≤ balance_or_none w from
-    → IsOwner w to (is_implicit to) → MayRun (moved w from to mutez) x
+    → MayReceive w to → MayRun (moved w from to mutez) x
 
 -- ---- what calls ask
 
