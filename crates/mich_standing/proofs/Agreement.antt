@@ -34,7 +34,7 @@ use Rattle.mich_world.specs.Answers.{IsGrant}
 use Rattle.mich_world.specs.Holders.{Holders, by_bytes, account_at, contract_at, balance_or_none, with_less, with_account, with_contract as with_code_contract, endowed, committed}
 use Rattle.mich_world.specs.Marks.{mark_of}
 use Rattle.mich_world.specs.Standing.{plain, AreThose, StandsFor}
-use Rattle.mich_world.specs.Storages.{IsStored, AreStored, stored_tickets}
+use Rattle.mich_world.specs.Storages.{IsStored, stored_tickets}
 use Rattle.mich_world.specs.World.{World, with_funds, with_ledger}
 use Rattle.mich_world.specs.declared.contract.Contract.{Contract}
 use Rattle.mich_world.specs.declared.errors.GrantError.{GrantError}
@@ -42,8 +42,7 @@ use Rattle.mich_world.specs.declared.errors.GrantError.TheVariants as grant
 use Rattle.mich_world.proofs.Agreeing.{less_is}
 use Rattle.mich_world.proofs.Marks.{undone_is}
 use Rattle.mich_world.proofs.Moves.{contracts_there}
-use Rattle.mich_standing.specs.Runs.{Runs}
-use Rattle.mich_standing.specs.Laws.{NewWorldsAgree, ClocksAgree, Grants, GrantsAgree, InstallsAgree, CommitsAgree, RunsAgree, RunEndsAgree, CreditsAgree, DebitsAgree, SameWorldsAgree, MarksAgree, KeepingAgrees}
+use Rattle.mich_standing.specs.Laws.{NewWorldsAgree, ClocksAgree, Grants, GrantsAgree, InstallsAgree, CommitsAgree, RunsAgree, RunsKeepStored, RunEndsAgree, CreditsAgree, DebitsAgree, SameWorldsAgree, MarksAgree, KeepingAgrees}
 use Rattle.mich_standing.proofs.Accounts.{keys_seen, account_is, account_held, credit_those, debit_those, balance_those, holder_there}
 use Rattle.mich_standing.proofs.Contracts.{later, standing, balance_same, nobody, length_is, amounts, before_held, contract_those, made_held, replaced_held, made_contracts, replaced_contracts}
 use Rattle.mich_standing.proofs.Owners.{contract_is_place, account_is_place}
@@ -285,7 +284,7 @@ stored_later : (old new : Bases) (cs : List (List ℕ × Contract)) → Extends 
 stored_later old new [] x h = tt
 stored_later old new (c ∷ cs) x h = (record { settled = h.0.settled; based = based_later old new c.1.storage x h.0.based }, stored_later old new cs x h.1)
 
-pub runs_keep_stored : (u v : World) (changes : List Change) → AreStored u → Runs changes u v → AreStored v
+pub runs_keep_stored : RunsKeepStored
 runs_keep_stored u v changes stored r =
     subst (λ (k : Holders). AllByRecursion (λ (c : List ℕ × Contract). IsStored v.store.bases.present c.1) k.contracts) (sym r.funds)
     (stored_later u.store.bases.present v.store.bases.present u.funds.present.contracts r.bases stored)

@@ -3,3 +3,5 @@ pub mod Agreement
 pub mod Contracts
 pub mod Opening
 pub mod Owners
+pub mod Runs
+pub mod Storages

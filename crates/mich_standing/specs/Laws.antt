@@ -1,5 +1,5 @@
 -- The world of the definitions that a world stands for after each of its calls.
-use Rattle.std.specs.Prelude.{◌≡◌, ℕ, ℤ, neg_ℤ, ◌≤ℤ◌, true, false, is_some, List, ◌++◌, length, Some, Result, Ok, Err}
+use Rattle.std.specs.Prelude.{◌≡◌, ℕ, ℤ, neg_ℤ, ◌≤ℤ◌, true, false, is_some, List, [], ◌++◌, length, Some, Result, Ok, Err}
 use Rattle.std.specs.List.{All, AllByRecursion}
 use Rattle.rules_evaluation.specs.Surroundings.{Contract as PlainContract}
 use Rattle.rules_forms.specs.Spelling.{implicit_place}
@@ -13,7 +13,9 @@ use Rattle.rules_world.specs.Holdings.{credited, debited}
 use Rattle.rules_world.specs.Originations.{founded}
 use Rattle.rules_world.specs.Runs.{kept}
 use Rattle.rules_world.specs.World.{World as PlainWorld, new_world, contract_at as plain_contract_at, account_at as plain_account_at, with_contract}
+use Rattle.mich_bigmap.specs.Extended.{Extends}
 use Rattle.mich_bigmap.specs.Standing.{val_in}
+use Rattle.mich_bigmap.specs.Stored.{Stored}
 use Rattle.mich_bigmap.specs.Ticketless.{HoldNoTickets}
 use Rattle.mich_forms.specs.Spelled.{place_bytes}
 use Rattle.mich_forms.specs.declared.places.Place.{Place}
@@ -22,16 +24,16 @@ use Rattle.mich_instr.specs.declared.instr.Script.{Script}
 use Rattle.mich_term.specs.Layers.{AreFormed}
 use Rattle.mich_term.specs.declared.value.Value.{Value}
 use Rattle.mich_tickets.specs.Books.{State}
-use Rattle.mich_tickets.specs.Effects.{Moves}
+use Rattle.mich_tickets.specs.Effects.{Adds, Moves}
 use Rattle.mich_tickets.specs.Limits.{IsPositive}
 use Rattle.mich_tickets.specs.Sums.{held_of}
 use Rattle.mich_undo.specs.History.{kept as without_past}
 use Rattle.mich_world.specs.Answers.{IsGrant}
-use Rattle.mich_world.specs.Holders.{account_at, contract_at, may_receive}
+use Rattle.mich_world.specs.Holders.{account_at, contract_at, may_receive, moved, fee_taken, endowed}
 use Rattle.mich_world.specs.Marks.{mark_of, at_mark, KeepsWorld, IsSame}
 use Rattle.mich_world.specs.Standing.{StandsFor}
 use Rattle.mich_world.specs.Storages.{AreStored, Stands, Installs, Commits}
-use Rattle.mich_world.specs.World.{World, no_world, with_clock, with_funds, with_ledger}
+use Rattle.mich_world.specs.World.{World, no_world, with_clock, with_funds, with_ledger, with_store}
 use Rattle.mich_world.specs.declared.errors.GrantError.{GrantError}
 use Rattle.mich_world.specs.declared.errors.GrantError.TheVariants as grant
 use Rattle.mich_standing.specs.Runs.{Runs}
@@ -88,6 +90,19 @@ abbrev pub RunsAgree : Type 0
 RunsAgree = (u v : World) (w : PlainWorld) (changes : List Change) → StandsFor u w → AreStored u → Runs changes u v
     → StandsFor v (record w { log = w.log ++ changes })
 
+-- it begins with nothing done, and goes on part by part: the ledger is told changes, and bases are added
+abbrev pub RunsBegin : Type 0
+RunsBegin = (u : World) → Runs [] u u
+
+abbrev pub RunsGoOn : Type 0
+RunsGoOn = (u v w : World) (cs ds : List Change) → Runs cs u v → Runs ds v w → Runs (cs ++ ds) u w
+
+abbrev pub LedgersRun : Type 0
+LedgersRun = (u : World) (l : State) (changes : List Change) → Adds changes u.ledger.books.present l.books.present → Runs changes u (with_ledger u l)
+
+abbrev pub StoresRun : Type 0
+StoresRun = (u : World) (s : Stored) → Extends u.store.bases.present s.bases.present → Runs [] u (with_store u s)
+
 -- both: the run of a contract comes to its end, and its new storage is kept
 abbrev pub RunEndsAgree : Type 0
 RunEndsAgree = (u v z : World) (w : PlainWorld) (changes : List Change) (hash : List ℕ) (given : Value) (before : PlainContract)
@@ -135,3 +150,20 @@ KeepingAgrees = (u v : World) (w : PlainWorld) → StandsFor u w → AreStored u
     → v.funds ≡ without_past u.funds → v.ledger.books ≡ without_past u.ledger.books
     → AllByRecursion (Stands u.store.bases.present v.store.bases.present) u.funds.present.contracts
     → StandsFor v w
+
+-- ---- storages stay settled
+
+abbrev pub MovesKeepStored : Type 0
+MovesKeepStored = (u v : World) (from to : Place) (mutez : ℕ) → AreStored u → v ≡ with_funds u v.funds
+    → v.funds.present ≡ moved u.funds.present from to mutez → AreStored v
+
+abbrev pub FeesKeepStored : Type 0
+FeesKeepStored = (u v : World) (who : List ℕ) (fee : ℕ) → AreStored u → v ≡ with_funds u v.funds
+    → v.funds.present ≡ fee_taken u.funds.present who fee → AreStored v
+
+abbrev pub GrantsKeepStored : Type 0
+GrantsKeepStored = (u v : World) (who : List ℕ) (mutez : ℕ) → AreStored u → v ≡ with_funds u v.funds
+    → v.funds.present ≡ endowed u.funds.present who mutez → AreStored v
+
+abbrev pub RunsKeepStored : Type 0
+RunsKeepStored = (u v : World) (changes : List Change) → AreStored u → Runs changes u v → AreStored v
