@@ -96,6 +96,20 @@ contract_is_place hash h =
 pub account_is_place : (who : List ℕ) → is_key_hash who ≡ true → is_place (implicit_place who) ≡ true
 account_is_place who h = ap (λ b. b || is_contract (implicit_place who)) h
 
+length_less : (n : ℕ) (hash : List ℕ) → length (hash ++ 0 ∷ []) ≡ suc n → length hash ≡ n
+length_less n hash h = let e = length_more hash in omega (arith, e, h)
+
+-- the other way round
+pub place_length : (hash : List ℕ) → is_place (contract_place hash) ≡ true → length hash ≡ 20
+place_length hash h = length_less 20 hash ((contract (contract_place hash)).0 (of_contract (is_implicit (contract_place hash)) (is_contract (contract_place hash)) h refl)).1
+
+or_false : (b : Bool) → (b || false) ≡ true → b ≡ true
+or_false true h = refl
+or_false false h = h
+
+pub implicit_of : (who : List ℕ) → is_place (implicit_place who) ≡ true → is_implicit (implicit_place who) ≡ true
+implicit_of who h = or_false (is_implicit (implicit_place who)) h
+
 pub hash_of : (hash : List ℕ) → length hash ≡ 20 → hash_in (contract_place hash) ≡ hash
 hash_of hash h = front_is 20 hash (0 ∷ []) h
 
