@@ -1,5 +1,5 @@
 -- What a world stands for after each call.
-use Rattle.std.proofs.Common.{◌≡◌, ◌≤◌, ◌<◌, ◌+◌, ◌-◌, nat_le, ℕ, ℤ, pos, ◌+ℤ◌, ◌≤ℤ◌, List, [], ◌∷◌, ◌++◌, Bool, true, false, option_map, is_some, None, Some, refl, sym, ap, ◌∙◌, subst, arith}
+use Rattle.std.proofs.Common.{◌≡◌, ◌||◌, ◌≤◌, ◌<◌, ◌+◌, ◌-◌, nat_le, ℕ, ℤ, pos, ◌+ℤ◌, ◌≤ℤ◌, List, [], ◌∷◌, ◌++◌, Bool, true, false, option_map, is_some, None, Some, refl, sym, ap, ◌∙◌, subst, arith}
 use Rattle.std.specs.Prelude.{if◌then◌else◌, Result, Ok, Err}
 use Rattle.std.specs.declared.option.Option.{Option}
 use Rattle.std.specs.List.Sorted.{IsStrictlySortedBy}
@@ -26,6 +26,7 @@ use Rattle.mich_bigmap.specs.Extended.{Extends}
 use Rattle.mich_bigmap.specs.Standing.{val_in}
 use Rattle.mich_bigmap.proofs.Settled.{based_later}
 use Rattle.mich_forms.specs.Spelled.{place_bytes}
+use Rattle.mich_forms.specs.declared.places.Place.TheVariants as place
 use Rattle.mich_instr.specs.View.{script_node}
 use Rattle.mich_term.specs.ValueView.{val}
 use Rattle.mich_tickets.specs.Books.{Books, State}
@@ -42,10 +43,10 @@ use Rattle.mich_world.specs.declared.errors.GrantError.TheVariants as grant
 use Rattle.mich_world.proofs.Agreeing.{less_is}
 use Rattle.mich_world.proofs.Marks.{undone_is}
 use Rattle.mich_world.proofs.Moves.{contracts_there}
-use Rattle.mich_standing.specs.Laws.{NewWorldsAgree, ClocksAgree, Grants, GrantsAgree, InstallsAgree, CommitsAgree, RunsAgree, RunsKeepStored, RunEndsAgree, CreditsAgree, DebitsAgree, SameWorldsAgree, MarksAgree, KeepingAgrees}
+use Rattle.mich_standing.specs.Laws.{NewWorldsAgree, ClocksAgree, ContractsAgree, AccountsAgree, ReceiversAgree, Grants, GrantsAgree, InstallsAgree, CommitsAgree, RunsAgree, RunsKeepStored, RunEndsAgree, CreditsAgree, DebitsAgree, SameWorldsAgree, MarksAgree, KeepingAgrees}
 use Rattle.mich_standing.proofs.Accounts.{keys_seen, account_is, account_held, credit_those, debit_those, balance_those, holder_there}
-use Rattle.mich_standing.proofs.Contracts.{later, standing, balance_same, nobody, length_is, amounts, before_held, contract_those, made_held, replaced_held, made_contracts, replaced_contracts}
-use Rattle.mich_standing.proofs.Owners.{contract_is_place, account_is_place}
+use Rattle.mich_standing.proofs.Contracts.{contract_is, later, standing, balance_same, nobody, length_is, amounts, before_held, contract_those, made_held, replaced_held, made_contracts, replaced_contracts}
+use Rattle.mich_standing.proofs.Owners.{contract_is_place, account_is_place, place_length, implicit_of, hash_of}
 
 -- ---- new worlds and the clock
 
@@ -177,6 +178,24 @@ module _ (u v : World) (w : PlainWorld) (who : List ℕ) (mutez : ℕ) (key : is
 
 pub grants_agree : GrantsAgree
 grants_agree u v w who mutez r s key e a = by_answer u v w who mutez key s e r a
+
+-- ---- who is there
+
+pub contracts_agree : ContractsAgree
+contracts_agree v w hash s = contract_is v.funds.present v.store.bases.present v.ledger.books.present w hash s.those
+
+pub accounts_agree : AccountsAgree
+accounts_agree v w who s = account_is v.funds.present v.store.bases.present v.ledger.books.present w who s.those
+
+some_same : {A B : Type 0} (f : A → B) (o : Option A) → is_some o ≡ is_some (option_map f o)
+some_same f None = refl
+some_same f (Some x) = refl
+
+pub receivers_agree : ReceiversAgree
+receivers_agree v w (place.Implicit who) s p = sym (ap (λ (b : Bool). b || is_some (plain_contract_at w (hash_in (implicit_place who)))) (implicit_of who p))
+receivers_agree v w (place.Contract hash) s p =
+    some_same (plain v.store.bases.present) (contract_at v.funds.present hash)
+    ∙ ap is_some (sym (contracts_agree v w hash s) ∙ ap (plain_contract_at w) (sym (hash_of hash (place_length hash p))))
 
 -- ---- contracts
 

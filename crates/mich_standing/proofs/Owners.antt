@@ -96,6 +96,20 @@ contract_is_place hash h =
 pub account_is_place : (who : List ℕ) → is_key_hash who ≡ true → is_place (implicit_place who) ≡ true
 account_is_place who h = ap (λ b. b || is_contract (implicit_place who)) h
 
+length_less : (n : ℕ) (hash : List ℕ) → length (hash ++ 0 ∷ []) ≡ suc n → length hash ≡ n
+length_less n hash h = let e = length_more hash in omega (arith, e, h)
+
+-- the other way round
+pub place_length : (hash : List ℕ) → is_place (contract_place hash) ≡ true → length hash ≡ 20
+place_length hash h = length_less 20 hash ((contract (contract_place hash)).0 (of_contract (is_implicit (contract_place hash)) (is_contract (contract_place hash)) h refl)).1
+
+or_false : (b : Bool) → (b || false) ≡ true → b ≡ true
+or_false true h = refl
+or_false false h = h
+
+pub implicit_of : (who : List ℕ) → is_place (implicit_place who) ≡ true → is_implicit (implicit_place who) ≡ true
+implicit_of who h = or_false (is_implicit (implicit_place who)) h
+
 pub hash_of : (hash : List ℕ) → length hash ≡ 20 → hash_in (contract_place hash) ≡ hash
 hash_of hash h = front_is 20 hash (0 ∷ []) h
 
@@ -118,8 +132,9 @@ module _ (w : World) (hash : List ℕ) (d : Contract) (twenty : length hash ≡ 
   same_contract q =
       same_test (bytes_eq (contract_place q) (contract_place hash)) (is_at (slice_cmp nat_cmp q) hash)
       (λ e. let p : contract_place q ≡ contract_place hash = (bytes_eq-Decides (contract_place q) (contract_place hash)).0 e in
-        subst (λ (x : List ℕ). is_at (slice_cmp nat_cmp x) hash ≡ true) (sym (let e : q ++ 0 ∷ [] ≡ hash ++ 0 ∷ [] = cc in without_last q hash e)) (at_itself hash))
+      subst (λ (x : List ℕ). is_at (slice_cmp nat_cmp x) hash ≡ true) (sym (let e : q ++ 0 ∷ [] ≡ hash ++ 0 ∷ [] = cc in without_last q hash e)) (at_itself hash))
       (λ e. (bytes_eq-Decides (contract_place q) (contract_place hash)).1 (ap contract_place (found_same q hash e)))
+
   by_contract : (id : Identity) (q : List ℕ) (c : Bool) →
       held_by_contract (cond c (Some d) (contract_at w q)) id ≡ (if c then amount_in id d.storage else held_by_contract (contract_at w q) id)
   by_contract id q true = refl
@@ -147,7 +162,7 @@ module _ (w : World) (who : List ℕ) (a : Account) where
   same_account q =
       same_test (bytes_eq (implicit_place q) (implicit_place who)) (is_at (slice_cmp nat_cmp q) who)
       (λ e. let p : implicit_place q ≡ implicit_place who = (bytes_eq-Decides (implicit_place q) (implicit_place who)).0 e in
-        let s : q ≡ who = cc in subst (λ (x : List ℕ). is_at (slice_cmp nat_cmp x) who ≡ true) (sym s) (at_itself who))
+      let s : q ≡ who = cc in subst (λ (x : List ℕ). is_at (slice_cmp nat_cmp x) who ≡ true) (sym s) (at_itself who))
       (λ e. (bytes_eq-Decides (implicit_place q) (implicit_place who)).1 (ap implicit_place (found_same q who e)))
 
   by_account : (id : Identity) (q : List ℕ) (c : Bool) →

@@ -1,11 +1,12 @@
 -- The world of the definitions that a world stands for after each of its calls.
-use Rattle.std.specs.Prelude.{◌≡◌, ℕ, ℤ, neg_ℤ, ◌≤ℤ◌, true, false, is_some, List, [], ◌++◌, length, Some, Result, Ok, Err}
+use Rattle.std.specs.Prelude.{◌≡◌, ◌||◌, option_map, ℕ, ℤ, neg_ℤ, ◌≤ℤ◌, true, false, is_some, List, [], ◌++◌, length, Some, Result, Ok, Err}
 use Rattle.std.specs.List.{All, AllByRecursion}
+use Rattle.rules_evaluation.specs.Contracts.{hash_in}
 use Rattle.rules_evaluation.specs.Surroundings.{Contract as PlainContract}
 use Rattle.rules_forms.specs.Spelling.{implicit_place}
 use Rattle.rules_steps.specs.Changes.{Change, amount_of, identity_of}
 use Rattle.rules_typing.specs.Fits.{is_place}
-use Rattle.rules_values.specs.ByteForms.{is_key_hash}
+use Rattle.rules_values.specs.ByteForms.{is_implicit, is_key_hash}
 use Rattle.rules_values.specs.Tickets.{Held}
 use Rattle.rules_world.specs.Balances as rules
 use Rattle.rules_world.specs.Forms.{IsWorld, IsChange}
@@ -31,7 +32,7 @@ use Rattle.mich_undo.specs.History.{kept as without_past}
 use Rattle.mich_world.specs.Answers.{IsGrant}
 use Rattle.mich_world.specs.Holders.{account_at, contract_at, may_receive, moved, fee_taken, endowed}
 use Rattle.mich_world.specs.Marks.{mark_of, at_mark, KeepsWorld, IsSame}
-use Rattle.mich_world.specs.Standing.{StandsFor}
+use Rattle.mich_world.specs.Standing.{plain, StandsFor}
 use Rattle.mich_world.specs.Storages.{AreStored, Stands, Installs, Commits}
 use Rattle.mich_world.specs.World.{World, no_world, with_clock, with_funds, with_ledger, with_store}
 use Rattle.mich_world.specs.declared.errors.GrantError.{GrantError}
@@ -59,6 +60,23 @@ abbrev pub GrantsAgree : Type 0
 GrantsAgree = (u v : World) (w : PlainWorld) (who : List ℕ) (mutez : ℕ) (r : Result (Unit {0}) GrantError) → StandsFor u w
     → is_key_hash who ≡ true → v ≡ with_funds u v.funds → IsGrant who mutez u.funds v.funds r
     → Grants v (rules.granted_to w who mutez) r
+
+-- ---- who is there
+
+-- the contract of these 20 bytes
+abbrev pub ContractsAgree : Type 0
+ContractsAgree = (v : World) (w : PlainWorld) (hash : List ℕ) → StandsFor v w
+    → plain_contract_at w hash ≡ option_map (plain v.store.bases.present) (contract_at v.funds.present hash)
+
+-- the account of a key hash
+abbrev pub AccountsAgree : Type 0
+AccountsAgree = (v : World) (w : PlainWorld) (who : List ℕ) → StandsFor v w
+    → account_at v.funds.present who ≡ option_map (λ a. a.balance) (plain_account_at w who)
+
+-- whether mutez may come to a place
+abbrev pub ReceiversAgree : Type 0
+ReceiversAgree = (v : World) (w : PlainWorld) (p : Place) → StandsFor v w → is_place (place_bytes p) ≡ true
+    → may_receive v.funds.present p ≡ (is_implicit (place_bytes p) || is_some (plain_contract_at w (hash_in (place_bytes p))))
 
 -- ---- contracts
 

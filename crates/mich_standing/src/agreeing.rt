@@ -1,5 +1,5 @@
 // What a world stands for after each call.
-ghost use Rattle.mich_standing.specs.Laws.{NewWorldsAgree, ClocksAgree, GrantsAgree, InstallsAgree, CommitsAgree, RunsAgree, RunEndsAgree, CreditsAgree, DebitsAgree, CreditsMakeAccounts, SameWorldsAgree, MarksAgree, KeepingAgrees};
+ghost use Rattle.mich_standing.specs.Laws.{NewWorldsAgree, ClocksAgree, ContractsAgree, AccountsAgree, ReceiversAgree, GrantsAgree, InstallsAgree, CommitsAgree, RunsAgree, RunEndsAgree, CreditsAgree, DebitsAgree, CreditsMakeAccounts, SameWorldsAgree, MarksAgree, KeepingAgrees};
 
 /// A world of nobody stands for a new one.
 pub fn new_worlds_agree()
@@ -65,4 +65,19 @@ pub fn marks_agree()
 /// The end of all marks leaves what a world stands for.
 pub fn keeping_agrees()
     ensures { KeepingAgrees }
+{}
+
+/// A contract of a world stands for that of the world that it stands for.
+pub fn contracts_agree()
+    ensures { ContractsAgree }
+{}
+
+/// An account of a world has the balance that it has in the world that it stands for.
+pub fn accounts_agree()
+    ensures { AccountsAgree }
+{}
+
+/// Mutez may come to a place exactly where it is an account's, or a contract's that is there.
+pub fn receivers_agree()
+    ensures { ReceiversAgree }
 {}
