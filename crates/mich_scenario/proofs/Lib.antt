@@ -1,1 +1,4 @@
 mod Counts
+pub mod Each
+mod Fronts
+mod Gifts
