@@ -1,10 +1,11 @@
 -- Forms of so many fields: where there are more or fewer, there is no statement, and no content.
-use Rattle.std.proofs.Common.{◌≡◌, ◌≢◌, length, ℕ, List, [], ◌∷◌, ◌++◌, Option, Some, None, refl, ap, sym, ◌∙◌}
+use Rattle.std.proofs.Common.{◌≡◌, ◌≢◌, length, ℕ, List, [], ◌∷◌, ◌++◌, Option, Some, None, refl, ap, ◌<◌, ◌≤◌, get_or, arith}
 use Rattle.std.specs.Prelude.{ℤ, codes}
 use Rattle.rules_base.specs.Tree.{Tree}
+use Rattle.rules_world.specs.Balances.{most_mutez}
 use Rattle.rules_world.specs.Contents.{Content}
-use Rattle.rules_statements.specs.Statements.{◌>>=◌, nodes_of, chain_of, account_of, block_of, group_of, content_by, number_of, gas_of, most_mutez}
-use Rattle.mich_base.specs.Counted.{IsNotOne, IsNotTwo, IsNotThree}
+use Rattle.rules_statements.specs.Statements.{◌>>=◌, nodes_of, chain_of, account_of, block_of, costs_of, group_of, content_by, number_of, gas_of}
+use Rattle.mich_base.specs.Counted.{IsNotEmpty, IsNotOne, IsNotTwo, IsNotThree}
 use Rattle.mich_base.specs.View.{tree, trees}
 use Rattle.mich_base.specs.declared.node.Node.{Node}
 use Rattle.mich_scenario.specs.View.{IsNoSource}
@@ -62,7 +63,8 @@ order_fields (a ∷ b ∷ []) argument h = no_action (tree a) (tree b)
 order_fields (a ∷ b ∷ c ∷ []) argument h = no_action (tree a) (tree b)
 order_fields (a ∷ b ∷ c ∷ d ∷ []) argument h = no_action (tree a) (tree b)
 order_fields (a ∷ b ∷ c ∷ d ∷ e ∷ []) argument h = absurd (h refl)
-order_fields (a ∷ b ∷ c ∷ d ∷ e ∷ f ∷ ns) argument h = no_action (tree a) (tree b)
+order_fields (a ∷ b ∷ c ∷ d ∷ e ∷ f ∷ []) argument h = no_action (tree a) (tree b)
+order_fields (a ∷ b ∷ c ∷ d ∷ e ∷ f ∷ g ∷ ns) argument h = no_action (tree a) (tree b)
 
 pub gift_fields : (ns : List Node) → length ns ≢ 8 → content_by (codes "Give") (nodes_of (trees ns)) ≡ None
 gift_fields [] h = refl
@@ -75,3 +77,23 @@ gift_fields (a ∷ b ∷ c ∷ d ∷ e ∷ f ∷ []) h = no_action (tree a) (tre
 gift_fields (a ∷ b ∷ c ∷ d ∷ e ∷ f ∷ g ∷ []) h = no_action (tree a) (tree b)
 gift_fields (a ∷ b ∷ c ∷ d ∷ e ∷ f ∷ g ∷ i ∷ []) h = absurd (h refl)
 gift_fields (a ∷ b ∷ c ∷ d ∷ e ∷ f ∷ g ∷ i ∷ j ∷ ns) h = no_action (tree a) (tree b)
+
+-- ---- tables, and lists of eight
+
+pub more_fields : (fields front : List Node) (table : Node) → fields ≡ front ++ table ∷ [] → IsNotEmpty front → costs_of (nodes_of (trees fields)) ≡ None
+more_fields fields [] table is h = absurd h
+more_fields fields (a ∷ []) table is h = ap (λ (ns : List Node). costs_of (nodes_of (trees ns))) is
+more_fields fields (a ∷ b ∷ ns) table is h = ap (λ (ns : List Node). costs_of (nodes_of (trees ns))) is
+
+pub eight_listed : (ns : List Node) (a b c d e f g h : Node) → 8 ≤ length ns → length ns < 9 → a ≡ get_or ns 0 a → b ≡ get_or ns 1 b → c ≡ get_or ns 2 c → d ≡ get_or ns 3 d
+    → e ≡ get_or ns 4 e → f ≡ get_or ns 5 f → g ≡ get_or ns 6 g → h ≡ get_or ns 7 h → ns ≡ a ∷ b ∷ c ∷ d ∷ e ∷ f ∷ g ∷ h ∷ []
+eight_listed [] a b c d e f g h low high ia ib ic id ie if' ig ih = absurd (omega arith)
+eight_listed (n ∷ []) a b c d e f g h low high ia ib ic id ie if' ig ih = absurd (omega arith)
+eight_listed (n ∷ o ∷ []) a b c d e f g h low high ia ib ic id ie if' ig ih = absurd (omega arith)
+eight_listed (n ∷ o ∷ p ∷ []) a b c d e f g h low high ia ib ic id ie if' ig ih = absurd (omega arith)
+eight_listed (n ∷ o ∷ p ∷ q ∷ []) a b c d e f g h low high ia ib ic id ie if' ig ih = absurd (omega arith)
+eight_listed (n ∷ o ∷ p ∷ q ∷ r ∷ []) a b c d e f g h low high ia ib ic id ie if' ig ih = absurd (omega arith)
+eight_listed (n ∷ o ∷ p ∷ q ∷ r ∷ s ∷ []) a b c d e f g h low high ia ib ic id ie if' ig ih = absurd (omega arith)
+eight_listed (n ∷ o ∷ p ∷ q ∷ r ∷ s ∷ t ∷ []) a b c d e f g h low high ia ib ic id ie if' ig ih = absurd (omega arith)
+eight_listed (n ∷ o ∷ p ∷ q ∷ r ∷ s ∷ t ∷ u ∷ []) a b c d e f g h low high ia ib ic id ie if' ig ih = cc
+eight_listed (n ∷ o ∷ p ∷ q ∷ r ∷ s ∷ t ∷ u ∷ v ∷ ns) a b c d e f g h low high ia ib ic id ie if' ig ih = absurd (omega arith)

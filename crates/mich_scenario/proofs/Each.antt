@@ -12,7 +12,7 @@ use Rattle.mich_ops.specs.declared.group.Content.{Content}
 use Rattle.mich_scenario.specs.View.{contents_said}
 
 -- what all nodes are, where these contents are read and these nodes are left
-pub reached : List Content → List Node → Option (List rules.Content)
+abbrev pub reached : List Content → List Node → Option (List rules.Content)
 reached read left = option_map (λ cs. contents_said read ++ cs) (each_content (nodes_of (trees left)))
 
 before : (o : Option (List rules.Content)) (front : List rules.Content) (c : rules.Content)

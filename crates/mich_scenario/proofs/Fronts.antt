@@ -1,7 +1,6 @@
 -- Fields of which the last are taken.
-use Rattle.std.proofs.Common.{◌≡◌, ℕ, List, [], ◌∷◌, ◌++◌, Option, Some, None, refl, ap, sym, ◌∙◌, append_assoc}
-use Rattle.std.specs.Prelude.{codes, length, map, option_map}
-use Rattle.rules_base.specs.Tree.{Tree, trees_of}
+use Rattle.std.proofs.Common.{◌≡◌, ℕ, List, [], ◌∷◌, ◌++◌, Option, refl, ap, sym, ◌∙◌, append_assoc}
+use Rattle.rules_base.specs.Tree.{Tree}
 use Rattle.rules_world.specs.Contents as rules
 use Rattle.rules_statements.specs.Statements.{content_by, nodes_of}
 use Rattle.mich_base.specs.View.{tree, trees}
@@ -24,10 +23,11 @@ last_two fields kept front x y second first =
 pub last_one : (fields front : List Node) (x : Node) → fields ≡ front ++ x ∷ [] → nodes_of (trees fields) ≡ nodes_of (trees front) ++ tree x ∷ []
 last_one fields front x first = ap (λ (ns : List Node). nodes_of (trees ns)) first ∙ last_node front x
 
--- none, or one alone, is no content
-pub no_fields : (name : List ℕ) (fields : List Node) → fields ≡ [] → content_by name (nodes_of (trees fields)) ≡ None
-no_fields name fields e = ap (λ (ns : List Node). content_by name (nodes_of (trees ns))) e
+-- what is read of fields of which the last one or two are taken
+pub one_kept : (name : List ℕ) (fields front : List Node) (x : Node) (whole : Option rules.Content) → fields ≡ front ++ x ∷ []
+    → whole ≡ content_by name (nodes_of (trees front) ++ tree x ∷ []) → whole ≡ content_by name (nodes_of (trees fields))
+one_kept name fields front x whole first h = h ∙ ap (content_by name) (sym (last_one fields front x first))
 
-pub one_field : (name : List ℕ) (fields kept : List Node) (x : Node) → fields ≡ kept ++ x ∷ [] → kept ≡ [] → content_by name (nodes_of (trees fields)) ≡ None
-one_field name fields kept x second first =
-    ap (λ (ns : List Node). content_by name (nodes_of (trees ns))) (second ∙ ap (λ (ns : List Node). ns ++ x ∷ []) first)
+pub two_kept : (name : List ℕ) (fields kept front : List Node) (x y : Node) (whole : Option rules.Content) → fields ≡ kept ++ y ∷ [] → kept ≡ front ++ x ∷ []
+    → whole ≡ content_by name (nodes_of (trees front) ++ tree x ∷ tree y ∷ []) → whole ≡ content_by name (nodes_of (trees fields))
+two_kept name fields kept front x y whole second first h = h ∙ ap (content_by name) (sym (last_two fields kept front x y second first))

@@ -1,6 +1,6 @@
 -- Gifts by their eight fields.
 use Rattle.std.proofs.Common.{◌≡◌, ℕ, List, [], ◌∷◌, ◌++◌, Option, Some, None, refl, ap, sym, ◌∙◌}
-use Rattle.std.specs.Prelude.{codes, length, take}
+use Rattle.std.specs.Prelude.{codes, length, take, option_map, MatchOption}
 use Rattle.rules_base.specs.Tree.{Tree}
 use Rattle.rules_world.specs.Contents.{Content}
 use Rattle.rules_statements.specs.Statements.{content_by, nodes_of}
@@ -30,6 +30,13 @@ is_gift fields a b i k c n t e g is made = record {
     ap (λ (ns : List Node). content_by (codes "Give") (nodes_of (trees ns))) is ∙ sym (made (tree k) (tree c))
     ∙ ap (λ (x : Node). Some (given (tree x) (tree c) g)) five.0 ∙ ap (λ (x : Node). Some (given (tree kind) (tree x) g)) five.1
 }
+
+-- what is read of eight fields
+pub gift_read : (fields : List Node) (a b i k c n t e : Node) (o : Option Gift) → fields ≡ a ∷ b ∷ i ∷ k ∷ c ∷ n ∷ t ∷ e ∷ []
+    → ((kind content : Tree) → option_map (given kind content) o ≡ content_by (codes "Give") (tree a ∷ tree b ∷ tree i ∷ kind ∷ content ∷ tree n ∷ tree t ∷ tree e ∷ []))
+    → MatchOption o (content_by (codes "Give") (nodes_of (trees fields)) ≡ None) (λ g. IsGift fields g)
+gift_read fields a b i k c n t e None is made = ap (λ (ns : List Node). content_by (codes "Give") (nodes_of (trees ns))) is ∙ sym (made (tree k) (tree c))
+gift_read fields a b i k c n t e (Some g) is made = is_gift fields a b i k c n t e g is made
 
 -- of eight fields five stand before the amount, and four of them before the content
 pub five_stand : (fields kept : List Node) → length fields ≡ 8 → kept ≡ take 5 fields → kept ≡ [] → ⊥

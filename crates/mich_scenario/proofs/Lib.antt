@@ -2,3 +2,4 @@ mod Counts
 pub mod Each
 mod Fronts
 mod Gifts
+mod Groups

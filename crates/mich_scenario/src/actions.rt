@@ -6,6 +6,7 @@ ghost use Rattle.mich_base.specs.View.{tree, trees};
 ghost use Rattle.mich_ops.specs.View.{content};
 ghost use Rattle.mich_scenario.specs.Fronts.{called, given, originated, IsGift};
 
+use crate::counted::{eight, five};
 use crate::fields::{contract_place, entrypoint, gas, number, place, ticket_amount};
 use mich_base::{Node, Nodes};
 use mich_forms::{Entrypoint, Place};
@@ -65,7 +66,13 @@ fn originate(fields: Nodes) -> Option<Content>
     let storage = fields.pop()?;
     let script = fields.pop()?;
     let origin = read_origin(&fields)?;
-    Some(Content {
+    Some(originated(origin, script, storage))
+}
+
+fn originated(origin: Origin, script: Node, storage: Node) -> Content
+    ensures { content result ≡ originated (tree script) (tree storage) origin }
+{
+    Content {
         fee: origin.fee,
         gas: origin.gas,
         action: Action::Originate {
@@ -73,17 +80,19 @@ fn originate(fields: Nodes) -> Option<Content>
             script,
             storage,
         },
-    })
+    }
 }
 
 // fee gas amount destination "entrypoint"
-#[tactic(auto, using(crate::proofs::Counts::order_fields))]
-fn read_order(front: &Nodes) -> Option<Order>
-    ensures { (argument : Tree) → option_map (called argument) result ≡ content_by (codes "Call") (nodes_of (trees front.now) ++ argument ∷ []) }
+fn order_of(
+    fee: &Node,
+    limit: &Node,
+    amount: &Node,
+    to: &Node,
+    entry: &Node,
+) -> Option<Order>
+    ensures { (argument : Tree) → option_map (called argument) result ≡ content_by (codes "Call") (tree fee.now ∷ tree limit.now ∷ tree amount.now ∷ tree to.now ∷ tree entry.now ∷ argument ∷ []) }
 {
-    let [fee, limit, amount, to, entry] = front.as_slice() else {
-        return None;
-    };
     let fee = number(fee, MOST_MUTEZ)?;
     let gas = gas(limit)?;
     let amount = number(amount, MOST_MUTEZ)?;
@@ -98,6 +107,16 @@ fn read_order(front: &Nodes) -> Option<Order>
     })
 }
 
+#[tactic(auto, using(crate::proofs::Counts::order_fields))]
+fn read_order(front: &Nodes) -> Option<Order>
+    ensures { (argument : Tree) → option_map (called argument) result ≡ content_by (codes "Call") (nodes_of (trees front.now) ++ argument ∷ []) }
+{
+    match five(front) {
+        Some((fee, limit, amount, to, entry)) => order_of(fee, limit, amount, to, entry),
+        None => None,
+    }
+}
+
 // fee gas amount destination "entrypoint" argument
 fn call(fields: Nodes) -> Option<Content>
     ensures { option_map content result ≡ content_by (codes "Call") (nodes_of (trees fields)) }
@@ -105,16 +124,29 @@ fn call(fields: Nodes) -> Option<Content>
     let mut fields = fields;
     let argument = fields.pop()?;
     let order = read_order(&fields)?;
-    Some(Content {
-        fee: order.fee,
-        gas: order.gas,
+    Some(called(order, argument))
+}
+
+fn called(order: Order, argument: Node) -> Content
+    ensures { content result ≡ called (tree argument) order }
+{
+    let Order {
+        fee,
+        gas,
+        amount,
+        to,
+        entry,
+    } = order;
+    Content {
+        fee,
+        gas,
         action: Action::Call {
-            amount: order.amount,
-            to: order.to,
-            entry: order.entry,
+            amount,
+            to,
+            entry,
             argument,
         },
-    })
+    }
 }
 
 // A gift by the fields round the type and the content.
@@ -145,14 +177,14 @@ fn gift_of(
 }
 
 // fee gas issuer type content amount destination "entrypoint"
-#[tactic(auto, using(crate::proofs::Counts::gift_fields, crate::proofs::Gifts::is_gift))]
+#[tactic(auto, using(crate::proofs::Counts::gift_fields))]
 fn read_gift(fields: &Nodes) -> Option<Gift>
     ensures { MatchOption result (content_by (codes "Give") (nodes_of (trees fields.now)) ≡ None) (λ g. IsGift fields.now g) }
 {
-    let [fee, limit, issuer, _, _, amount, to, entry] = fields.as_slice() else {
-        return None;
-    };
-    gift_of(fee, limit, issuer, amount, to, entry)
+    match eight(fields) {
+        Some(all) => gift_of(all.0, all.1, all.2, all.5, all.6, all.7),
+        None => None,
+    }
 }
 
 // The same, with the type and the content as they are.
@@ -164,18 +196,32 @@ fn give(fields: Nodes) -> Option<Content>
     fields.truncate(5);
     let content = fields.pop()?;
     let ty = fields.pop()?;
-    Some(Content {
-        fee: gift.fee,
-        gas: gift.gas,
+    Some(given(gift, ty, content))
+}
+
+fn given(gift: Gift, ty: Node, literal: Node) -> Content
+    ensures { content result ≡ given (tree ty) (tree literal) gift }
+{
+    let Gift {
+        fee,
+        gas,
+        issuer,
+        amount,
+        to,
+        entry,
+    } = gift;
+    Content {
+        fee,
+        gas,
         action: Action::Give {
-            issuer: gift.issuer,
+            issuer,
             ty,
-            content,
-            amount: gift.amount,
-            to: gift.to,
-            entry: gift.entry,
+            content: literal,
+            amount,
+            to,
+            entry,
         },
-    })
+    }
 }
 
 /// The content of a name with fields.

@@ -66,11 +66,13 @@ fn costs(fields: Nodes) -> Option<Statement>
 {
     let mut fields = fields;
     let table = fields.pop()?;
-    if fields.is_empty() && is_table(&table) {
-        Some(Statement::Costs(table))
-    } else {
-        None
+    if !fields.is_empty() {
+        return None;
     }
+    if !is_table(&table) {
+        return None;
+    }
+    Some(Statement::Costs(table))
 }
 
 // The name and the arguments of an application without annotations.
@@ -125,7 +127,10 @@ fn elements(node: Node) -> Option<Nodes>
 fn counted(alloc: Global, nodes: Nodes) -> Result<Rows<Content>, FormError>
     ensures { IsForm contents_said (counted (nodes_of (trees nodes))) result }
 {
-    if nodes.is_empty() || nodes.len() > MOST_CONTENTS {
+    if nodes.is_empty() {
+        return Err(FormError::BadStatement);
+    }
+    if nodes.len() > MOST_CONTENTS {
         return Err(FormError::BadStatement);
     }
     each_content(alloc, nodes)
@@ -162,8 +167,10 @@ fn group(alloc: Global, fields: Nodes) -> Result<Statement, FormError>
     let Some(source) = source(&fields) else {
         return Err(FormError::BadStatement);
     };
-    let contents = contents(alloc, orders)?;
-    Ok(Statement::Group(Group { source, contents }))
+    match contents(alloc, orders) {
+        Ok(contents) => Ok(Statement::Group(Group { source, contents })),
+        Err(error) => Err(error),
+    }
 }
 
 fn statement_by(alloc: Global, name: &[u8], fields: Nodes) -> Result<Statement, FormError>

@@ -2,6 +2,7 @@
 #![tactic(auto)]
 
 mod actions;
+mod counted;
 mod error;
 mod fields;
 mod forms;
