@@ -84,11 +84,10 @@ fn built_contents(contents: Rows<ops::Content>) -> Option<Content>
 {
     let mut contents = contents;
     let last = contents.pop()?;
-    if contents.is_empty() {
-        built_content(last)
-    } else {
-        None
+    if !contents.is_empty() {
+        return None;
     }
+    built_content(last)
 }
 
 /// The statement, where it is built.
