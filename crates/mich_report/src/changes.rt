@@ -4,7 +4,7 @@ ghost use Rattle.rules_lines.specs.Nodes.{change_node, changes_node};
 ghost use Rattle.mich_base.specs.View.{tree};
 ghost use Rattle.mich_ops.specs.View.{change};
 
-use crate::parts::ticket_nodes;
+use crate::parts::{sequence_node, ticket_nodes};
 use mich_base::{Memory, Node, Nodes, Rows};
 use mich_term::Change;
 use mich_types::application;
@@ -34,5 +34,5 @@ pub(crate) fn changes_node(alloc: Global, changes: &Rows<Change>) -> Result<Node
     for made in changes.as_slice() {
         nodes.push(change_node(alloc, made)?)?;
     }
-    Ok(Node::Seq(nodes))
+    Ok(sequence_node(nodes))
 }

@@ -5,7 +5,7 @@ ghost use Rattle.mich_base.specs.View.{tree};
 ghost use Rattle.mich_ops.specs.View.{effect};
 
 use crate::changes::changes_node;
-use crate::parts::{address_node, number_node, place_node};
+use crate::parts::{address_node, number_node, place_node, sequence_node};
 use mich_base::{Memory, Node, Nodes, Rows, copy_node};
 use mich_ops::Effect;
 use mich_types::application;
@@ -59,5 +59,5 @@ pub(crate) fn effects_node(alloc: Global, effects: &Rows<Effect>) -> Result<Node
     for done in effects.as_slice() {
         nodes.push(effect_node(alloc, done)?)?;
     }
-    Ok(Node::Seq(nodes))
+    Ok(sequence_node(nodes))
 }

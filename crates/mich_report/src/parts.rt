@@ -1,9 +1,9 @@
 // Parts of lines.
 ghost use Rattle.std.specs.Prelude.{◌≡◌, ◌++◌, ◌∷◌, [], IfOk, map};
-ghost use Rattle.rules_base.specs.Tree.{bytes, int};
+ghost use Rattle.rules_base.specs.Tree.{bytes, int, seq};
 ghost use Rattle.rules_lines.specs.Nodes.{number, ticket_fields};
 ghost use Rattle.mich_base.specs.TypeView.{kind};
-ghost use Rattle.mich_base.specs.View.{tree};
+ghost use Rattle.mich_base.specs.View.{tree, trees};
 ghost use Rattle.mich_forms.specs.Spelled.{address_bytes, place_bytes};
 ghost use Rattle.mich_term.specs.View.{datum};
 
@@ -13,6 +13,13 @@ use mich_forms::{Address, Place};
 use mich_term::TicketId;
 use mich_types::type_node;
 use std::alloc::Global;
+
+/// A sequence of nodes.
+pub(crate) fn sequence_node(nodes: Nodes) -> Node
+    ensures { tree result ≡ seq (trees nodes) }
+{
+    Node::Seq(nodes)
+}
 
 /// A number that isn't negative.
 pub(crate) fn number_node(n: u64) -> Node

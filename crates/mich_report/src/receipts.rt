@@ -10,7 +10,7 @@ ghost use Rattle.mich_report.specs.Told.{told_group_node, told_receipt_node, tol
 use crate::effects::effects_node;
 use crate::failures::failure_node;
 use crate::line::node_line;
-use crate::parts::number_node;
+use crate::parts::{number_node, sequence_node};
 use mich_base::{Memory, Node, Nodes, Rows, Text};
 use mich_ops::{GroupFault, GroupReceipt, Status};
 use mich_types::{bare, over_one, over_two};
@@ -50,7 +50,7 @@ fn statuses_node(alloc: Global, statuses: &Rows<Status>) -> Result<Node, Memory>
     for found in statuses.as_slice() {
         nodes.push(status_node(alloc, found)?)?;
     }
-    Ok(Node::Seq(nodes))
+    Ok(sequence_node(nodes))
 }
 
 fn receipt_node(alloc: Global, found: &GroupReceipt) -> Result<Node, Memory>
