@@ -71,10 +71,10 @@ fn group_node(alloc: Global, number: u64, found: &GroupReceipt) -> Result<Node, 
 
 /// The line of the group of a number: why it was refused, or the status of each content, with the gas that it used and its
 /// effects (Octez "Operations", receipts). Memory where there is no room for it.
-#[tactic(auto, using(crate::proofs::Same::told_line))]
 pub fn receipt_text(alloc: Global, number: u64, r: &GroupReceipt) -> Result<Text, Memory>
     ensures { IfOk result (λ written. (found : Receipt) → told_receipt found ≡ receipt r.now → written ≡ line (group_node number found)) }
 {
     let node = group_node(alloc, number, r)?;
-    node_line(alloc, &node)
+    let written = node_line(alloc, &node)?;
+    Ok(written)
 }
