@@ -5,8 +5,8 @@ use Rattle.rules_replay.specs.Statements as rules
 use Rattle.mich_replay.specs.declared.transfers.Action.{Action}
 use Rattle.mich_replay.specs.declared.transfers.Action.TheVariants.{Call}
 use Rattle.mich_replay.specs.declared.transfers.Content.{Content}
-use Rattle.mich_replay.specs.declared.transfers.Built.{Built}
-use Rattle.mich_replay.specs.declared.transfers.Built.TheVariants as code
+use Rattle.mich_replay.specs.declared.transfers.BuiltStatement.{BuiltStatement}
+use Rattle.mich_replay.specs.declared.transfers.BuiltStatement.TheVariants as code
 
 abbrev pub action_said : Action → rules.Action
 action_said (Call amount to entrypoint argument) = rules.Call amount (place_bytes to) entrypoint (tree argument)
@@ -14,7 +14,7 @@ action_said (Call amount to entrypoint argument) = rules.Call amount (place_byte
 abbrev pub content_said : Content → rules.Content
 content_said c = record { fee = c.fee; gas = c.gas; action = action_said c.action }
 
-abbrev pub built_said : Built → rules.Statement
+abbrev pub built_said : BuiltStatement → rules.Statement
 built_said (code.Chain id level moment) = rules.Chain id level moment
 built_said (code.Account key_hash mutez) = rules.Account key_hash mutez
 built_said (code.Group g) = rules.Group g.source (content_said g.content)

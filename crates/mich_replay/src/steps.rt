@@ -11,7 +11,7 @@ ghost use Rattle.mich_replay.specs.Steps.{IsGranting, IsTaken};
 
 use crate::lines::group_line;
 use crate::outcome::{FileFault, Grant};
-use crate::transfers::{Built, Group, built};
+use crate::transfers::{BuiltStatement, Group, built};
 use crate::world::World;
 use mich_answers::as_text;
 use mich_base::{Memory, Node, Texts};
@@ -47,7 +47,7 @@ fn step(
     alloc: Global,
     world: &mut Option<World>,
     lines: &mut Texts,
-    statement: &Built,
+    statement: &BuiltStatement,
 ) -> Result<Option<FileFault>, Memory>
     requires { length lines.old < 2 ^ 64 - 1 }
     ensures taken { IsTaken (step world.old (built_said statement.now)) lines.old world.new lines.new result }
@@ -55,16 +55,16 @@ fn step(
 {
     match world {
         None => match statement {
-            Built::Chain(id, level, moment) => {
+            BuiltStatement::Chain(id, level, moment) => {
                 *world = Some(World::new(alloc, *id, *level, *moment));
                 Ok(None)
             }
             _ => Ok(Some(FileFault::BadOrder)),
         },
         Some(found) => match statement {
-            Built::Chain(_, _, _) => Ok(Some(FileFault::BadOrder)),
-            Built::Account(who, mutez) => grant(found, *who, *mutez),
-            Built::Group(group) => {
+            BuiltStatement::Chain(_, _, _) => Ok(Some(FileFault::BadOrder)),
+            BuiltStatement::Account(who, mutez) => grant(found, *who, *mutez),
+            BuiltStatement::Group(group) => {
                 apply(alloc, found, group, lines)?;
                 Ok(None)
             }

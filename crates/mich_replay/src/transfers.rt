@@ -39,7 +39,7 @@ pub struct Group {
 
 /// A statement that is built.
 #[derive(Debug, Drop)]
-pub enum Built {
+pub enum BuiltStatement {
     /// The chain's identity, its level, and its moment in seconds.
     Chain(ChainId, u32, i64),
     /// A new account with so much mutez.
@@ -91,16 +91,16 @@ fn built_contents(contents: Rows<ops::Content>) -> Option<Content>
 }
 
 /// The statement, where it is built.
-pub(crate) fn built(statement: Statement) -> Option<Built>
+pub(crate) fn built(statement: Statement) -> Option<BuiltStatement>
     ensures { option_map built_said result ≡ built (said statement) }
 {
     match statement {
-        Statement::Chain(id, level, moment) => Some(Built::Chain(id, level, moment)),
-        Statement::Account(who, mutez) => Some(Built::Account(who, mutez)),
+        Statement::Chain(id, level, moment) => Some(BuiltStatement::Chain(id, level, moment)),
+        Statement::Account(who, mutez) => Some(BuiltStatement::Account(who, mutez)),
         Statement::Costs(_) | Statement::Block(_, _) => None,
         Statement::Group(group) => {
             let content = built_contents(group.contents)?;
-            Some(Built::Group(Group {
+            Some(BuiltStatement::Group(Group {
                 source: group.source,
                 content,
             }))
