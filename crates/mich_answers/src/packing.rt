@@ -7,7 +7,7 @@ ghost use Rattle.rules_values.specs.Literals.{read};
 ghost use Rattle.rules_steps.specs.Packing.{packed};
 ghost use Rattle.rules_typing.specs.Literals.{of_reading};
 ghost use Rattle.rules_replay.specs.Packs.{first_claim, ill_typed_at, literal_answer, pack_by, pack_fields, pack_literal, pack_node, packed_answer, packing_answer};
-ghost use Rattle.rules_replay.specs.Statements.{nodes_of};
+ghost use Rattle.rules_statements.specs.Statements.{nodes_of};
 ghost use Rattle.laws_packing.specs.Names.{IsPackable};
 ghost use Rattle.mich_base.specs.TypeView.{kind};
 ghost use Rattle.mich_base.specs.View.{tree, trees};

@@ -10,7 +10,8 @@ use Rattle.std.specs.List.Sorted.{IsStrictlySortedBy}
 use Rattle.std.proofs.lemmas.Cmp.{nat_list_cmp_total}
 use borrow.Author.Tests.{leb-true}
 use Rattle.rules_replay.specs.Places.{Placed, IsEndAt}
-use Rattle.rules_replay.specs.Statements.{Statement, Chain, Account, Group, Action, Call, Content, form, most_mutez}
+use Rattle.rules_world.specs.Balances.{most_mutez}
+use Rattle.rules_replay.specs.Statements.{Statement, Chain, Account, Group, Action, Call, Content, form}
 use Rattle.rules_replay.specs.Receipts.{Receipt, GroupFault, Failure}
 use Rattle.rules_replay.specs.World.{World, new_world, balance_of, balance_in, with_balance, Granted, Repeated, TooMuch, granted_to, left_after_fee, fee_taken, moved, acted, refusal_of, failure_of, admitted, tried, world_by, world_after, supply}
 use Rattle.rules_replay.specs.Replay.{Replay, Closes, State, step_by, granting, Run, going, stopped, continued, run_one, run_all}

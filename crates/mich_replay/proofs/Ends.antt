@@ -16,7 +16,7 @@ use Rattle.rules_replay.specs.Answers.{Answer, done_with, refused_with}
 use Rattle.rules_replay.specs.Codec.{alone, bytes_line, fitting, of_statements, of_text, IsCodecAnswer}
 use Rattle.rules_replay.specs.Packs.{ill_typed_at, packed_answer, first_claim, unless_claimed, literal_answer, pack_literal, packing_answer, pack_fields, pack_by, pack_node}
 use Rattle.rules_replay.specs.Places.{Placed}
-use Rattle.rules_replay.specs.Statements.{nodes_of}
+use Rattle.rules_statements.specs.Statements.{nodes_of}
 use Rattle.mich_base.specs.declared.memory.Memory.{Memory}
 use Rattle.mich_answers.specs.View.{answer_seen, IsDoneOrRefused}
 use Rattle.mich_answers.specs.declared.answer.Answer.{Answer as Reply}

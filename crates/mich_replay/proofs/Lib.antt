@@ -12,3 +12,4 @@ pub mod Written
 pub mod Cut
 pub mod Ends
 pub mod Fronts
+mod Built

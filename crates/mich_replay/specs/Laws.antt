@@ -2,7 +2,8 @@
 use Rattle.std.specs.Prelude.{◌≡◌, ◌≢◌, ◌≤◌, ℕ, ◌+◌, List, [], ◌∷◌, Some, None}
 use Rattle.std.specs.declared.option.Option.{Option}
 use Rattle.rules_replay.specs.Places.{Placed, AreStatements, IsEndAt}
-use Rattle.rules_replay.specs.Statements.{Statement, Chain, Account, Group, Content, form, most_mutez}
+use Rattle.rules_world.specs.Balances.{most_mutez}
+use Rattle.rules_replay.specs.Statements.{Statement, Chain, Account, Group, Content, form}
 use Rattle.rules_replay.specs.Receipts.{GroupFault, Failure, Refused, Done, Failed}
 use Rattle.rules_replay.specs.World.{World, balance_of, balance_in, receipt_of, world_after, supply}
 use Rattle.rules_replay.specs.Replay.{Replay, State, IsReplay}

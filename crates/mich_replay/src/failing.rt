@@ -2,13 +2,13 @@
 ghost use Rattle.std.specs.Prelude.{◌≡◌, ◌≤◌, Some, None, option_map};
 ghost use Rattle.mich_base.specs.View.{tree};
 ghost use Rattle.rules_replay.specs.World.{is_unit, account_failure, failure_of};
-ghost use Rattle.mich_scenario.specs.View.{content_said};
+ghost use Rattle.mich_replay.specs.Transfers.{content_said};
 ghost use Rattle.mich_replay.specs.View.{failure_seen};
 
 use crate::outcome::Failure;
+use crate::transfers::{Action, Content};
 use mich_base::Node;
 use mich_forms::{Entrypoint, Place};
-use mich_scenario::{Action, Content};
 
 // The gas that a transfer uses.
 const TRANSFER_GAS: i128 = 1;

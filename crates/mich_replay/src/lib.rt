@@ -12,6 +12,7 @@ mod reading;
 mod replaying;
 mod steps;
 mod top;
+mod transfers;
 mod world;
 
 pub use honest::replay_bytes;

@@ -6,14 +6,14 @@ ghost use Rattle.rules_forms.specs.Spelling.{implicit_place};
 ghost use Rattle.rules_replay.specs.Receipts as receipts;
 ghost use Rattle.rules_replay.specs.World.{transfer_receipt, receipt_by};
 ghost use Rattle.rules_replay.specs.Lines.{transfer_text, failure_text, group_fault_name, file_fault_name, group_line, account_line, fees_line, supply_line, usage_line};
-ghost use Rattle.mich_scenario.specs.View.{action_said, content_said};
+ghost use Rattle.mich_replay.specs.Transfers.{action_said, content_said};
 ghost use Rattle.mich_forms.specs.Spelled.{place_bytes};
 ghost use Rattle.mich_replay.specs.View.{group_fault_seen, failure_seen, verdict_seen, file_fault_seen};
 
 use crate::outcome::{Failure, FileFault, GroupFault, Verdict};
+use crate::transfers::{Action, Group};
 use mich_answers::text_kind_name;
 use mich_forms::{KeyHash, Place};
-use mich_scenario::{Action, Group};
 use std::alloc::{AllocError, Global};
 
 // The bytes of a key hash in hexadecimal digits.

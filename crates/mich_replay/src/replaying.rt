@@ -45,7 +45,7 @@ pub(crate) fn replay(alloc: Global, file: &[u8]) -> Result<Answer, Memory>
     'statements: loop {
         match read_next(alloc, file, place)? {
             Next::Statement(placed) => {
-                match take(alloc, &mut world, &mut lines, &placed.node)? {
+                match take(alloc, &mut world, &mut lines, placed.node)? {
                     Some(fault) => return stopped(alloc, lines, fault, placed.start),
                     None => place = placed.end,
                 }

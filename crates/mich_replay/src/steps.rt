@@ -5,17 +5,18 @@ ghost use Rattle.rules_replay.specs.Statements.{form};
 ghost use Rattle.rules_replay.specs.World.{receipt_of, world_after, granted_to};
 ghost use Rattle.rules_replay.specs.Replay.{step, step_by, granting};
 ghost use Rattle.rules_replay.specs.Lines.{group_line};
-ghost use Rattle.mich_scenario.specs.View.{said, content_said};
+ghost use Rattle.mich_replay.specs.Transfers.{built_said, content_said};
 ghost use Rattle.mich_replay.specs.View.{file_fault_seen};
 ghost use Rattle.mich_replay.specs.Steps.{IsGranting, IsTaken};
 
 use crate::lines::group_line;
 use crate::outcome::{FileFault, Grant};
+use crate::transfers::{BuiltStatement, Group, built};
 use crate::world::World;
 use mich_answers::as_text;
 use mich_base::{Memory, Node, Texts};
 use mich_forms::KeyHash;
-use mich_scenario::{FormError, Group, Statement, read_form};
+use mich_scenario::{FormError, take_form};
 use std::alloc::Global;
 
 // Makes an account, or says why it can't be made.
@@ -46,24 +47,24 @@ fn step(
     alloc: Global,
     world: &mut Option<World>,
     lines: &mut Texts,
-    statement: &Statement,
+    statement: &BuiltStatement,
 ) -> Result<Option<FileFault>, Memory>
     requires { length lines.old < 2 ^ 64 - 1 }
-    ensures taken { IsTaken (step world.old (said statement.now)) lines.old world.new lines.new result }
+    ensures taken { IsTaken (step world.old (built_said statement.now)) lines.old world.new lines.new result }
     ensures count { OnOk result (length lines.new ≤ length lines.old + 1) }
 {
     match world {
         None => match statement {
-            Statement::Chain(id, level, moment) => {
+            BuiltStatement::Chain(id, level, moment) => {
                 *world = Some(World::new(alloc, *id, *level, *moment));
                 Ok(None)
             }
             _ => Ok(Some(FileFault::BadOrder)),
         },
         Some(found) => match statement {
-            Statement::Chain(_, _, _) => Ok(Some(FileFault::BadOrder)),
-            Statement::Account(who, mutez) => grant(found, *who, *mutez),
-            Statement::Group(group) => {
+            BuiltStatement::Chain(_, _, _) => Ok(Some(FileFault::BadOrder)),
+            BuiltStatement::Account(who, mutez) => grant(found, *who, *mutez),
+            BuiltStatement::Group(group) => {
                 apply(alloc, found, group, lines)?;
                 Ok(None)
             }
@@ -77,14 +78,17 @@ pub(crate) fn take(
     alloc: Global,
     world: &mut Option<World>,
     lines: &mut Texts,
-    node: &Node,
+    node: Node,
 ) -> Result<Option<FileFault>, Memory>
     requires { length lines.old < 2 ^ 64 - 1 }
-    ensures taken { IsTaken (step_by world.old (form (tree node.now))) lines.old world.new lines.new result }
+    ensures taken { IsTaken (step_by world.old (form (tree node))) lines.old world.new lines.new result }
     ensures count { OnOk result (length lines.new ≤ length lines.old + 1) }
 {
-    match read_form(alloc, node) {
-        Ok(statement) => step(alloc, world, lines, &statement),
+    match take_form(alloc, node) {
+        Ok(statement) => match built(statement) {
+            Some(statement) => step(alloc, world, lines, &statement),
+            None => Ok(Some(FileFault::BadStatement)),
+        },
         Err(FormError::BadStatement) => Ok(Some(FileFault::BadStatement)),
         Err(FormError::Memory) => Err(Memory),
     }

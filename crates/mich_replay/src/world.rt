@@ -3,17 +3,17 @@ ghost use Rattle.std.specs.Prelude.{◌≡◌, ◌≢◌, ◌<◌, ◌≤◌, �
 ghost use Rattle.std.specs.Map.{values_of};
 ghost use Rattle.rules_replay.specs.World.{new_world, balance_of, balance_in, with_balance, with_more, granted_to, refusal_of, fee_taken, left_after_fee, failure_of, moved, acted, verdict_of, world_after, supply};
 ghost use Rattle.rules_replay.specs.Lines.{account_line, state_lines};
-ghost use Rattle.mich_scenario.specs.View.{action_said, content_said};
+ghost use Rattle.mich_replay.specs.Transfers.{action_said, content_said};
 ghost use Rattle.mich_replay.specs.View.{group_fault_seen, failure_seen, verdict_seen, grant_seen, granted_mutez};
 ghost use Rattle.mich_replay.specs.declared.outcome.Grant.TheVariants as grants;
 
 use crate::failing::failure_of;
 use crate::lines::{account_line, fees_line, supply_line};
 use crate::outcome::{Grant, GroupFault, Verdict};
+use crate::transfers::{Action, Content, Group};
 use mich_answers::as_text;
 use mich_base::{Memory, Texts};
 use mich_forms::{ChainId, KeyHash, Place};
-use mich_scenario::{Action, Content, Group};
 use std::alloc::Global;
 use std::collections::BTreeMap;
 use std::marker::Model;

@@ -1,1 +1,5 @@
 mod Counts
+pub mod Each
+mod Fronts
+mod Gifts
+mod Groups

@@ -1,27 +1,27 @@
 -- What the code's statements stand for.
-use Rattle.std.specs.Prelude.{◌≡◌, [], ◌∷◌, Option, Some, None, Result, Ok, Err}
+use Rattle.std.specs.Prelude.{◌≡◌, ℕ, [], ◌∷◌, ◌++◌, List, map, Option, Some, None, Result, Ok, Err}
 use Rattle.rules_base.specs.Tree.{Tree, int, str, bytes, prim, seq}
+use Rattle.rules_world.specs.Contents as rules
+use Rattle.rules_statements.specs.Statements as statements
+use Rattle.rules_statements.specs.Statements.{◌>>=◌, contents_of, group_of}
 use Rattle.mich_base.specs.View.{tree}
-use Rattle.mich_forms.specs.Spelled.{place_bytes}
-use Rattle.rules_replay.specs.Statements as rules
+use Rattle.mich_ops.specs.View.{content}
+use Rattle.mich_ops.specs.declared.group.Content.{Content}
 use Rattle.mich_scenario.specs.declared.error.FormError.{FormError}
 use Rattle.mich_scenario.specs.declared.error.FormError.TheVariants as error
-use Rattle.mich_scenario.specs.declared.statement.Action.{Action}
-use Rattle.mich_scenario.specs.declared.statement.Action.TheVariants.{Call}
-use Rattle.mich_scenario.specs.declared.statement.Content.{Content}
 use Rattle.mich_scenario.specs.declared.statement.Statement.{Statement}
 use Rattle.mich_scenario.specs.declared.statement.Statement.TheVariants as code
 
-abbrev pub action_said : Action → rules.Action
-action_said (Call amount to entrypoint argument) = rules.Call amount (place_bytes to) entrypoint (tree argument)
+-- the contents that are listed
+abbrev pub contents_said : List Content → List rules.Content
+contents_said cs = map content cs
 
-abbrev pub content_said : Content → rules.Content
-content_said c = record { fee = c.fee; gas = c.gas; action = action_said c.action }
-
-abbrev pub said : Statement → rules.Statement
-said (code.Chain id level moment) = rules.Chain id level moment
-said (code.Account key_hash mutez) = rules.Account key_hash mutez
-said (code.Group g) = rules.Group g.source (content_said g.content)
+abbrev pub said : Statement → statements.Statement
+said (code.Chain id level moment) = statements.Chain id level moment
+said (code.Costs table) = statements.Costs (tree table)
+said (code.Account key_hash mutez) = statements.Account key_hash mutez
+said (code.Block level moment) = statements.Block level moment
+said (code.Group g) = statements.Group g.source (contents_said g.contents)
 
 -- what was read, seen so, is what a node says; or it says nothing
 abbrev pub IsForm : {X Y : Type 0} → (X → Y) → Option Y → Result X FormError → Type 0
@@ -45,3 +45,10 @@ IsNoSequence (int n) = Unit {0}
 IsNoSequence (str s) = Unit {0}
 IsNoSequence (bytes b) = Unit {0}
 IsNoSequence (prim name annotations arguments) = Unit {0}
+
+-- nodes before the contents of a group that are no source, or are this one
+abbrev pub IsNoSource : List Tree → Type 0
+IsNoSource front = (contents : Tree) → group_of (front ++ contents ∷ []) ≡ None
+
+abbrev pub IsSource : List Tree → List ℕ → Type 0
+IsSource front who = (contents : Tree) → group_of (front ++ contents ∷ []) ≡ (contents_of contents >>= λ cs. Some (statements.Group who cs))

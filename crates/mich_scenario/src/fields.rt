@@ -2,8 +2,9 @@
 ghost use Rattle.std.specs.Prelude.{◌≡◌, ◌<◌, ◌≤◌, ◌^◌, ◌-◌, ℕ, ℤ, pos, neg_ℤ, unsigned_abs, Some, None, IfSome, option_map};
 ghost use Rattle.mich_base.specs.View.{tree};
 ghost use Rattle.mich_forms.specs.Spelled.{place_bytes};
-ghost use Rattle.rules_replay.specs.Statements.{within, number_of, moment_of, gas_of, bytes_of, is_place, entrypoint_of};
-ghost use Rattle.rules_values.specs.ByteForms.{is_chain_id, is_key_hash};
+ghost use Rattle.rules_statements.specs.Statements.{within, number_of, moment_of, gas_of, ticket_amount_of, bytes_of, entrypoint_of};
+ghost use Rattle.rules_typing.specs.Fits.{is_place};
+ghost use Rattle.rules_values.specs.ByteForms.{is_chain_id, is_contract, is_key_hash};
 
 use mich_base::Node;
 use mich_forms::{ChainId, Entrypoint, KeyHash, Place};
@@ -45,6 +46,13 @@ pub(crate) fn gas(node: &Node) -> Option<i128>
     }
 }
 
+// An amount of tickets, 1 to 2^127-1.
+pub(crate) fn ticket_amount(node: &Node) -> Option<i128>
+    ensures { result ≡ ticket_amount_of (tree node.now) }
+{
+    within(node, 1, i128::MAX)
+}
+
 pub(crate) fn chain_id(node: &Node) -> Option<ChainId>
     ensures { option_map (λ id. id) result ≡ bytes_of is_chain_id (tree node.now) }
 {
@@ -68,6 +76,16 @@ pub(crate) fn place(node: &Node) -> Option<Place>
 {
     match node {
         Node::Bytes(bytes) => Place::read(bytes.as_slice()),
+        _ => None,
+    }
+}
+
+// The place of a contract.
+pub(crate) fn contract_place(node: &Node) -> Option<Place>
+    ensures { option_map place_bytes result ≡ bytes_of is_contract (tree node.now) }
+{
+    match place(node) {
+        Some(Place::Contract(hash)) => Some(Place::Contract(hash)),
         _ => None,
     }
 }

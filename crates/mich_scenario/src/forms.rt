@@ -1,20 +1,26 @@
 // The forms of statements.
 ghost use Rattle.std.specs.Prelude.{◌≡◌, ◌^◌, ℕ, [], Some, None, option_map, MatchOption};
 ghost use Rattle.rules_base.specs.Tree.{prim, seq};
+ghost use Rattle.rules_statements.specs.Statements.{account_of, block_of, chain_of, contents_of, content_by, costs_of, counted, each_content, form, group_of, named, nodes_of, statement_by};
 ghost use Rattle.mich_base.specs.View.{tree, trees};
-ghost use Rattle.rules_replay.specs.Statements.{nodes_of, chain_of, account_of, transfer_of, call_of, named, content_by, contents_of, group_of, statement_by, form};
-ghost use Rattle.mich_scenario.specs.View.{IsForm, IsNoPlain, IsNoSequence, said, action_said, content_said};
+ghost use Rattle.mich_ops.specs.View.{content};
+ghost use Rattle.mich_scenario.specs.View.{IsForm, IsNoPlain, IsNoSequence, IsNoSource, IsSource, contents_said, said};
 
+use crate::actions::{MOST_MUTEZ, content_by};
 use crate::error::FormError;
-use crate::fields::{chain_id, entrypoint, gas, key_hash, moment, number, place};
-use crate::statement::{Action, Content, Group, Statement};
-use mich_base::{App, Node, Nodes, copy_node};
+use crate::fields::{chain_id, key_hash, moment, number};
+use crate::statement::Statement;
+use mich_forms::KeyHash;
+use mich_base::{App, Node, Nodes, Rows, Text, copy_node};
+use mich_gas::is_table;
+use mich_ops::{Content, Group};
 use std::alloc::Global;
-
-const MOST_MUTEZ: u64 = (1 << 63) - 1;
 
 const MOST_LEVEL: u64 = (1 << 31) - 1;
 
+const MOST_CONTENTS: usize = 1_000;
+
+// id level moment
 #[tactic(auto, using(crate::proofs::Counts::chain_fields))]
 fn chain(fields: &Nodes) -> Option<Statement>
     ensures { option_map said result ≡ chain_of (nodes_of (trees fields.now)) }
@@ -28,6 +34,7 @@ fn chain(fields: &Nodes) -> Option<Statement>
     Some(Statement::Chain(id, level as u32, moment))
 }
 
+// key_hash mutez
 #[tactic(auto, using(crate::proofs::Counts::account_fields))]
 fn account(fields: &Nodes) -> Option<Statement>
     ensures { option_map said result ≡ account_of (nodes_of (trees fields.now)) }
@@ -40,62 +47,75 @@ fn account(fields: &Nodes) -> Option<Statement>
     Some(Statement::Account(who, mutez))
 }
 
-fn transfer(
-    alloc: Global,
-    amount: &Node,
-    to: &Node,
-    name: &Node,
-    argument: &Node,
-) -> Result<Action, FormError>
-    ensures { IsForm action_said (transfer_of (tree amount.now) (tree to.now) (tree name.now) (tree argument.now)) result }
+// level moment
+#[tactic(auto, using(crate::proofs::Counts::block_fields))]
+fn block(fields: &Nodes) -> Option<Statement>
+    ensures { option_map said result ≡ block_of (nodes_of (trees fields.now)) }
 {
-    let amount = number(amount, MOST_MUTEZ).ok_or(FormError::BadStatement)?;
-    let to = place(to).ok_or(FormError::BadStatement)?;
-    let entrypoint = entrypoint(name).ok_or(FormError::BadStatement)?;
-    let argument = copy_node(alloc, argument)?;
-    Ok(Action::Call {
-        amount,
-        to,
-        entrypoint,
-        argument,
-    })
-}
-
-#[tactic(auto, using(crate::proofs::Counts::call_fields))]
-fn call(alloc: Global, fields: &Nodes) -> Result<Content, FormError>
-    ensures { IsForm content_said (call_of (nodes_of (trees fields.now))) result }
-{
-    let [fee, gas_node, amount, to, name, argument] = fields.as_slice() else {
-        return Err(FormError::BadStatement);
+    let Some((level, moment_node)) = fields.both() else {
+        return None;
     };
-    let fee = number(fee, MOST_MUTEZ).ok_or(FormError::BadStatement)?;
-    let gas = gas(gas_node).ok_or(FormError::BadStatement)?;
-    let action = transfer(alloc, amount, to, name, argument)?;
-    Ok(Content { fee, gas, action })
+    let level = number(level, MOST_LEVEL)?;
+    let moment = moment(moment_node)?;
+    Some(Statement::Block(level as u32, moment))
 }
 
-// An application of this name without annotations.
-fn plain<'a>(node: &'a Node) -> Option<&'a App>
-    ensures { MatchOption result (IsNoPlain (tree node.now)) (λ app. tree node.now ≡ prim app.now.name [] (trees app.now.args)) }
+// { Cost NAME base coefficient ; .. }
+fn costs(fields: Nodes) -> Option<Statement>
+    ensures { option_map said result ≡ costs_of (nodes_of (trees fields)) }
+{
+    let mut fields = fields;
+    let table = fields.pop()?;
+    if !fields.is_empty() {
+        return None;
+    }
+    if !is_table(&table) {
+        return None;
+    }
+    Some(Statement::Costs(table))
+}
+
+// The name and the arguments of an application without annotations.
+fn plain(node: Node) -> Option<(Text, Nodes)>
+    ensures { MatchOption result (IsNoPlain (tree node)) (λ p. tree node ≡ prim p.0 [] (trees p.1)) }
 {
     match node {
-        Node::Prim(app) if app.annots.is_empty() => Some(app),
+        Node::Prim(App { name, annots, args }) => {
+            if annots.is_empty() {
+                Some((name, args))
+            } else {
+                None
+            }
+        }
         _ => None,
     }
 }
 
-fn content(alloc: Global, node: &Node) -> Result<Content, FormError>
-    ensures { IsForm content_said (named content_by (tree node.now)) result }
+fn one_content(node: Node) -> Option<Content>
+    ensures { option_map content result ≡ named content_by (tree node) }
 {
-    match plain(node) {
-        Some(app) if app.name.as_slice() == b"Call".as_slice() => call(alloc, &app.args),
-        _ => Err(FormError::BadStatement),
+    let (name, fields) = plain(node)?;
+    content_by(name.as_slice(), fields)
+}
+
+// The contents that nodes are, in order.
+#[tactic(auto, using(crate::proofs::Each::one_more, crate::proofs::Each::none_more, crate::proofs::Each::all_read, crate::proofs::Each::none_read))]
+fn each_content(alloc: Global, nodes: Nodes) -> Result<Rows<Content>, FormError>
+    ensures { IsForm contents_said (each_content (nodes_of (trees nodes))) result }
+{
+    let mut contents = Rows::new(alloc);
+    for node in nodes.into_vec() {
+        let Some(content) = one_content(node) else {
+            return Err(FormError::BadStatement);
+        };
+        contents.push(content)?;
     }
+    Ok(contents)
 }
 
 // The elements of a sequence.
-fn elements(node: &Node) -> Option<&Nodes>
-    ensures { MatchOption result (IsNoSequence (tree node.now)) (λ nodes. tree node.now ≡ seq (trees nodes.now)) }
+fn elements(node: Node) -> Option<Nodes>
+    ensures { MatchOption result (IsNoSequence (tree node)) (λ nodes. tree node ≡ seq (trees nodes)) }
 {
     match node {
         Node::Seq(nodes) => Some(nodes),
@@ -103,39 +123,67 @@ fn elements(node: &Node) -> Option<&Nodes>
     }
 }
 
-// The one content of a sequence.
-#[tactic(auto, using(crate::proofs::Counts::content_elements))]
-fn contents(alloc: Global, node: &Node) -> Result<Content, FormError>
-    ensures { IsForm content_said (contents_of (tree node.now)) result }
+// One content or more, but not too many.
+fn counted(alloc: Global, nodes: Nodes) -> Result<Rows<Content>, FormError>
+    ensures { IsForm contents_said (counted (nodes_of (trees nodes))) result }
 {
-    let Some(nodes) = elements(node) else {
+    if nodes.is_empty() {
         return Err(FormError::BadStatement);
-    };
-    match nodes.only() {
-        Some(first) => content(alloc, first),
+    }
+    if nodes.len() > MOST_CONTENTS {
+        return Err(FormError::BadStatement);
+    }
+    each_content(alloc, nodes)
+}
+
+fn contents(alloc: Global, node: Node) -> Result<Rows<Content>, FormError>
+    ensures { IsForm contents_said (contents_of (tree node)) result }
+{
+    match elements(node) {
+        Some(nodes) => counted(alloc, nodes),
         None => Err(FormError::BadStatement),
     }
 }
 
+// The source, before the contents.
 #[tactic(auto, using(crate::proofs::Counts::group_fields))]
-fn group(alloc: Global, fields: &Nodes) -> Result<Statement, FormError>
-    ensures { IsForm said (group_of (nodes_of (trees fields.now))) result }
+fn source(front: &Nodes) -> Option<KeyHash>
+    ensures { MatchOption result (IsNoSource (nodes_of (trees front.now))) (IsSource (nodes_of (trees front.now))) }
 {
-    let Some((source, contents_node)) = fields.both() else {
-        return Err(FormError::BadStatement);
-    };
-    let source = key_hash(source).ok_or(FormError::BadStatement)?;
-    let content = contents(alloc, contents_node)?;
-    Ok(Statement::Group(Group { source, content }))
+    match front.only() {
+        Some(who) => key_hash(who),
+        None => None,
+    }
 }
 
-fn statement_by(alloc: Global, name: &[u8], fields: &Nodes) -> Result<Statement, FormError>
-    ensures { IsForm said (statement_by name.now (nodes_of (trees fields.now))) result }
+// The source and the contents.
+fn group(alloc: Global, fields: Nodes) -> Result<Statement, FormError>
+    ensures { IsForm said (group_of (nodes_of (trees fields))) result }
+{
+    let mut fields = fields;
+    let Some(orders) = fields.pop() else {
+        return Err(FormError::BadStatement);
+    };
+    let Some(source) = source(&fields) else {
+        return Err(FormError::BadStatement);
+    };
+    match contents(alloc, orders) {
+        Ok(contents) => Ok(Statement::Group(Group { source, contents })),
+        Err(error) => Err(error),
+    }
+}
+
+fn statement_by(alloc: Global, name: &[u8], fields: Nodes) -> Result<Statement, FormError>
+    ensures { IsForm said (statement_by name.now (nodes_of (trees fields))) result }
 {
     if name == b"Chain".as_slice() {
-        chain(fields).ok_or(FormError::BadStatement)
+        chain(&fields).ok_or(FormError::BadStatement)
+    } else if name == b"Costs".as_slice() {
+        costs(fields).ok_or(FormError::BadStatement)
     } else if name == b"Account".as_slice() {
-        account(fields).ok_or(FormError::BadStatement)
+        account(&fields).ok_or(FormError::BadStatement)
+    } else if name == b"Block".as_slice() {
+        block(&fields).ok_or(FormError::BadStatement)
     } else if name == b"Group".as_slice() {
         group(alloc, fields)
     } else {
@@ -143,14 +191,24 @@ fn statement_by(alloc: Global, name: &[u8], fields: &Nodes) -> Result<Statement,
     }
 }
 
-/// The statement that a node is: `Chain id level moment`, `Account key_hash mutez`, or `Group source { Call fee gas amount
-/// destination "entrypoint" argument }`, with amounts in mutez and moments in seconds. BadStatement of another node, and
-/// Memory where there is no room for a copy of the argument.
+/// The statement that a node is: `Chain id level moment`, `Costs { Cost NAME base coefficient ; .. }`, `Account key_hash mutez`,
+/// `Block level moment`, or `Group source { content ; .. }` of 1 to 1,000 contents, each `Originate fee gas balance script
+/// storage`, `Call fee gas amount destination "entrypoint" argument` or `Give fee gas issuer type content amount destination
+/// "entrypoint"`, with amounts in mutez and moments in seconds. BadStatement of another node; Memory where there is no room for
+/// the list of contents. No part of the node is copied.
+pub fn take_form(alloc: Global, node: Node) -> Result<Statement, FormError>
+    ensures { IsForm said (form (tree node)) result }
+{
+    match plain(node) {
+        Some((name, fields)) => statement_by(alloc, name.as_slice(), fields),
+        None => Err(FormError::BadStatement),
+    }
+}
+
+/// The same of a copy of the node.
 pub fn read_form(alloc: Global, node: &Node) -> Result<Statement, FormError>
     ensures { IsForm said (form (tree node.now)) result }
 {
-    match plain(node) {
-        Some(app) => statement_by(alloc, app.name.as_slice(), &app.args),
-        None => Err(FormError::BadStatement),
-    }
+    let node = copy_node(alloc, node)?;
+    take_form(alloc, node)
 }

@@ -11,7 +11,7 @@ use Rattle.rules_values.specs.Literals.{Pending, body, claim, read, byte_limit}
 use Rattle.rules_instructions.specs.Arguments.{Found, found, fault}
 use Rattle.rules_typing.specs.Literals.{Checked, of_reading}
 use Rattle.rules_steps.specs.Packing.{packed}
-use Rattle.rules_replay.specs.Statements.{named}
+use Rattle.rules_statements.specs.Statements.{named}
 use Rattle.rules_replay.specs.Answers.{Answer, done_with, refused_with}
 use Rattle.rules_replay.specs.Codec.{bytes_line}
 

@@ -8,7 +8,8 @@ use Rattle.std.specs.Map.{lookup, values_of}
 use Rattle.std.specs.Str.{bytes_eq}
 use Rattle.rules_base.specs.Tree.{Tree, int, str, bytes, prim, seq, none, more}
 use Rattle.rules_forms.specs.Spelling.{default_name, implicit_place}
-use Rattle.rules_replay.specs.Statements.{Action, Call, Content, most_mutez}
+use Rattle.rules_world.specs.Balances.{most_mutez}
+use Rattle.rules_replay.specs.Statements.{Action, Call, Content}
 use Rattle.rules_replay.specs.Receipts.{Receipt, Refused, Done, GroupFault, UnknownSource, GasTooHigh, FeeTooHigh, Failure, OutOfGas, NoContract, NoEntrypoint, BadParameter, EmptyTransaction, BalanceTooLow, Transfer, Applied, Failed}
 
 -- where and when the groups run; the accounts in the order of the bytes of their key hashes, with their balances;

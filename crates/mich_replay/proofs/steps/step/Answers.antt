@@ -1,8 +1,8 @@
 use Rattle.std.proofs.Common.{Option, Some, [], ◌∷◌, ap, ◌∙◌}
 use Rattle.rules_replay.specs.World.{World, receipt_of, world_after}
 use Rattle.rules_replay.specs.Replay.{step}
-use Rattle.mich_scenario.specs.declared.statement.Statement.{Statement}
-use Rattle.mich_scenario.specs.View.{said, content_said}
+use Rattle.mich_replay.specs.declared.transfers.BuiltStatement.{BuiltStatement}
+use Rattle.mich_replay.specs.Transfers.{built_said, content_said}
 use Rattle.mich_replay.proofs.steps.step.Goals as goal
 
 pub returns-in_ok-apply-in-Group-clause-taken : goal.returns-in_ok-apply-in-Group-clause-taken
@@ -10,5 +10,5 @@ returns-in_ok-apply-in-Group-clause-taken c =
     let w = c.in-Some.found in
     let source = c.in-Group.group.source in
     let content = content_said c.in-Group.group.content in
-    let group = ap (λ (o : Option World). step o (said c.args.statement.now)) c.in-Some.is ∙ ap (λ (s : Statement). step (Some w) (said s)) c.in-Group.is in
+    let group = ap (λ (o : Option World). step o (built_said c.args.statement.now)) c.in-Some.is ∙ ap (λ (s : BuiltStatement). step (Some w) (built_said s)) c.in-Group.is in
     (world_after w source content, receipt_of w source content ∷ [], group, ap Some c.in_ok-apply-in-Group.ensures.world, c.in_ok-apply-in-Group.ensures.line)

@@ -1,0 +1,26 @@
+-- Contents by what stands before or round the nodes that are kept as they are.
+use Rattle.std.specs.Prelude.{◌≡◌, List, [], ◌∷◌, ◌++◌, codes, length, take, Some}
+use Rattle.rules_base.specs.Tree.{Tree}
+use Rattle.rules_world.specs.Contents.{Content, Originate, Call, Give}
+use Rattle.rules_statements.specs.Statements.{content_by, nodes_of}
+use Rattle.mich_base.specs.View.{tree, trees}
+use Rattle.mich_base.specs.declared.node.Node.{Node}
+use Rattle.mich_forms.specs.Spelled.{place_bytes}
+use Rattle.mich_scenario.specs.declared.actions.Origin.{Origin}
+use Rattle.mich_scenario.specs.declared.actions.Order.{Order}
+use Rattle.mich_scenario.specs.declared.actions.Gift.{Gift}
+
+abbrev pub originated : Tree → Tree → Origin → Content
+originated script storage o = record { fee = o.fee; gas = o.gas; action = Originate o.balance script storage }
+
+abbrev pub called : Tree → Order → Content
+called argument o = record { fee = o.fee; gas = o.gas; action = Call o.amount (place_bytes o.to) o.entry argument }
+
+abbrev pub given : Tree → Tree → Gift → Content
+given kind content g = record { fee = g.fee; gas = g.gas; action = Give (place_bytes g.issuer) kind content g.amount (place_bytes g.to) g.entry }
+
+-- so many fields are a gift of the last two among the first five
+pub record IsGift (fields : List Node) (g : Gift) : Type 0 where
+  pub eight : length fields ≡ 8
+  pub made : (front : List Node) (kind content : Node) → take 5 fields ≡ front ++ kind ∷ content ∷ []
+      → content_by (codes "Give") (nodes_of (trees fields)) ≡ Some (given (tree kind) (tree content) g)
