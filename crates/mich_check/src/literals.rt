@@ -8,9 +8,9 @@ ghost use Rattle.mich_base.specs.View.{tree};
 ghost use Rattle.mich_data.specs.View.{all_pending};
 ghost use Rattle.mich_check.specs.Pending.{IsChecked, IsRead, largest, reach};
 
-use crate::error::CheckError;
 use crate::nodes::check_pending;
 use mich_base::{Memory, Node, Rows, Ty};
+use mich_control::CheckError;
 use mich_data::{Pending, Read, ValueError, read_value_at};
 use mich_term::Value;
 use std::alloc::Global;
