@@ -28,14 +28,15 @@ use Rattle.mich_instr.specs.Code as made
 use Rattle.mich_instr.specs.View.{code, script_code, script_node, node_of, storage_of}
 use Rattle.mich_instr.specs.Typed.{HasForm, IsCode, is_create, IsScript, is_script}
 use Rattle.mich_instr.specs.declared.instr.Script.{Script as CodeScript}
-use Rattle.mich_check.specs.declared.error.CheckError.{CheckError}
-use Rattle.mich_check.specs.declared.error.CheckError.TheVariants as error
-use Rattle.mich_check.specs.Answers.{IsFault}
-use Rattle.mich_check.specs.Scripts.{IsTyped, IsMoved, Origin, origin, originated, IsBehind}
-use Rattle.mich_check.specs.View.{is_view}
-use Rattle.mich_check.proofs.Shifts.{bad_here, fault_is}
-use Rattle.mich_check.proofs.Forms.{meanings, formed}
-use Rattle.mich_check.proofs.Loops.{not_one}
+use Rattle.mich_control.specs.declared.error.CheckError.{CheckError}
+use Rattle.mich_control.specs.declared.error.CheckError.TheVariants as error
+use Rattle.mich_control.specs.Answers.{IsFault}
+use Rattle.mich_sections.proofs.Moves.{script_moves}
+use Rattle.mich_check.specs.Scripts.{IsTyped, IsTypedAt, Origin, origin, originated, IsBehind}
+use Rattle.mich_control.specs.View.{is_view}
+use Rattle.mich_control.proofs.Shifts.{bad_here, fault_is}
+use Rattle.mich_control.proofs.Forms.{meanings, formed}
+use Rattle.mich_control.proofs.Loops.{not_one}
 
 -- ---- the typing by the stack
 
@@ -105,16 +106,20 @@ module _ (at : ℕ) (c : Context) (name : List ℕ) (annots : List (List ℕ)) (
         scripted : shift at (tree_type (prim name annots (trees ns)) c S) ≡ shift at (of_script (found_at 1 (script (tree x))) o.storage o.rest)
         scripted = only ∙ ap (λ o. shift at (through o (found_at 1 (script (tree x))))) (sym e)
 
-        script_fault : (r : Result CodeScript CheckError) (z : CheckError) → IsTyped (tree x) r → IsMoved (at + 1) r (Err z) → IsFault (shift at (of_script (found_at 1 (script (tree x))) o.storage o.rest)) z
-        script_fault (Err (error.IllTyped l)) (error.IllTyped m) h k =
-            let further : at + (1 + l) ≡ m = omega (arith, k) in
-            ap (λ s. shift at (of_script (found_at 1 s) o.storage o.rest)) h ∙ ap bad further
-        script_fault (Err error.Memory) (error.IllTyped m) h k = absurd k
-        script_fault (Ok s) (error.IllTyped m) h k = absurd k
-        script_fault r error.Memory h k = tt
+        fault_moves : (f : Found Script) (m : ℕ) → found_at at f ≡ fault m → shift at (of_script f o.storage o.rest) ≡ bad m
+        fault_moves (found s) m e = absurd cc
+        fault_moves (fault l) m e = ap bad (same_place (at + l) m e)
+          where
+            same_place : (k m : ℕ) → fault {A = Script} k ≡ fault m → k ≡ m
+            same_place k m e = cc
 
-        pub create_script : (r : Result CodeScript CheckError) (z : CheckError) → IsTyped (tree x) r → IsMoved (at + 1) r (Err z) → IsFault (shift at (tree_type (prim name annots (trees ns)) c S)) z
-        create_script r z h k = fault_is _ _ z scripted (script_fault r z h k)
+        script_fault : (z : CheckError) → IsTypedAt (at + 1) (tree x) (Err z) → IsFault (shift at (of_script (found_at 1 (script (tree x))) o.storage o.rest)) z
+        script_fault (error.IllTyped m) h =
+            fault_moves (found_at 1 (script (tree x))) m (ap (found_at at) (sym (script_moves 1 0 (tree x))) ∙ sym (script_moves at 1 (tree x)) ∙ h)
+        script_fault error.Memory h = tt
+
+        pub create_script : (z : CheckError) → IsTypedAt (at + 1) (tree x) (Err z) → IsFault (shift at (tree_type (prim name annots (trees ns)) c S)) z
+        create_script z h = fault_is _ _ z scripted (script_fault z h)
 
         -- the typed script is the one of the rules
         found_script : {w : ScriptCode} → IsScript (tree x) w → (q : Script) × (script (tree x) ≡ found q) × (q.storage ≡ storage_of w)
@@ -169,7 +174,6 @@ module _ (at : ℕ) (c : Context) (name : List ℕ) (annots : List (List ℕ)) (
               (subst (λ j. IsCode c (prim name annots (more (tree x) none)) j S (operation ∷ address ∷ o.rest)) (sym j) (made_code its_script fits bare)) in
               (so ∙ ap goes (sym b.1), subst (λ B. IsCode c (prim name annots (trees ns)) i S B) (sym b.1) typed)
 
-        pub moved_typed : (r : Result CodeScript CheckError) (s : CodeScript) → IsTyped (tree x) r → IsMoved (at + 1) r (Ok s) → IsTyped (tree x) (Ok s)
-        moved_typed (Ok q) s h k = subst (λ y. IsTyped (tree x) (Ok y)) (sym k) h
-        moved_typed (Err (error.IllTyped l)) s h k = absurd k
-        moved_typed (Err error.Memory) s h k = absurd k
+-- a script that is shared is the same
+pub shared_typed : (at : ℕ) (t : Tree) (s r : CodeScript) → r ≡ s → IsTypedAt at t (Ok s) → IsTyped t (Ok r)
+shared_typed at t s r e h = subst (λ y. IsTyped t (Ok y)) (sym e) h

@@ -36,13 +36,13 @@ use Rattle.mich_instr.specs.Plain.{bare}
 use Rattle.mich_instr.specs.Code.{Code}
 use Rattle.mich_instr.specs.Code as made
 use Rattle.mich_instr.specs.Typed.{HasForm, IsCode, is_push}
-use Rattle.mich_check.specs.declared.error.CheckError.{CheckError}
-use Rattle.mich_check.specs.declared.error.CheckError.TheVariants as error
-use Rattle.mich_check.specs.Answers.{typing, Leads, ends_in, IsFault, IsFound}
+use Rattle.mich_control.specs.declared.error.CheckError.{CheckError}
+use Rattle.mich_control.specs.declared.error.CheckError.TheVariants as error
+use Rattle.mich_control.specs.Answers.{typing, Leads, ends_in, IsFault, IsFound}
 use Rattle.mich_check.specs.Pending.{reach, largest, moved, IsFaulty, called_fault, item_fault, IsRead}
-use Rattle.mich_check.proofs.Shifts.{bad_here, unshift, fault_is}
-use Rattle.mich_check.proofs.Forms.{formed}
-use Rattle.mich_check.proofs.Read.{found_typing, read_as}
+use Rattle.mich_control.proofs.Shifts.{bad_here, unshift, fault_is}
+use Rattle.mich_control.proofs.Forms.{formed}
+use Rattle.mich_control.proofs.Read.{found_typing, read_as}
 use Rattle.mich_check.proofs.Within.{fault_within}
 
 -- ---- where bodies stand

@@ -10,7 +10,7 @@ use Rattle.rules_instructions.specs.Context as standing
 use Rattle.rules_instructions.specs.Same.{same_kinds}
 use Rattle.rules_typing.specs.Typing.{Typing, goes, fails, bad}
 use Rattle.rules_typing.specs.Bodies.{body_fault}
-use Rattle.rules_typing.specs.Nodes.{body, script}
+use Rattle.rules_typing.specs.Nodes.{body, found_at, script, script_at}
 use Rattle.rules_typing.specs.Sections.{Body}
 use Rattle.rules_typing.specs.Scripts.{Outline, TypedView, View, Script, is_small, fault_of_body, code_fault, view_fault, unless_fault, a_view, with_views, a_script, with_bodies}
 use Rattle.mich_base.specs.declared.ty.Ty.{Ty}
@@ -22,6 +22,7 @@ use Rattle.mich_sections.specs.View.{outline_of, view_of}
 use Rattle.mich_sections.specs.declared.outline.Outline.{Outline as CodeOutline}
 use Rattle.mich_sections.specs.declared.outline.View.{View as Item}
 use Rattle.mich_sections.proofs.Inside.{IsSmall, ViewsSmall, bodies_small}
+use Rattle.mich_sections.proofs.Moves.{script_moves}
 use Rattle.mich_instr.specs.Code.{Code, Codes, ScriptCode, ViewCode, ViewCodes, no_view, more_views, views_of}
 use Rattle.mich_instr.specs.Code as made
 use Rattle.mich_instr.specs.View.{codes, script_code, script_node, node_of, view_code, view_codes}
@@ -29,12 +30,12 @@ use Rattle.mich_instr.specs.Typed.{AreCode, IsScript, is_script, AreViews, no_vi
 use Rattle.mich_instr.specs.declared.instr.Instr.{Instr}
 use Rattle.mich_instr.specs.declared.instr.Script.{Script as CodeScript}
 use Rattle.mich_instr.specs.declared.instr.ViewCode.{ViewCode as CodeOfView}
-use Rattle.mich_check.specs.declared.error.CheckError.{CheckError}
-use Rattle.mich_check.specs.declared.error.CheckError.TheVariants as error
+use Rattle.mich_control.specs.declared.error.CheckError.{CheckError}
+use Rattle.mich_control.specs.declared.error.CheckError.TheVariants as error
 use Rattle.mich_check.specs.declared.ends.Ends.{Ends}
-use Rattle.mich_check.specs.Answers.{typing, Leads, ends_in, IsFault, IsFound, inside}
-use Rattle.mich_check.specs.Scripts.{AreEnds, code_is_small, IsBodyOf, IsWhole, IsScriptCode, HasCode, IsView, AreViewsOf, AreTypedViews, IsTyped, script_made, view_made, largest_of}
-use Rattle.mich_check.proofs.Loops.{ended_leads}
+use Rattle.mich_control.specs.Answers.{typing, Leads, ends_in, IsFault, IsFound, inside}
+use Rattle.mich_check.specs.Scripts.{AreEnds, code_is_small, IsBodyOf, IsWhole, IsScriptCode, HasCode, IsView, AreViewsOf, AreTypedViews, IsTypedAt, script_made, view_made, largest_of}
+use Rattle.mich_control.proofs.Loops.{ended_leads}
 
 -- ---- a body from one type to another
 
@@ -191,12 +192,22 @@ largest_small n (v ∷ vs) p h = omega (arith, h.0, largest_small n vs p h.1)
 
 -- ---- scripts
 
-script_is : (t : Tree) → script t ≡ and_then (outline_at 0 t) with_bodies
-script_is (int n) = refl
-script_is (str s) = refl
-script_is (bytes b) = refl
-script_is (prim name annots ts) = refl
-script_is (seq ts) = refl
+script_is : (at : ℕ) (t : Tree) → script_at t at ≡ and_then (outline_at at t) with_bodies
+script_is at (int n) = refl
+script_is at (str s) = refl
+script_is at (bytes b) = refl
+script_is at (prim name annots ts) = refl
+script_is at (seq ts) = refl
+
+found_here : {A : Type 0} (at : ℕ) (f : Found A) (x : A) → found_at at f ≡ found x → f ≡ found x
+found_here at (found y) x e = e
+found_here at (fault l) x e = absurd cc
+
+-- what is accepted at a location is accepted anywhere
+accepted : (at : ℕ) (t : Tree) (s : Script) → script_at t at ≡ found s → script t ≡ found s
+accepted at t s e =
+    let same : at + 0 ≡ at = omega arith in
+    found_here at (script t) s (sym (script_moves at 0 t) ∙ ap (script_at t) same ∙ e)
 
 some_size : (t : Tree) → 0 < size t
 some_size (int n) = omega arith
@@ -205,36 +216,36 @@ some_size (bytes b) = omega arith
 some_size (prim name annots ts) = omega arith
 some_size (seq ts) = omega arith
 
-pub outline_faulty : (t : Tree) (e : CheckError) → IsFound outline_of (outline_at 0 t) (Err e) → IsTyped t (Err e)
-outline_faulty t (error.IllTyped l) h = script_is t ∙ ap (λ f. and_then f with_bodies) h
-outline_faulty t error.Memory h = tt
+pub outline_faulty : (at : ℕ) (t : Tree) (e : CheckError) → IsFound outline_of (outline_at at t) (Err e) → IsTypedAt at t (Err e)
+outline_faulty at t (error.IllTyped l) h = script_is at t ∙ ap (λ f. and_then f with_bodies) h
+outline_faulty at t error.Memory h = tt
 
-module _ (t : Tree) (o : Outline) (h : outline_at 0 t ≡ found o) where
-  bodies_of : script t ≡ with_bodies o
-  bodies_of = script_is t ∙ ap (λ f. and_then f with_bodies) h
+module _ (at : ℕ) (t : Tree) (o : Outline) (h : outline_at at t ≡ found o) where
+  bodies_of : script_at t at ≡ with_bodies o
+  bodies_of = script_is at t ∙ ap (λ f. and_then f with_bodies) h
 
   pub code_size : size o.code.node < size t
-  code_size = (bodies_small 0 t o h).code
+  code_size = (bodies_small at t o h).code
 
-  pub code_faulty : (e : CheckError) → IsScriptCode o (Err e) → IsTyped t (Err e)
+  pub code_faulty : (e : CheckError) → IsScriptCode o (Err e) → IsTypedAt at t (Err e)
   code_faulty (error.IllTyped l) k = bodies_of ∙ ap (λ f. unless_fault f (and_then (with_views o.storage o.views) (λ vs. found (a_script o vs)))) k
   code_faulty error.Memory k = tt
 
   module _ (is : List Instr) (k : IsScriptCode o (Ok is)) where
-    views_of_script : script t ≡ and_then (with_views o.storage o.views) (λ vs. found (a_script o vs))
+    views_of_script : script_at t at ≡ and_then (with_views o.storage o.views) (λ vs. found (a_script o vs))
     views_of_script = bodies_of ∙ ap (λ f. unless_fault f (and_then (with_views o.storage o.views) (λ vs. found (a_script o vs)))) k.0
 
-    pub views_faulty : (e : CheckError) → AreTypedViews o.storage o.views (Err e) → IsTyped t (Err e)
+    pub views_faulty : (e : CheckError) → AreTypedViews o.storage o.views (Err e) → IsTypedAt at t (Err e)
     views_faulty (error.IllTyped l) m = views_of_script ∙ ap (λ f. and_then f (λ vs. found (a_script o vs))) m
     views_faulty error.Memory m = tt
 
-    pub script_typed : (ws : List CodeOfView) (z : CodeScript) → AreTypedViews o.storage o.views (Ok ws) → script_code z ≡ script_made t o (codes is) (view_codes ws) → IsTyped t (Ok z)
+    pub script_typed : (ws : List CodeOfView) (z : CodeScript) → AreTypedViews o.storage o.views (Ok ws) → script_code z ≡ script_made t o (codes is) (view_codes ws) → IsTypedAt at t (Ok z)
     script_typed ws z m e =
-        let whole : script t ≡ found (a_script o m.views) = views_of_script ∙ ap (λ f. and_then f (λ vs. found (a_script o vs))) m.whole in
+        let whole : script t ≡ found (a_script o m.views) = accepted at t (a_script o m.views) (views_of_script ∙ ap (λ f. and_then f (λ vs. found (a_script o vs))) m.whole) in
         let written : script t ≡ found (record { parameter = o.parameter; entries = o.entries; storage = o.storage; code = seq (inside o.code.node); views = m.views }) =
         whole ∙ ap (λ b. found (record { parameter = o.parameter; entries = o.entries; storage = o.storage; code = b; views = m.views })) k.1 in
         let node : script_node z ≡ t = ap node_of e in
         (node, subst (λ x. IsScript x (script_code z)) (sym node) (subst (IsScript t) (sym e) (is_script written k.2 m.typed)))
 
-pub views_largest : (t : Tree) (o : CodeOutline) → outline_at 0 t ≡ found (outline_of o) → largest_of o.views < size t
-views_largest t o h = largest_small (size t) o.views (some_size t) (bodies_small 0 t (outline_of o) h).views
+pub views_largest : (at : ℕ) (t : Tree) (o : CodeOutline) → outline_at at t ≡ found (outline_of o) → largest_of o.views < size t
+views_largest at t o h = largest_small (size t) o.views (some_size t) (bodies_small at t (outline_of o) h).views

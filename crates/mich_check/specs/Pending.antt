@@ -14,8 +14,8 @@ use Rattle.rules_typing.specs.Literals.{Checked}
 use Rattle.mich_term.specs.ValueView.{val}
 use Rattle.mich_data.specs.View.{all_pending}
 use Rattle.mich_data.specs.declared.pending.Read.{Read}
-use Rattle.mich_check.specs.declared.error.CheckError.{CheckError}
-use Rattle.mich_check.specs.declared.error.CheckError.TheVariants as error
+use Rattle.mich_control.specs.declared.error.CheckError.{CheckError}
+use Rattle.mich_control.specs.declared.error.CheckError.TheVariants as error
 use Rattle.mich_check.specs.declared.literals.Checked.{Checked as CodeChecked}
 
 -- the greatest location behind a body

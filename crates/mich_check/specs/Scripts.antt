@@ -9,7 +9,7 @@ use Rattle.rules_instructions.specs.Context as standing
 use Rattle.rules_instructions.specs.Same.{same_kind}
 use Rattle.rules_typing.specs.Typing.{Typing, goes}
 use Rattle.rules_typing.specs.Bodies.{body_fault}
-use Rattle.rules_typing.specs.Nodes.{script}
+use Rattle.rules_typing.specs.Nodes.{script_at}
 use Rattle.rules_typing.specs.Sections.{Body}
 use Rattle.rules_typing.specs.Scripts.{Outline, TypedView, View, is_small, code_fault, view_fault, with_views}
 use Rattle.mich_base.specs.declared.ty.Ty.{Ty}
@@ -25,12 +25,12 @@ use Rattle.mich_instr.specs.Scripts.{IsTypedScript}
 use Rattle.mich_instr.specs.declared.instr.Instr.{Instr}
 use Rattle.mich_instr.specs.declared.instr.Script.{Script}
 use Rattle.mich_instr.specs.declared.instr.ViewCode.{ViewCode as CodeOfView}
-use Rattle.mich_check.specs.declared.error.CheckError.{CheckError}
-use Rattle.mich_check.specs.declared.error.CheckError.TheVariants as error
-use Rattle.mich_check.specs.declared.made.Made.{Made}
+use Rattle.mich_control.specs.declared.error.CheckError.{CheckError}
+use Rattle.mich_control.specs.declared.error.CheckError.TheVariants as error
+use Rattle.mich_control.specs.declared.made.Made.{Made}
 use Rattle.mich_check.specs.declared.ends.Ends.{Ends}
 use Rattle.mich_check.specs.declared.creating.Origin.{Origin as CodeOrigin}
-use Rattle.mich_check.specs.Answers.{typing, inside}
+use Rattle.mich_control.specs.Answers.{typing, inside}
 
 -- ---- bodies of scripts
 
@@ -85,18 +85,15 @@ AreTypedViews s vs (Err error.Memory) = Unit {0}
 
 -- ---- scripts
 
--- the typing of a script gives this script, which has its node
-abbrev pub IsTyped : Tree → Result Script CheckError → Type 0
-IsTyped t (Ok s) = (script_node s ≡ t) × IsTypedScript s
-IsTyped t (Err (error.IllTyped l)) = script t ≡ fault l
-IsTyped t (Err error.Memory) = Unit {0}
+-- the typing of a script at a location gives this script, which has its node
+abbrev pub IsTypedAt : ℕ → Tree → Result Script CheckError → Type 0
+IsTypedAt at t (Ok s) = (script_node s ≡ t) × IsTypedScript s
+IsTypedAt at t (Err (error.IllTyped l)) = script_at t at ≡ fault l
+IsTypedAt at t (Err error.Memory) = Unit {0}
 
--- the same script; or its fault so much further, where that is told
-abbrev pub IsMoved : ℕ → Result Script CheckError → Result Script CheckError → Type 0
-IsMoved at (Ok s) (Ok r) = r ≡ s
-IsMoved at (Err (error.IllTyped l)) (Err (error.IllTyped m)) = m ≡ at + l
-IsMoved at x (Err error.Memory) = Unit {0}
-IsMoved at x y = ⊥
+-- the typing of a script gives this script
+abbrev pub IsTyped : Tree → Result Script CheckError → Type 0
+IsTyped t r = IsTypedAt 0 t r
 
 -- ---- CREATE_CONTRACT
 

@@ -2,14 +2,11 @@
 ghost use Rattle.std.specs.Prelude.{◌≡◌, option_map};
 ghost use Rattle.mich_base.specs.TypeView.{kind};
 ghost use Rattle.mich_overload.specs.View.{kinds};
-ghost use Rattle.mich_check.specs.Scripts.{IsBehind, IsMoved, is_amount, is_delegate, origin_of, originated};
+ghost use Rattle.mich_check.specs.Scripts.{IsBehind, is_amount, is_delegate, origin_of, originated};
 
-use crate::error::CheckError;
-use crate::stacks::{pop_type, push_type};
-use mich_base::{Rows, Shared, Ty};
-use mich_instr::Script;
+use mich_base::{Rows, Ty};
+use mich_control::{CheckError, pop_type, push_type};
 use mich_overload::same_kind;
-use std::alloc::Global;
 
 // The type of the storage that CREATE_CONTRACT gives, and the stack below.
 #[derive(Drop)]
@@ -46,24 +43,6 @@ pub(crate) fn origination(types: Rows<Ty>) -> Option<Origin>
         Some(Origin { storage, rest })
     } else {
         None
-    }
-}
-
-// A script that stands at a location: its fault is counted from there. Memory past 2^32, where no node stands.
-pub(crate) fn located(
-    alloc: Global,
-    script: Result<Script, CheckError>,
-    at: u32,
-) -> Result<Shared<Script>, CheckError>
-    ensures { IsMoved at script result }
-{
-    match script {
-        Ok(script) => Ok(Shared::new(alloc, script)?),
-        Err(CheckError::IllTyped(location)) => match at.checked_add(location) {
-            Some(place) => Err(CheckError::IllTyped(place)),
-            None => Err(CheckError::Memory),
-        },
-        Err(CheckError::Memory) => Err(CheckError::Memory),
     }
 }
 

@@ -5,9 +5,8 @@ ghost use Rattle.rules_typing.specs.Scripts.{is_small};
 ghost use Rattle.mich_base.specs.TypeView.{kind};
 ghost use Rattle.mich_check.specs.Scripts.{AreEnds, code_is_small};
 
-use crate::error::CheckError;
-use crate::shapes::pair_of;
 use mich_base::{Link, Memory, Ty, copy_type};
+use mich_control::{CheckError, pair_of};
 use mich_stackrules::is_within_limit;
 use std::alloc::Global;
 

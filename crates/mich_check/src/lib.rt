@@ -4,32 +4,16 @@
 //! is the node's typed code by `IsCode`.
 #![tactic(auto)]
 
-mod arrows;
-mod bodiless;
 mod creating;
-mod dips;
 mod ends;
-mod error;
-mod form;
-mod joining;
 mod lambdas;
-mod leaves;
 mod literals;
-mod made;
-mod maps;
 mod nodes;
-mod place;
-mod plain;
-mod pushes;
-mod reading;
 mod scripts;
-mod selves;
-mod shapes;
-mod stacks;
 
-pub use error::CheckError;
 pub use lambdas::check_body;
 pub use literals::{Checked, check_literal, check_literal_at};
+pub use mich_control::CheckError;
 pub use scripts::check_script;
 
 #[cfg(test)]

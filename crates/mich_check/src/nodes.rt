@@ -13,26 +13,18 @@ ghost use Rattle.mich_data.specs.View.{all_pending, pending};
 ghost use Rattle.mich_overload.specs.View.{kinds};
 ghost use Rattle.mich_instr.specs.Typed.{lambda_form};
 ghost use Rattle.mich_check.specs.Pending.{IsFaulty, called_fault, item_fault, moved, reach};
-ghost use Rattle.mich_check.specs.View.{branch_form, context, loop_form};
-ghost use Rattle.mich_check.specs.Answers.{IsBlock, IsBody, IsInstr};
+ghost use Rattle.mich_control.specs.View.{branch_form, context, loop_form};
+ghost use Rattle.mich_control.specs.Answers.{IsBlock, IsBody, IsInstr};
 
-use crate::arrows::{begun, lambda_made, read_arrow};
-use crate::dips::{counted, dip_parts, dipped, split_stack};
-use crate::error::CheckError;
-use crate::form::{Branch, Form, Loop, form_of_name};
-use crate::joining::{ends_in, joined};
-use crate::lambdas::{call_types, only};
-use crate::leaves::{check_bodiless, check_straight, check_transfer};
 use crate::literals::read_literal;
-use crate::made::{Body, Made};
-use crate::maps::{map_stacks, mapped};
-use crate::place::Place;
-use crate::pushes::push_made;
-use crate::reading::type_with;
 use crate::scripts::check_create;
-use crate::selves::check_self;
-use crate::shapes::{branch_instr, branch_stacks, loop_instr, loop_stacks};
 use mich_base::{App, Node, Nodes, Rows, Shared, Ty};
+use mich_control::{
+    Body, Branch, CheckError, Form, Loop, Made, Place, begun, behind_loop, branch_instr,
+    branch_stacks, call_types, check_bodiless, check_self, check_straight, check_transfer, counted,
+    dip_parts, dipped, ends_in, form_of_name, joined, lambda_made, loop_instr, loop_stacks,
+    map_stacks, mapped, only, push_made, read_arrow, split_stack, type_with,
+};
 use mich_data::Pending;
 use mich_instr::Instr;
 use mich_stackrules::Attribute;
@@ -126,7 +118,7 @@ fn check_app(
     match form_of_name(&app.name) {
         Form::Straight => check_straight(alloc, app, at, place, types),
         Form::Transfer => check_transfer(alloc, app, at, place, types),
-        Form::Bodiless(bodiless) => check_bodiless(alloc, bodiless, app, at, place, &types),
+        Form::Bodiless(bodiless) => check_bodiless(alloc, bodiless, app, at, place, types),
         Form::Branch(branch) => check_branch(alloc, branch, app, at, place, types),
         Form::Loop(turns) => check_loop(alloc, turns, app, at, place, types),
         Form::SelfContract => check_self(alloc, app, at, place, types),
@@ -155,7 +147,7 @@ fn check_branch(
     let Some((one, other)) = app.args.both() else {
         return Err(CheckError::IllTyped(at));
     };
-    let Some((first, second)) = branch_stacks(alloc, branch, types.as_slice())? else {
+    let Some((first, second)) = branch_stacks(alloc, branch, types)? else {
         return Err(CheckError::IllTyped(at));
     };
     let one_body = check_body(alloc, one, at + 1, place, first)?;
@@ -183,16 +175,17 @@ fn check_loop(
     let Some(node) = app.args.only() else {
         return Err(CheckError::IllTyped(at));
     };
-    let Some(turning) = loop_stacks(alloc, turns, types.as_slice())? else {
+    let Some(turning) = loop_stacks(alloc, turns, types)? else {
         return Err(CheckError::IllTyped(at));
     };
     let body = check_body(alloc, node, at + 1, place, turning.begins)?;
     if !ends_in(&body.after, &turning.ends) {
         return Err(CheckError::IllTyped(at));
     }
+    let after = behind_loop(turning.ends, turning.over, turning.leaves)?;
     Ok(Made {
         instr: loop_instr(turns, body.code),
-        after: Some(turning.leaves),
+        after: Some(after),
     })
 }
 

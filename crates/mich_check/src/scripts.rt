@@ -12,29 +12,25 @@ ghost use Rattle.mich_overload.specs.View.{kinds};
 ghost use Rattle.mich_sections.specs.Outlines.{outline_at};
 ghost use Rattle.mich_sections.specs.View.{body_of, outline_of, view_of};
 ghost use Rattle.mich_instr.specs.View.{codes, script_code, view_code, view_codes};
-ghost use Rattle.mich_check.specs.View.{context};
-ghost use Rattle.mich_check.specs.Answers.{IsFound, IsInstr};
-ghost use Rattle.mich_check.specs.Scripts.{AreTypedViews, IsScriptCode, IsTyped, IsView, IsWhole, script_made, view_made};
+ghost use Rattle.mich_control.specs.View.{context};
+ghost use Rattle.mich_control.specs.Answers.{IsFound, IsInstr};
+ghost use Rattle.mich_check.specs.Scripts.{AreTypedViews, IsScriptCode, IsTyped, IsTypedAt, IsView, IsWhole, script_made, view_made};
 
-use crate::creating::{located, origination, stack_behind};
+use crate::creating::{origination, stack_behind};
 use crate::ends::{Ends, code_ends, view_ends};
-use crate::error::CheckError;
-use crate::joining::ends_in;
-use crate::lambdas::only;
-use crate::made::Made;
 use crate::nodes::check_body;
-use crate::place::{Place, is_view};
-use mich_base::{App, Memory, Node, Rows, Ty, copy_node, copy_type};
+use mich_base::{App, Memory, Node, Rows, Shared, Ty, copy_node, copy_type};
+use mich_control::{CheckError, Made, Place, ends_in, is_view, only};
 use mich_instr::{Block, Instr, Script, ViewCode};
 use mich_sections::{Outline, Placed, SectionsError, View, read_outline};
 use std::alloc::Global;
 
 // The types of a script and its bodies.
-fn outlined<'a>(alloc: Global, node: &'a Node) -> Result<Outline<'a>, CheckError>
-    requires { size (tree node.now) < 2 ^ 32 }
-    ensures { IsFound outline_of (outline_at 0 (tree node.now)) result }
+fn outlined<'a>(alloc: Global, node: &'a Node, at: u32) -> Result<Outline<'a>, CheckError>
+    requires { at + size (tree node.now) < 2 ^ 32 }
+    ensures { IsFound outline_of (outline_at at (tree node.now)) result }
 {
-    match read_outline(alloc, node, 0) {
+    match read_outline(alloc, node, at) {
         Ok(outline) => Ok(outline),
         Err(SectionsError::Fault(location)) => Err(CheckError::IllTyped(location)),
         Err(SectionsError::Memory) => Err(CheckError::Memory),
@@ -79,12 +75,20 @@ fn view_with(alloc: Global, view: &View<'_>, code: Block) -> Result<ViewCode, Me
 /// The typed script of a node: its code, and then each view, are tried where its sections and types have no fault (Michelson
 /// reference, "Scripts"). IllTyped has the location of the first fault, a pre-order place of the node; Memory where there is
 /// no room for it.
-#[cycle(check)]
 pub fn check_script(alloc: Global, node: &Node) -> Result<Script, CheckError>
     requires { size (tree node.now) < 2 ^ 32 }
     ensures { IsTyped (tree node.now) result }
 {
-    let outline = outlined(alloc, node)?;
+    check_script_at(alloc, node, 0)
+}
+
+// The typed script of a node at a location.
+#[cycle(check)]
+fn check_script_at(alloc: Global, node: &Node, at: u32) -> Result<Script, CheckError>
+    requires { at + size (tree node.now) < 2 ^ 32 }
+    ensures { IsTypedAt at (tree node.now) result }
+{
+    let outline = outlined(alloc, node, at)?;
     let code = check_code(alloc, &outline)?;
     let views = check_views(alloc, &outline.storage, &outline.views)?;
     let script = script_of(alloc, node, outline, code, views)?;
@@ -174,8 +178,8 @@ pub(crate) fn check_create(
     let Some(origin) = origination(types) else {
         return Err(CheckError::IllTyped(at));
     };
-    let answer = check_script(alloc, node);
-    let script = located(alloc, answer, at + 1)?;
+    let typed = check_script_at(alloc, node, at + 1)?;
+    let script = Shared::new(alloc, typed)?;
     let after = stack_behind(origin, &script.get().storage, at)?;
     Ok(Made {
         instr: Instr::CreateContract(script),

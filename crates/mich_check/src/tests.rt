@@ -1,8 +1,9 @@
 // What the calls give with ample memory, by texts. Locations are counted in pre-order from the body, which is 0.
-use crate::place::Place;
 use crate::{CheckError, check_body, check_literal, check_script, nodes};
 use mich_base::{Node, Rows, Ty, size_within};
+use mich_control::Place;
 use mich_data::Pending;
+use mich_instr::erase;
 use mich_text::read_statement;
 use mich_types::{read_parameter, read_type};
 use std::alloc::Global;
@@ -399,5 +400,198 @@ const SCRIPTS: [BodyRow; 7] = [
 #[test]
 fn scripts_are_checked_with_those_that_they_create(rt: HostRuntime) -> Result<(), Fail> {
     assert_eq!(rt; misplaced_scripts(rt.alloc(), &SCRIPTS)?, None);
+    Ok(())
+}
+
+// Whether the typed code of a body is erased to this text.
+fn is_erased(alloc: Global, arg: &str, ret: &str, body: &str, plain: &str) -> Result<bool, Fail> {
+    let arg = ty(alloc, arg)?;
+    let ret = ty(alloc, ret)?;
+    let body = node(alloc, body)?;
+    let plain = node(alloc, plain)?;
+    match &body {
+        Node::Seq(_) => {
+            if !size_within(&body, 10_000) {
+                return Err(Fail::from("too large"));
+            }
+            let code = check_body(alloc, &arg, &ret, false, &body)?;
+            let erased = erase(alloc, code.get())?;
+            Ok(erased == plain)
+        }
+        _ => Err(Fail::from("no sequence")),
+    }
+}
+
+// The first body without fault that isn't erased to itself.
+fn unerased(alloc: Global, rows: &[Row]) -> Result<Option<&'static str>, Fail> {
+    for (arg, ret, body, at) in rows {
+        if at.is_none() && !is_erased(alloc, arg, ret, body, body)? {
+            return Ok(Some(body));
+        }
+    }
+    Ok(None)
+}
+
+// The same of bodies from one type to another.
+fn unerased_bodies(
+    alloc: Global,
+    arg: &str,
+    ret: &str,
+    rows: &[BodyRow],
+) -> Result<Option<&'static str>, Fail> {
+    for (body, at) in rows {
+        if at.is_none() && !is_erased(alloc, arg, ret, body, body)? {
+            return Ok(Some(body));
+        }
+    }
+    Ok(None)
+}
+
+#[test]
+fn bodies_are_erased_to_themselves(rt: HostRuntime) -> Result<(), Fail> {
+    let alloc = rt.alloc();
+    assert_eq!(rt; unerased(alloc, &RESULTS)?, None);
+    assert_eq!(rt; unerased(alloc, &BRANCHES)?, None);
+    assert_eq!(rt; unerased(alloc, &MAPS)?, None);
+    assert_eq!(rt; unerased(alloc, &PUSHES)?, None);
+    assert_eq!(rt; unerased_bodies(alloc, "unit", "unit", &DIPS)?, None);
+    assert_eq!(rt;
+        unerased_bodies(alloc, "unit", "lambda int int", &LAMBDAS)?,
+        None
+    );
+    Ok(())
+}
+
+// The argument and the result of a body, the body, and what it is erased to.
+type PlainRow = (&'static str, &'static str, &'static str, &'static str);
+
+const PLAIN: [PlainRow; 13] = [
+    (
+        "unit",
+        "unit",
+        "{ DUP @a ; DROP @b %c :d }",
+        "{ DUP ; DROP }",
+    ),
+    ("unit", "unit", "{ DUP 1 ; DROP 1 }", "{ DUP 1 ; DROP 1 }"),
+    (
+        "unit",
+        "int",
+        "{ DROP ; PUSH @x (int %y) 5 }",
+        "{ DROP ; PUSH int 5 }",
+    ),
+    (
+        "unit",
+        "lambda int int",
+        "{ DROP ; LAMBDA @f (int %a) (int :b) { NEG @c } }",
+        "{ DROP ; LAMBDA int int { NEG @c } }",
+    ),
+    (
+        "unit",
+        "lambda int int",
+        "{ DROP ; PUSH (lambda int int) { NEG @c } }",
+        "{ DROP ; PUSH (lambda int int) { NEG @c } }",
+    ),
+    (
+        "unit",
+        "unit",
+        "{ EMIT %t @u (unit %v) ; DROP ; UNIT }",
+        "{ EMIT %t unit ; DROP ; UNIT }",
+    ),
+    (
+        "unit",
+        "unit",
+        "{ EMIT % %t ; DROP ; UNIT }",
+        "{ EMIT ; DROP ; UNIT }",
+    ),
+    (
+        "address",
+        "option (contract unit)",
+        "{ CONTRACT @c %d %e (unit %f) }",
+        "{ CONTRACT %d unit }",
+    ),
+    (
+        "unit",
+        "unit",
+        "{ DIP @d 1 { } ; DIP { } }",
+        "{ DIP 1 { } ; DIP { } }",
+    ),
+    (
+        "bool",
+        "unit",
+        "{ IF @i { UNIT @a } { { UNIT @b } } }",
+        "{ IF { UNIT } { { UNIT } } }",
+    ),
+    (
+        "unit",
+        "option (pair int nat bool)",
+        "{ DROP ; NONE (pair %p (int %a) nat (bool %c)) }",
+        "{ DROP ; NONE (pair int nat bool) }",
+    ),
+    (
+        "pair int int",
+        "int",
+        "{ LAMBDA_REC (pair int (int %r)) int { UNPAIR @u ; DIP 2 { DROP @v } ; ADD } ; SWAP ; EXEC @e }",
+        "{ LAMBDA_REC (pair int int) int { UNPAIR @u ; DIP 2 { DROP @v } ; ADD } ; SWAP ; EXEC }",
+    ),
+    (
+        "unit",
+        "operation",
+        "{ PUSH mutez 0 ; NONE key_hash ; CREATE_CONTRACT @c { parameter (unit %p) ; storage unit ; code { CDR @x ; NIL operation ; PAIR } } ; DIP { DROP } }",
+        "{ PUSH mutez 0 ; NONE key_hash ; CREATE_CONTRACT { parameter (unit %p) ; storage unit ; code { CDR @x ; NIL operation ; PAIR } } ; DIP { DROP } }",
+    ),
+];
+
+// The first body that is erased to another text.
+fn misread(alloc: Global, rows: &[PlainRow]) -> Result<Option<&'static str>, Fail> {
+    for (arg, ret, body, plain) in rows {
+        if !is_erased(alloc, arg, ret, body, plain)? {
+            return Ok(Some(body));
+        }
+    }
+    Ok(None)
+}
+
+#[test]
+fn annotations_without_effect_are_erased(rt: HostRuntime) -> Result<(), Fail> {
+    assert_eq!(rt; misread(rt.alloc(), &PLAIN)?, None);
+    Ok(())
+}
+
+// Whether a script is accepted, and its code is erased to this text.
+fn is_script_erased(alloc: Global, text: &str, plain: &str) -> Result<bool, Fail> {
+    let script = node(alloc, text)?;
+    let plain = node(alloc, plain)?;
+    if !size_within(&script, 10_000) {
+        return Err(Fail::from("too large"));
+    }
+    let script = check_script(alloc, &script)?;
+    let erased = erase(alloc, script.code.get())?;
+    Ok(erased == plain)
+}
+
+#[test]
+fn scripts_are_erased_to_their_code(rt: HostRuntime) -> Result<(), Fail> {
+    let alloc = rt.alloc();
+    assert!(rt;
+        is_script_erased(
+            alloc,
+            "{ parameter unit; storage unit; code { CDR; NIL operation; PAIR } }",
+            "{ CDR; NIL operation; PAIR }"
+        )?
+    );
+    assert!(rt;
+        is_script_erased(
+            alloc,
+            "{ parameter (or (int %a) nat); storage unit; code { SELF @s %a %b; DROP; CDR; NIL operation; PAIR @p } }",
+            "{ SELF %a; DROP; CDR; NIL operation; PAIR }"
+        )?
+    );
+    assert!(rt;
+        is_script_erased(
+            alloc,
+            "{ parameter unit; storage unit; code { DROP; UNIT; PUSH mutez 0; NONE key_hash; CREATE_CONTRACT { parameter unit; storage unit; code { CDR; NIL operation; PAIR } }; DROP 2; UNIT; NIL operation; PAIR } }",
+            "{ DROP; UNIT; PUSH mutez 0; NONE key_hash; CREATE_CONTRACT { parameter unit; storage unit; code { CDR; NIL operation; PAIR } }; DROP 2; UNIT; NIL operation; PAIR }"
+        )?
+    );
     Ok(())
 }

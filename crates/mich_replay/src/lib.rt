@@ -23,4 +23,6 @@ pub use laws::{
 pub use top::mich;
 
 #[cfg(test)]
+mod check_tests;
+#[cfg(test)]
 mod tests;

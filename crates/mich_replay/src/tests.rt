@@ -62,7 +62,7 @@ fn run(
 }
 
 // Whether a command over a file of this text ends with this status, and writes this.
-fn is_answered(
+pub(crate) fn is_answered(
     alloc: Global,
     verb: &str,
     text: &str,
@@ -443,6 +443,71 @@ fn bytes_are_decoded(rt: HostRuntime) -> Result<(), Fail> {
     Ok(())
 }
 
+// A file that is packed, the status, and what is written.
+static PACKED: [(&str, u8, &str); 9] = [
+    ("Pack int -1", 0, "0x050041\n"),
+    ("Pack int 64", 0, "0x05008001\n"),
+    (
+        "Pack (pair int string) (Pair 1 \"a\") ;",
+        0,
+        "0x0507070001010000000161\n",
+    ),
+    ("Pack unit Unit", 0, "0x05030b\n"),
+    ("Pack (option nat) None", 0, "0x050306\n"),
+    ("Pack bytes 0xABcd", 0, "0x050a00000002abcd\n"),
+    ("Pack (list nat) { 1 ; 2 }", 0, "0x05020000000400010002\n"),
+    ("Pack (lambda unit unit) {}", 0, "0x050200000000\n"),
+    (
+        "Pack (pair nat nat nat) { 1 ; 2 ; 3 }",
+        0,
+        "0x0507070001070700020003\n",
+    ),
+];
+
+// A file that isn't packed, and the line that it gives. The type stands at location 1.
+static UNPACKABLE: [(&str, &str); 15] = [
+    ("Pack (big_map int int) {}", "Refused IllTyped 1\n"),
+    ("Pack operation 1", "Refused IllTyped 1\n"),
+    ("Pack foo 1", "Refused IllTyped 1\n"),
+    ("Pack (list foo) {}", "Refused IllTyped 2\n"),
+    ("Pack (pair int int) (Pair 1 \"a\")", "Refused IllTyped 6\n"),
+    (
+        "Pack (contract unit) 0x01000000000000000000000000000000000000000000",
+        "Refused IllTyped 3\n",
+    ),
+    (
+        "Pack (lambda unit unit) { FAILWITH ; UNIT }",
+        "Refused IllTyped 5\n",
+    ),
+    ("Pack (lambda unit unit) { DROP }", "Refused IllTyped 4\n"),
+    ("Pack int", "Refused BadStatement 0\n"),
+    ("Pack int 1 2", "Refused BadStatement 0\n"),
+    ("Pack %a int 1", "Refused BadStatement 0\n"),
+    ("pack int 1", "Refused BadStatement 0\n"),
+    (" Pack int 1 ; 2", "Refused BadStatement 14\n"),
+    ("", "Refused BadStatement 0\n"),
+    ("Pack int 1a", "Refused BadNumber 9\n"),
+];
+
+#[test]
+fn literals_are_packed(rt: HostRuntime) -> Result<(), Fail> {
+    for (file, status, written) in PACKED {
+        assert!(rt;
+            is_answered(rt.alloc(), "pack", file, status, written)?,
+            "{file}"
+        );
+    }
+    Ok(())
+}
+
+#[test]
+fn what_is_not_packed(rt: HostRuntime) -> Result<(), Fail> {
+    for (file, line) in UNPACKABLE {
+        assert!(rt; is_answered(rt.alloc(), "pack", file, 2, line)?, "{file}");
+    }
+    Ok(())
+}
+
 // So many sequences, each in the one before.
 fn braces(alloc: Global, depth: u32) -> Result<String, Memory> {
     let mut text = String::new(alloc);
@@ -485,6 +550,20 @@ fn nodes_at_the_limits(rt: HostRuntime) -> Result<(), Fail> {
     assert!(rt; is_answered(alloc, "encode", text.as_str(), 2, "Refused TooLong 0\n")?);
     let two = "0x094200000004030b030b00000000";
     assert!(rt; is_answered(alloc, "decode", two, 2, "Refused BadTag 0\n")?);
+    Ok(())
+}
+
+// Six bytes stand before those of a string.
+#[test]
+fn packed_strings_at_the_limit(rt: HostRuntime) -> Result<(), Fail> {
+    let alloc = rt.alloc();
+    let text = quoted(alloc, 1_048_570)?;
+    let file = format!(in alloc; "Pack string {text}")?;
+    let (status, out) = run(alloc, "pack", file.as_str(), &[], &[])?;
+    assert_eq!(rt; (status, out.as_slice().len()), (0, 2_097_155));
+    let text = quoted(alloc, 1_048_571)?;
+    let file = format!(in alloc; "Pack string {text}")?;
+    assert!(rt; is_answered(alloc, "pack", file.as_str(), 2, "Refused SizeLimit 0\n")?);
     Ok(())
 }
 

@@ -7,21 +7,21 @@ use Rattle.mich_base.specs.TypeView.{kind}
 use Rattle.mich_base.specs.View.{tree, trees}
 use Rattle.mich_data.proofs.Places.{sizes_at}
 use Rattle.mich_overload.specs.View.{kinds}
-use Rattle.mich_check.specs.View.{context}
+use Rattle.mich_control.specs.View.{context}
 use Rattle.rules_typing.specs.Literals.{fault_of_bodies}
 use Rattle.mich_data.specs.View.{pending, all_pending}
 use Rattle.mich_data.specs.declared.pending.Pending.{Pending as Item}
 use Rattle.mich_check.specs.Pending.{IsFaulty, item_fault, moved}
-use Rattle.mich_check.specs.Answers.{IsFault}
-use Rattle.mich_check.proofs.Shifts.{fault_is, seq_at}
+use Rattle.mich_control.specs.Answers.{IsFault}
+use Rattle.mich_control.proofs.Shifts.{fault_is, seq_at}
 use Rattle.mich_check.proofs.Blocks.{left_size, block_fault, block_step, block_code, block_end, block_whole, seq_made}
-use Rattle.mich_check.proofs.Branches.{branch_one, branch_other, branch_join, branch_made}
-use Rattle.mich_check.proofs.Loops.{loop_arguments, loop_stack, loop_body, loop_other, loop_made}
-use Rattle.mich_check.proofs.DipTyping.{dip_read, dip_few, dip_body, dip_made}
-use Rattle.mich_check.proofs.MapTyping.{map_arguments, map_stack, map_body, map_made}
-use Rattle.mich_check.proofs.LambdaTyping.{lambda_arguments, lambda_types, lambda_begun, lambda_body, lambda_is}
+use Rattle.mich_control.proofs.Branches.{branch_one, branch_other, branch_join, branch_made}
+use Rattle.mich_control.proofs.Loops.{loop_arguments, loop_stack, loop_body, loop_other, loop_behind}
+use Rattle.mich_control.proofs.DipTyping.{dip_read, dip_few, dip_body, dip_made}
+use Rattle.mich_control.proofs.MapTyping.{map_arguments, map_stack, map_body, map_made}
+use Rattle.mich_control.proofs.LambdaTyping.{lambda_arguments, lambda_types, lambda_begun, lambda_body, lambda_is}
 use Rattle.mich_check.proofs.PushTyping.{push_arguments, push_type, push_literal, push_body, push_made, items_room, items_size, items_fault, items_step, items_end, called_item, called_bad, called_other, called_well}
-use Rattle.mich_check.proofs.Views.{tree_seq, code_seq}
+use Rattle.mich_control.proofs.Views.{tree_seq, code_seq}
 use Rattle.std.specs.Prelude.{map}
 use Rattle.std.proofs.Common.{◌<◌, ◌≤◌, refl, subst}
 use Rattle.rules_typing.specs.Scripts.{with_views}
@@ -29,9 +29,9 @@ use Rattle.mich_base.specs.TypeView.{kind}
 use Rattle.mich_sections.specs.View.{outline_of, view_of}
 use Rattle.mich_instr.specs.declared.instr.Script.{Script, out-Script}
 use Rattle.mich_check.specs.Scripts.{AreTypedViews, largest_of}
-use Rattle.mich_check.proofs.CreateTyping.{created, moved_typed, storage_other}
+use Rattle.mich_check.proofs.CreateTyping.{created, create_script, shared_typed, storage_other}
 use Rattle.mich_check.proofs.ScriptTyping.{Reached, code_size, reached_none, script_typed, views_end, views_fault, views_largest, views_size, views_step, whole_good}
-use Rattle.mich_check.proofs.Views.{code_create, storage_kind}
+use Rattle.mich_control.proofs.Views.{code_create, storage_kind}
 use Rattle.mich_check.proofs.+check.Goals as goal
 
 pub nodes::check_block-check_node-requires : goal.nodes::check_block-check_node-requires
@@ -66,28 +66,28 @@ nodes::check_block-returns t c =
 
 pub nodes::check_branch-returns-in_err-one_body : goal.nodes::check_branch-returns-in_err-one_body
 nodes::check_branch-returns-in_err-one_body t c =
-    let st = rw (c.in-Some-2.is, c.as_slice.ensures) at c.in_ok-first.ensures in
+    let st = rw c.in-Some-2.is at c.in_ok-first.ensures in
     let fault : IsFault (shift c.args.at (tree_type (prim c.args.app.now.name c.args.app.now.annots (trees c.args.app.now.args)) (context c.args.place) (kinds c.args.types))) c.in_err-one_body.field-0.0 =
     branch_one _ _ _ _ _ _ _ c.requires.form _ _ _ _ c.in-Some.ensures st _ c.in_err-one_body.ensures in
     search (rules, fault)
 
 pub nodes::check_branch-returns-in_err-other_body : goal.nodes::check_branch-returns-in_err-other_body
 nodes::check_branch-returns-in_err-other_body t c =
-    let st = rw (c.in-Some-2.is, c.as_slice.ensures) at c.in_ok-first.ensures in
+    let st = rw c.in-Some-2.is at c.in_ok-first.ensures in
     let fault : IsFault (shift c.args.at (tree_type (prim c.args.app.now.name c.args.app.now.annots (trees c.args.app.now.args)) (context c.args.place) (kinds c.args.types))) c.in_err-other_body.field-0.0 =
     branch_other _ _ _ _ _ _ _ c.requires.form _ _ _ _ c.in-Some.ensures st _ _ c.behind.ensures c.in_ok-one_body.ensures.1 _ c.in_err-other_body.ensures in
     search (rules, fault)
 
 pub nodes::check_branch-returns-in_err-after : goal.nodes::check_branch-returns-in_err-after
 nodes::check_branch-returns-in_err-after t c =
-    let st = rw (c.in-Some-2.is, c.as_slice.ensures) at c.in_ok-first.ensures in
+    let st = rw c.in-Some-2.is at c.in_ok-first.ensures in
     let fault : IsFault (shift c.args.at (tree_type (prim c.args.app.now.name c.args.app.now.annots (trees c.args.app.now.args)) (context c.args.place) (kinds c.args.types))) c.in_err-after.field-0.0 =
     branch_join _ _ _ _ _ _ _ c.requires.form _ _ _ _ c.in-Some.ensures st _ _ c.behind.ensures c.in_ok-one_body.ensures.1 _ c.in_ok-other_body.ensures.1 _ c.in_err-after.ensures in
     search (rules, fault)
 
 pub nodes::check_branch-returns : goal.nodes::check_branch-returns
 nodes::check_branch-returns t c =
-    let st = rw (c.in-Some-2.is, c.as_slice.ensures) at c.in_ok-first.ensures in
+    let st = rw c.in-Some-2.is at c.in_ok-first.ensures in
     let one = c.in_ok-one_body.ensures in
     let other = c.in_ok-other_body.ensures in
     branch_made _ _ _ _ _ _ _ c.requires.form _ _ _ _ c.in-Some.ensures st _ _ c.behind.ensures one.1 _ other.1 _ _ _ _ c.in_ok-after.ensures c.branch_instr.ensures one.0 one.2 other.0 other.2
@@ -105,16 +105,16 @@ nodes::check_node-returns-in_ok-body-in-Seq t c =
 
 pub nodes::check_loop-returns-in_err-body : goal.nodes::check_loop-returns-in_err-body
 nodes::check_loop-returns-in_err-body t c =
-    let st = rw (c.in-Some-2.is, c.as_slice.ensures) at c.in_ok-turning.ensures in
+    let st = rw c.in-Some-2.is at c.in_ok-turning.ensures in
     let fault : IsFault (shift c.args.at (tree_type (prim c.args.app.now.name c.args.app.now.annots (trees c.args.app.now.args)) (context c.args.place) (kinds c.args.types))) c.in_err-body.field-0.0 =
     loop_body _ _ _ _ _ _ _ c.requires.form _ _ c.in-Some.ensures st _ c.in_err-body.ensures in
     search (rules, fault)
 
 pub nodes::check_loop-returns : goal.nodes::check_loop-returns
 nodes::check_loop-returns t c =
-    let st = rw (c.in-Some-2.is, c.as_slice.ensures) at c.in_ok-turning.ensures in
+    let st = rw c.in-Some-2.is at c.in_ok-turning.ensures in
     let b = c.in_ok-body.ensures in
-    loop_made _ _ _ _ _ _ _ c.requires.form _ _ c.in-Some.ensures st _ b.1 _ _ (sym c.if-not-ends_in.false ∙ c.ends_in.ensures) c.loop_instr.ensures b.0 b.2
+    loop_behind _ _ _ _ _ _ _ c.requires.form _ _ c.in-Some.ensures st _ b.1 _ c.in_ok-after.ensures _ _ (sym c.if-not-ends_in.false ∙ c.ends_in.ensures) c.loop_instr.ensures b.0 b.2
 
 -- ---- DIP
 
@@ -245,10 +245,17 @@ nodes::check_item-returns-in-Body t c =
 
 -- ---- scripts
 
+pub scripts::check_create-returns-in_err-typed : goal.scripts::check_create-returns-in_err-typed
+scripts::check_create-returns-in_err-typed t c =
+    let v = sym c.is_view.ensures ∙ c.if-is_view.false in
+    let fault : IsFault (shift c.args.at (tree_type (prim c.args.app.now.name c.args.app.now.annots (trees c.args.app.now.args)) (context c.args.place) (kinds c.args.types))) c.in_err-typed.field-0.0 =
+    create_script c.args.at (context c.args.place) c.args.app.now.name c.args.app.now.annots c.args.app.now.args (kinds c.args.types) c.requires.form v _ c.in-Some.ensures _ c.in-Some-origination.ensures _ c.in_err-typed.ensures in
+    search (rules, fault)
+
 pub scripts::check_create-returns-in_err-after : goal.scripts::check_create-returns-in_err-after
 scripts::check_create-returns-in_err-after t c =
     let v = sym c.is_view.ensures ∙ c.if-is_view.false in
-    let typed = moved_typed c.args.at (context c.args.place) c.args.app.now.name c.args.app.now.annots c.args.app.now.args (kinds c.args.types) c.requires.form v _ c.in-Some.ensures _ c.in-Some-origination.ensures _ _ c.check_script-answer.ensures c.in_ok-script.ensures in
+    let typed = shared_typed _ _ _ _ c.in_ok-script.ensures c.in_ok-typed.ensures in
     let storage = ap (λ (s : Script). kind (out-Script s).storage) c.get.ensures ∙ storage_kind c.in_ok-script.script in
     let fault : IsFault (shift c.args.at (tree_type (prim c.args.app.now.name c.args.app.now.annots (trees c.args.app.now.args)) (context c.args.place) (kinds c.args.types))) c.in_err-after.field-0.0 =
     storage_other c.args.at (context c.args.place) c.args.app.now.name c.args.app.now.annots c.args.app.now.args (kinds c.args.types) c.requires.form v _ c.in-Some.ensures _ c.in-Some-origination.ensures _ typed _ _ storage c.in_err-after.ensures in
@@ -257,23 +264,23 @@ scripts::check_create-returns-in_err-after t c =
 pub scripts::check_create-returns : goal.scripts::check_create-returns
 scripts::check_create-returns t c =
     let v = sym c.is_view.ensures ∙ c.if-is_view.false in
-    let typed = moved_typed c.args.at (context c.args.place) c.args.app.now.name c.args.app.now.annots c.args.app.now.args (kinds c.args.types) c.requires.form v _ c.in-Some.ensures _ c.in-Some-origination.ensures _ _ c.check_script-answer.ensures c.in_ok-script.ensures in
+    let typed = shared_typed _ _ _ _ c.in_ok-script.ensures c.in_ok-typed.ensures in
     let storage = ap (λ (s : Script). kind (out-Script s).storage) c.get.ensures ∙ storage_kind c.in_ok-script.script in
     created c.args.at (context c.args.place) c.args.app.now.name c.args.app.now.annots c.args.app.now.args (kinds c.args.types) c.requires.form v _ c.in-Some.ensures _ c.in-Some-origination.ensures _ typed _ c.in_ok-after.after _ storage c.in_ok-after.ensures (code_create c.in_ok-script.script)
 
-pub scripts::check_script-check_code-requires : goal.scripts::check_script-check_code-requires
-scripts::check_script-check_code-requires t c =
-    let h : size (tree c.in_ok-outline.outline.code.node.now) < size (tree c.args.node.now) = code_size (tree c.args.node.now) (outline_of c.in_ok-outline.outline) c.in_ok-outline.ensures in
+pub scripts::check_script_at-check_code-requires : goal.scripts::check_script_at-check_code-requires
+scripts::check_script_at-check_code-requires t c =
+    let h : size (tree c.in_ok-outline.outline.code.node.now) < size (tree c.args.node.now) = code_size c.args.at (tree c.args.node.now) (outline_of c.in_ok-outline.outline) c.in_ok-outline.ensures in
     (omega (arith, h, c.decreases), tt)
 
-pub scripts::check_script-check_views-requires : goal.scripts::check_script-check_views-requires
-scripts::check_script-check_views-requires t c =
-    let h : largest_of c.in_ok-outline.outline.views < size (tree c.args.node.now) = views_largest (tree c.args.node.now) c.in_ok-outline.outline c.in_ok-outline.ensures in
+pub scripts::check_script_at-check_views-requires : goal.scripts::check_script_at-check_views-requires
+scripts::check_script_at-check_views-requires t c =
+    let h : largest_of c.in_ok-outline.outline.views < size (tree c.args.node.now) = views_largest c.args.at (tree c.args.node.now) c.in_ok-outline.outline c.in_ok-outline.ensures in
     (omega (arith, h, c.decreases), tt)
 
-pub scripts::check_script-returns : goal.scripts::check_script-returns
-scripts::check_script-returns t c =
-    script_typed (tree c.args.node.now) (outline_of c.in_ok-outline.outline) c.in_ok-outline.ensures _ c.in_ok-code.ensures _ _ c.in_ok-views.ensures c.in_ok-script.ensures
+pub scripts::check_script_at-returns : goal.scripts::check_script_at-returns
+scripts::check_script_at-returns t c =
+    script_typed c.args.at (tree c.args.node.now) (outline_of c.in_ok-outline.outline) c.in_ok-outline.ensures _ c.in_ok-code.ensures _ _ c.in_ok-views.ensures c.in_ok-script.ensures
 
 pub scripts::check_views-loop-view-init : goal.scripts::check_views-loop-view-init
 scripts::check_views-loop-view-init t c =

@@ -8,7 +8,7 @@ use Rattle.mich_data.specs.View.{all_pending, pending}
 use Rattle.mich_overload.specs.View.{kinds}
 use Rattle.mich_instr.specs.View.{codes}
 use Rattle.mich_check.specs.Pending.{largest, moved, reach}
-use Rattle.mich_check.specs.View.{context}
+use Rattle.mich_control.specs.View.{context}
 use Rattle.mich_check.proofs.Blocks.{rest_type, Completes}
 use Rattle.std.specs.Prelude.{map}
 use Rattle.rules_typing.specs.Scripts.{with_views}
@@ -77,8 +77,8 @@ invariant-nodes::check_pending-loop-item l = record {
 abbrev pub decreases-scripts::check_create : goal.decreases-scripts::check_create
 decreases-scripts::check_create l = 8 * (sizes (trees l.app.now.args) + 1) + 4
 
-abbrev pub decreases-scripts::check_script : goal.decreases-scripts::check_script
-decreases-scripts::check_script l = 8 * size (tree l.node.now) + 3
+abbrev pub decreases-scripts::check_script_at : goal.decreases-scripts::check_script_at
+decreases-scripts::check_script_at l = 8 * size (tree l.node.now) + 3
 
 abbrev pub decreases-scripts::check_code : goal.decreases-scripts::check_code
 decreases-scripts::check_code l = 8 * size (tree l.outline.now.code.node.now) + 7

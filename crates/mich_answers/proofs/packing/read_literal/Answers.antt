@@ -7,4 +7,4 @@ use Rattle.mich_answers.proofs.packing.read_literal.Goals as goal
 
 pub checked_literal-requires : goal.checked_literal-requires
 checked_literal-requires c =
-    checked_is_packable (kind c.args.ty.now) c.args.at (tree c.args.literal.now) (checked c.in-Ok.literal) c.requires.packs (omega (arith, c.requires.fits)) c.in-Ok.ensures
+    checked_is_packable (kind c.args.ty.now) c.args.at (tree c.args.literal.now) (checked c.in-Ok.literal) c.requires.packs (omega (arith, c.requires.fits)) c.in-Ok.ensures.checked

@@ -1,0 +1,13 @@
+pub mod Tops
+pub mod Shifts
+pub mod Forms
+pub mod Branches
+pub mod Loops
+pub mod Plains
+pub mod Written
+pub mod Views
+pub mod Read
+pub mod SelfTyping
+pub mod DipTyping
+pub mod MapTyping
+pub mod LambdaTyping

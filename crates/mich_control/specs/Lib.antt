@@ -1,0 +1,7 @@
+pub mod Answers
+pub mod Arrows
+pub mod Begun
+pub mod Dips
+pub mod Kept
+pub mod Maps
+pub mod View
