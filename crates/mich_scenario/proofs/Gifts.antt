@@ -26,9 +26,9 @@ pub is_gift : (fields : List Node) (a b i k c n t e : Node) (g : Gift) → field
 is_gift fields a b i k c n t e g is made = record {
   eight = ap (λ (ns : List Node). length ns) is;
   made = λ front kind content h.
-    let five = last_two a b i k c front kind content (sym (ap (λ (ns : List Node). take 5 ns) is) ∙ h) in
-    ap (λ (ns : List Node). content_by (codes "Give") (nodes_of (trees ns))) is ∙ sym (made (tree k) (tree c))
-    ∙ ap (λ (x : Node). Some (given (tree x) (tree c) g)) five.0 ∙ ap (λ (x : Node). Some (given (tree kind) (tree x) g)) five.1
+      let five = last_two a b i k c front kind content (sym (ap (λ (ns : List Node). take 5 ns) is) ∙ h) in
+      ap (λ (ns : List Node). content_by (codes "Give") (nodes_of (trees ns))) is ∙ sym (made (tree k) (tree c))
+      ∙ ap (λ (x : Node). Some (given (tree x) (tree c) g)) five.0 ∙ ap (λ (x : Node). Some (given (tree kind) (tree x) g)) five.1;
 }
 
 -- what is read of eight fields
