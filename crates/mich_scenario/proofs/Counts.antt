@@ -4,7 +4,7 @@ use Rattle.std.specs.Prelude.{ℤ, codes}
 use Rattle.rules_base.specs.Tree.{Tree}
 use Rattle.rules_world.specs.Balances.{most_mutez}
 use Rattle.rules_world.specs.Contents.{Content}
-use Rattle.rules_statements.specs.Statements.{◌>>=◌, nodes_of, chain_of, account_of, block_of, costs_of, group_of, content_by, number_of, gas_of}
+use Rattle.rules_statements.specs.Statements.{◌>>=◌, nodes_of, chain_of, account_of, block_of, costs_of, content_by, number_of, gas_of}
 use Rattle.mich_base.specs.Counted.{IsNotEmpty, IsNotOne, IsNotTwo, IsNotThree}
 use Rattle.mich_base.specs.View.{tree, trees}
 use Rattle.mich_base.specs.declared.node.Node.{Node}

@@ -1,8 +1,7 @@
 -- Gifts by their eight fields.
-use Rattle.std.proofs.Common.{◌≡◌, ℕ, List, [], ◌∷◌, ◌++◌, Option, Some, None, refl, ap, sym, ◌∙◌}
+use Rattle.std.proofs.Common.{◌≡◌, List, [], ◌∷◌, ◌++◌, Option, Some, None, ap, sym, ◌∙◌}
 use Rattle.std.specs.Prelude.{codes, length, take, option_map, MatchOption}
 use Rattle.rules_base.specs.Tree.{Tree}
-use Rattle.rules_world.specs.Contents.{Content}
 use Rattle.rules_statements.specs.Statements.{content_by, nodes_of}
 use Rattle.mich_base.specs.View.{tree, trees}
 use Rattle.mich_base.specs.declared.node.Node.{Node}
@@ -26,9 +25,9 @@ pub is_gift : (fields : List Node) (a b i k c n t e : Node) (g : Gift) → field
 is_gift fields a b i k c n t e g is made = record {
   eight = ap (λ (ns : List Node). length ns) is;
   made = λ front kind content h.
-    let five = last_two a b i k c front kind content (sym (ap (λ (ns : List Node). take 5 ns) is) ∙ h) in
-    ap (λ (ns : List Node). content_by (codes "Give") (nodes_of (trees ns))) is ∙ sym (made (tree k) (tree c))
-    ∙ ap (λ (x : Node). Some (given (tree x) (tree c) g)) five.0 ∙ ap (λ (x : Node). Some (given (tree kind) (tree x) g)) five.1
+      let five = last_two a b i k c front kind content (sym (ap (λ (ns : List Node). take 5 ns) is) ∙ h) in
+      ap (λ (ns : List Node). content_by (codes "Give") (nodes_of (trees ns))) is ∙ sym (made (tree k) (tree c))
+      ∙ ap (λ (x : Node). Some (given (tree x) (tree c) g)) five.0 ∙ ap (λ (x : Node). Some (given (tree kind) (tree x) g)) five.1;
 }
 
 -- what is read of eight fields

@@ -1,8 +1,7 @@
 -- Groups by their source and their contents.
-use Rattle.std.proofs.Common.{◌≡◌, ◌<◌, ◌≤◌, ℕ, Bool, true, false, ◌&&◌, List, [], ◌∷◌, ◌++◌, length, Option, Some, None, Result, Ok, Err, refl, sym, ap, ◌∙◌, subst, arith}
+use Rattle.std.proofs.Common.{◌≡◌, ◌<◌, ◌≤◌, ℕ, Bool, true, false, ◌&&◌, List, [], ◌∷◌, ◌++◌, length, Option, Some, None, Result, Err, refl, sym, ap, ◌∙◌, subst, arith}
 use Rattle.std.specs.Prelude.{nat_le}
 use Rattle.std.proofs.lemmas.Bool.Decides.{nat_tests}
-use Rattle.rules_base.specs.Tree.{Tree}
 use Rattle.rules_world.specs.Contents as rules
 use Rattle.rules_statements.specs.Statements.{◌>>=◌, contents_of, counted, each_content, group_of, most_contents, nodes_of, only_if}
 use Rattle.rules_statements.specs.Statements as statements
@@ -13,7 +12,6 @@ use Rattle.mich_ops.specs.declared.group.Content.{Content}
 use Rattle.mich_scenario.specs.View.{IsForm, IsNoSource, IsSource, contents_said, said}
 use Rattle.mich_scenario.specs.declared.error.FormError.{FormError}
 use Rattle.mich_scenario.specs.declared.error.FormError.TheVariants as error
-use Rattle.mich_scenario.specs.declared.statement.Statement.{Statement}
 use Rattle.mich_scenario.proofs.Fronts.{last_one}
 
 -- no source, so no group

@@ -84,13 +84,7 @@ fn originated(origin: Origin, script: Node, storage: Node) -> Content
 }
 
 // fee gas amount destination "entrypoint"
-fn order_of(
-    fee: &Node,
-    limit: &Node,
-    amount: &Node,
-    to: &Node,
-    entry: &Node,
-) -> Option<Order>
+fn order_of(fee: &Node, limit: &Node, amount: &Node, to: &Node, entry: &Node) -> Option<Order>
     ensures { (argument : Tree) → option_map (called argument) result ≡ content_by (codes "Call") (tree fee.now ∷ tree limit.now ∷ tree amount.now ∷ tree to.now ∷ tree entry.now ∷ argument ∷ []) }
 {
     let fee = number(fee, MOST_MUTEZ)?;

@@ -25,8 +25,8 @@ returns-in-Some c =
     ok_answer c.stopped.result _ (IsVerbAnswer Replaying c.args.file.now) c.stopped.ensures
     (reached-refused c.args.file.now c.statements.place c.statements.world c.statements.lines c.statements.invariant.reached (tree placed.node) placed.start placed.end c.in-Some.fault c.take.new.world c.take.new.lines node.0 taken)
 
-pub statements-preserved-in-None-3 : goal.statements-preserved-in-None-3
-statements-preserved-in-None-3 c =
+pub statements-preserved : goal.statements-preserved
+statements-preserved c =
     let placed = c.in-Statement.placed in
     let node = subst (IsNext c.args.file.now c.statements.place) c.in-Statement.is c.in_ok-placed.ensures in
     let taken = subst (λ (f : Option FileFault). IsTaken (step_by c.statements.world (form (tree placed.node))) c.statements.lines c.take.new.world c.take.new.lines (Ok f)) c.in-None.is c.in_ok-fault-in-Statement.ensures.taken in

@@ -1,0 +1,3 @@
+pub mod Aligned
+pub mod Exact
+pub mod Minted
