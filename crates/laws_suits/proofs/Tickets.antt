@@ -30,7 +30,7 @@ use Rattle.mich_frames.proofs.Fine.{stock_positive}
 
 -- ---- operations
 
-operation_positive : (id : Identity) (l : Lookup) (op : Operation) → IsSoundIssue l op → pos 0 ≤ℤ amount_among id (operation_tickets op)
+pub operation_positive : (id : Identity) (l : Lookup) (op : Operation) → IsSoundIssue l op → pos 0 ≤ℤ amount_among id (operation_tickets op)
 operation_positive id l (transfer argument amount destination) h = positive id (known l h.1) h.0 argument h.4
 operation_positive id l (origination delegate amount t storage hash) h = positive id (known l h.1) h.0.storage storage h.4
 operation_positive id l (event tag a x) h = positive id (known l h.0) a x h.2
@@ -47,12 +47,15 @@ issued_positive id l (i ∷ is) h =
 amount_positive : (n : ℤ) → is_ticket_amount n ≡ true → pos 0 <ℤ n
 amount_positive n h = let low : int_le (pos 1) n ≡ true = (and_parts (int_le (pos 1) n) (int_le n (pos (2 ^ 127 - 1))) h).0 in grind (arith, ints)
 
-all_positive : (ts : List Held) → All IsTicket ts → AllByRecursion IsPositive ts
+pub all_positive : (ts : List Held) → All IsTicket ts → AllByRecursion IsPositive ts
 all_positive [] h = tt
 all_positive (t ∷ ts) h = (amount_positive t.amount (All-head IsTicket t ts h).1, all_positive ts (All-tail IsTicket t ts h))
 
 held_within : (v s i b m v' : ℤ) → v' ≡ v → pos 0 ≤ℤ s → pos 0 ≤ℤ i → (v +ℤ s +ℤ i +ℤ b) ≤ℤ m → (b +ℤ v') ≤ℤ m
 held_within v s i b m v' e h g l = omega (arith, ints, e, h, g, l)
+
+all_within : (v s i b m v' : ℤ) → v' ≡ v → pos 0 ≤ℤ s → (v +ℤ s +ℤ i +ℤ b) ≤ℤ m → (b +ℤ i +ℤ v') ≤ℤ m
+all_within v s i b m v' e h l = omega (arith, ints, e, h, l)
 
 module _ {u : Around} {c : Context} {ps : List Pending} {A : List Kind} {V : List Val} {is : List Issued} {cs : List Change} (h : IsFine u c ps A V is cs) where
   pub tickets_positive : AllByRecursion IsPositive (flat_map tickets V)
@@ -63,6 +66,12 @@ module _ {u : Around} {c : Context} {ps : List Pending} {A : List Kind} {V : Lis
   tickets_within id =
       held_within (amount_on id V) (stock id ps) (amount_issued id is) (burnt_by u cs id) (minted_by u cs id) (ticket.amount_on id V) (on_same id V)
       (stock_positive id (known u.contract_at is) ps h.pending) (issued_positive id u.contract_at is h.well.0) (h.within id)
+
+  -- the same with those that issued operations have
+  pub tickets_handed : (id : Identity) → (burnt_by u cs id +ℤ amount_issued id is +ℤ amount_among id (flat_map tickets V)) ≤ℤ minted_by u cs id
+  tickets_handed id =
+      all_within (amount_on id V) (stock id ps) (amount_issued id is) (burnt_by u cs id) (minted_by u cs id) (ticket.amount_on id V) (on_same id V)
+      (stock_positive id (known u.contract_at is) ps h.pending) (h.within id)
 
   -- in books of what was minted and burnt
   pub tickets_ready : (b : Books) → ((id : Identity) → minted_of b id ≡ minted_by u cs id) → ((id : Identity) → burnt_of b id ≡ burnt_by u cs id) → IsReady b (flat_map tickets V)
