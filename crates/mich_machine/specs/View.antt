@@ -18,13 +18,14 @@ use Rattle.mich_machine.specs.declared.frame.Frame.{Frame}
 use Rattle.mich_machine.specs.declared.frame.Frame.TheVariants as f
 use Rattle.mich_machine.specs.declared.state.State.{State}
 
--- what a run sees that its own state doesn't hold: the sight of big maps, its environment, the contracts, what was minted before
--- it, and what was issued and changed in it
+-- what a run sees that its own state doesn't hold: the sight of big maps, its environment, the contracts, what was minted and burnt
+-- before it, and what was issued and changed in it
 pub record Beyond : Type 0 where
   pub sight : Sight
   pub environment : Environment
   pub contract_at : List ℕ → Option Contract
   pub minted : Identity → ℤ
+  pub burnt : Identity → ℤ
   pub issued : List Issued
   pub changes : List Change
 
@@ -51,6 +52,7 @@ around x costs m = record {
   prices = listed costs;
   contract_at = x.contract_at;
   minted = x.minted;
+  burnt = x.burnt;
 }
 
 abbrev pub tally : Beyond → State → Tally
