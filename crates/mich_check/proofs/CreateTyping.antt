@@ -108,10 +108,10 @@ module _ (at : ℕ) (c : Context) (name : List ℕ) (annots : List (List ℕ)) (
 
         fault_moves : (f : Found Script) (m : ℕ) → found_at at f ≡ fault m → shift at (of_script f o.storage o.rest) ≡ bad m
         fault_moves (found s) m e = absurd cc
-        fault_moves (fault l) m e = ap bad (same_place (at + l) m e)
+        fault_moves (fault l) m e = ap bad (same_place (at + l) m (found_at at (fault l)) (fault m) refl refl e)
           where
-            same_place : (k m : ℕ) → fault {A = Script} k ≡ fault m → k ≡ m
-            same_place k m e = cc
+            same_place : (k m : ℕ) (f g : Found Script) → f ≡ fault k → g ≡ fault m → f ≡ g → k ≡ m
+            same_place k m f g p q e = cc
 
         script_fault : (z : CheckError) → IsTypedAt (at + 1) (tree x) (Err z) → IsFault (shift at (of_script (found_at 1 (script (tree x))) o.storage o.rest)) z
         script_fault (error.IllTyped m) h =

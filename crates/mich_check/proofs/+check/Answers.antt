@@ -110,6 +110,11 @@ nodes::check_loop-returns-in_err-body t c =
     loop_body _ _ _ _ _ _ _ c.requires.form _ _ c.in-Some.ensures st _ c.in_err-body.ensures in
     search (rules, fault)
 
+pub nodes::check_loop-returns-then-not-ends_in : goal.nodes::check_loop-returns-then-not-ends_in
+nodes::check_loop-returns-then-not-ends_in t c =
+    let st = rw c.in-Some-2.is at c.in_ok-turning.ensures in
+    loop_other _ _ _ _ _ _ _ c.requires.form _ _ c.in-Some.ensures st _ c.in_ok-body.ensures.1 (sym c.if-not-ends_in.true ∙ c.ends_in.ensures)
+
 pub nodes::check_loop-returns : goal.nodes::check_loop-returns
 nodes::check_loop-returns t c =
     let st = rw c.in-Some-2.is at c.in_ok-turning.ensures in
@@ -255,7 +260,7 @@ scripts::check_create-returns-in_err-typed t c =
 pub scripts::check_create-returns-in_err-after : goal.scripts::check_create-returns-in_err-after
 scripts::check_create-returns-in_err-after t c =
     let v = sym c.is_view.ensures ∙ c.if-is_view.false in
-    let typed = shared_typed _ _ _ _ c.in_ok-script.ensures c.in_ok-typed.ensures in
+    let typed = shared_typed (c.args.at + 1) _ _ _ c.in_ok-script.ensures c.in_ok-typed.ensures in
     let storage = ap (λ (s : Script). kind (out-Script s).storage) c.get.ensures ∙ storage_kind c.in_ok-script.script in
     let fault : IsFault (shift c.args.at (tree_type (prim c.args.app.now.name c.args.app.now.annots (trees c.args.app.now.args)) (context c.args.place) (kinds c.args.types))) c.in_err-after.field-0.0 =
     storage_other c.args.at (context c.args.place) c.args.app.now.name c.args.app.now.annots c.args.app.now.args (kinds c.args.types) c.requires.form v _ c.in-Some.ensures _ c.in-Some-origination.ensures _ typed _ _ storage c.in_err-after.ensures in
@@ -264,7 +269,7 @@ scripts::check_create-returns-in_err-after t c =
 pub scripts::check_create-returns : goal.scripts::check_create-returns
 scripts::check_create-returns t c =
     let v = sym c.is_view.ensures ∙ c.if-is_view.false in
-    let typed = shared_typed _ _ _ _ c.in_ok-script.ensures c.in_ok-typed.ensures in
+    let typed = shared_typed (c.args.at + 1) _ _ _ c.in_ok-script.ensures c.in_ok-typed.ensures in
     let storage = ap (λ (s : Script). kind (out-Script s).storage) c.get.ensures ∙ storage_kind c.in_ok-script.script in
     created c.args.at (context c.args.place) c.args.app.now.name c.args.app.now.annots c.args.app.now.args (kinds c.args.types) c.requires.form v _ c.in-Some.ensures _ c.in-Some-origination.ensures _ typed _ c.in_ok-after.after _ storage c.in_ok-after.ensures (code_create c.in_ok-script.script)
 
