@@ -1,4 +1,5 @@
 use Rattle.std.proofs.Common.{◌≡◌, ◌≤◌, length, ap, ◌∙◌, arith}
+use Rattle.mich_frames.proofs.Ends.{rest_depth}
 use Rattle.mich_machine.proofs.Left.{ends_behind}
 use Rattle.mich_machine.proofs.machine.advance.Goals as goal
 
@@ -16,3 +17,6 @@ returns-in_ok-step-2-clause-stays c = λ x Z o h.
     let over = c.if-m-len.false in
     let le : length c.args.m.now.block ≤ c.args.m.now.at = omega (arith, n, over) in
     c.in_ok-step-2.ensures.stays x Z o (ends_behind x c.args.costs.now Z o c.args.m.now h le)
+
+pub overflow_sub-m : goal.overflow_sub-m
+overflow_sub-m c = let some = rest_depth c.requires.3 in omega (arith, some)
