@@ -3,7 +3,7 @@ use crate::{CheckError, check_body, check_literal, check_script, nodes};
 use mich_base::{Node, Rows, Ty, size_within};
 use mich_control::Place;
 use mich_data::Pending;
-use mich_instr::erase;
+use mich_instr::{Block, erase};
 use mich_text::read_statement;
 use mich_types::{read_parameter, read_type};
 use std::alloc::Global;
@@ -403,23 +403,28 @@ fn scripts_are_checked_with_those_that_they_create(rt: HostRuntime) -> Result<()
     Ok(())
 }
 
-// Whether the typed code of a body is erased to this text.
-fn is_erased(alloc: Global, arg: &str, ret: &str, body: &str, plain: &str) -> Result<bool, Fail> {
+// The typed code of a body from one type to another.
+fn typed_body(alloc: Global, arg: &str, ret: &str, body: &Node) -> Result<Block, Fail> {
     let arg = ty(alloc, arg)?;
     let ret = ty(alloc, ret)?;
-    let body = node(alloc, body)?;
-    let plain = node(alloc, plain)?;
-    match &body {
+    match body {
         Node::Seq(_) => {
-            if !size_within(&body, 10_000) {
-                return Err(Fail::from("too large"));
+            if size_within(body, 10_000) {
+                Ok(check_body(alloc, &arg, &ret, false, body)?)
+            } else {
+                Err(Fail::from("too large"))
             }
-            let code = check_body(alloc, &arg, &ret, false, &body)?;
-            let erased = erase(alloc, code.get())?;
-            Ok(erased == plain)
         }
         _ => Err(Fail::from("no sequence")),
     }
+}
+
+// Whether the typed code of a body is erased to this text.
+fn is_erased(alloc: Global, arg: &str, ret: &str, body: &str, plain: &str) -> Result<bool, Fail> {
+    let body = node(alloc, body)?;
+    let code = typed_body(alloc, arg, ret, &body)?;
+    let erased = erase(alloc, code.get())?;
+    Ok(erased == node(alloc, plain)?)
 }
 
 // The first body without fault that isn't erased to itself.
