@@ -2,6 +2,7 @@
 #![tactic(auto)]
 
 mod act;
+mod bodies;
 mod branches;
 mod calls;
 mod dipping;
@@ -13,10 +14,13 @@ mod loops;
 mod machine;
 mod paying;
 mod run;
+mod running;
 mod stack;
 mod state;
 
 pub use act::Failed;
+pub use bodies::Bodies;
 pub use machine::Ended;
 pub use run::run_code;
+pub use running::{Finished, RunError, run};
 pub use state::{Counts, State};
