@@ -9,3 +9,9 @@ pub mod Left
 pub mod Stepped
 pub mod Leaving
 pub mod Starting
+pub mod Keeping
+pub mod Capped
+pub mod Ruled
+pub mod Told
+pub mod Suited
+pub mod Straightened

@@ -11,6 +11,7 @@ use Rattle.rules_evaluation.specs.Operations.{Tally}
 use Rattle.rules_evaluation.specs.Outcome.{Outcome, failed}
 use Rattle.mich_gas.specs.declared.costs.Costs.{Costs}
 use Rattle.mich_base.specs.TypeView.{kind}
+use Rattle.mich_undo.specs.History.{Keeps as KeepsBooks}
 use Rattle.mich_stack.specs.Views.{Sight, seen}
 use Rattle.mich_instr.specs.Code.{Code}
 use Rattle.mich_instr.specs.View.{codes}
@@ -61,6 +62,11 @@ abbrev pub Turns : Act → ℕ → ℕ → Type 0
 Turns (a.Failed why) old new = Unit {0}
 Turns a.On old new = new ≡ old
 Turns _ old new = new < old
+
+-- what was written to the books can be taken back, and the group has its number still
+pub record KeepsState (old new : State) : Type 0 where
+  pub books : KeepsBooks old.ledger.books new.ledger.books
+  pub group : new.counts.group ≡ old.counts.group
 
 -- this instruction comes first, and these frames are below it
 abbrev pub Meets : Code → Beyond → Costs → State → List fr.Frame → ℕ → List Kind → Outcome → Type 0

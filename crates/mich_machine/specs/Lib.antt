@@ -1,4 +1,5 @@
 pub mod Items
+pub mod Issues
 pub mod Parts
 pub mod View
 pub mod Ends

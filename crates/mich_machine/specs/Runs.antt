@@ -14,6 +14,7 @@ use Rattle.mich_machine.specs.declared.act.Act.{Act}
 use Rattle.mich_machine.specs.declared.frame.Frame.{Frame}
 use Rattle.mich_machine.specs.declared.frame.Frame.TheVariants as f
 use Rattle.mich_machine.specs.declared.machine.Machine.{Machine}
+use Rattle.mich_machine.specs.declared.state.State.{State}
 use Rattle.mich_machine.specs.declared.machine.Step.{Step}
 use Rattle.mich_machine.specs.declared.machine.Step.TheVariants as s
 use Rattle.mich_machine.specs.declared.machine.Ended.{Ended}
@@ -114,7 +115,12 @@ SomeEnd costs m = (x : Beyond) × (Z : List Kind) × (o : Outcome) × Behind x c
 -- how the whole ends
 abbrev pub IsEnd : Ended → Beyond → List Kind → Outcome → Type 0
 IsEnd (e.Stack m) x Z o = o ≡ stack Z (tops x.sight m.stack) (tally x m)
-IsEnd (e.Failed why) x Z o = o ≡ failed (failure x.sight why)
+IsEnd (e.Failed m why) x Z o = o ≡ failed (failure x.sight why)
+
+-- the state at the end
+abbrev pub state_of : Ended → State
+state_of (e.Stack m) = m
+state_of (e.Failed m why) = m
 
 -- the frame isn't the rest of a block
 abbrev pub IsNoBlock : Frame → Type 0

@@ -1,5 +1,5 @@
 // Branches.
-ghost use Rattle.std.specs.Prelude.{IfOk};
+ghost use Rattle.std.specs.Prelude.{◌≡◌, IfOk};
 ghost use Rattle.mich_instr.specs.Code as made;
 ghost use Rattle.mich_instr.specs.View.{codes};
 ghost use Rattle.mich_machine.specs.Ends.{Comes, Carries, Spends};
@@ -21,6 +21,8 @@ pub(crate) fn act_if(
     requires { Comes (made.if_bool (codes first.now) (codes second.now)) costs.now m.old }
     ensures acts { Carries (made.if_bool (codes first.now) (codes second.now)) costs.now m.old m.new result }
     ensures less { IfOk result (λ a. Spends a m.old.meter m.new.meter) }
+    ensures ledger { m.new.ledger ≡ m.old.ledger }
+    ensures counts { m.new.counts ≡ m.old.counts }
 {
     if !pay(&mut m.meter, costs, Kind::If, 0) {
         return Ok(Act::Failed(Failed::OutOfGas));
@@ -43,6 +45,8 @@ pub(crate) fn act_if_none(
     requires { Comes (made.if_none (codes first.now) (codes second.now)) costs.now m.old }
     ensures acts { Carries (made.if_none (codes first.now) (codes second.now)) costs.now m.old m.new result }
     ensures less { IfOk result (λ a. Spends a m.old.meter m.new.meter) }
+    ensures ledger { m.new.ledger ≡ m.old.ledger }
+    ensures counts { m.new.counts ≡ m.old.counts }
 {
     if !pay(&mut m.meter, costs, Kind::IfNone, 0) {
         return Ok(Act::Failed(Failed::OutOfGas));
@@ -67,6 +71,8 @@ pub(crate) fn act_if_left(
     requires { Comes (made.if_left (codes first.now) (codes second.now)) costs.now m.old }
     ensures acts { Carries (made.if_left (codes first.now) (codes second.now)) costs.now m.old m.new result }
     ensures less { IfOk result (λ a. Spends a m.old.meter m.new.meter) }
+    ensures ledger { m.new.ledger ≡ m.old.ledger }
+    ensures counts { m.new.counts ≡ m.old.counts }
 {
     if !pay(&mut m.meter, costs, Kind::IfLeft, 0) {
         return Ok(Act::Failed(Failed::OutOfGas));
@@ -91,6 +97,8 @@ pub(crate) fn act_if_cons(
     requires { Comes (made.if_cons (codes first.now) (codes second.now)) costs.now m.old }
     ensures acts { Carries (made.if_cons (codes first.now) (codes second.now)) costs.now m.old m.new result }
     ensures less { IfOk result (λ a. Spends a m.old.meter m.new.meter) }
+    ensures ledger { m.new.ledger ≡ m.old.ledger }
+    ensures counts { m.new.counts ≡ m.old.counts }
 {
     if !pay(&mut m.meter, costs, Kind::IfCons, 0) {
         return Ok(Act::Failed(Failed::OutOfGas));

@@ -1,5 +1,5 @@
 // Calls of lambdas, and FAILWITH.
-ghost use Rattle.std.specs.Prelude.{IfOk};
+ghost use Rattle.std.specs.Prelude.{◌≡◌, IfOk};
 ghost use Rattle.mich_base.specs.TypeView.{kind};
 ghost use Rattle.mich_instr.specs.Code as made;
 ghost use Rattle.mich_machine.specs.Ends.{Comes, Carries, Spends};
@@ -21,6 +21,8 @@ pub(crate) fn act_failwith(
     requires { Comes (made.failwith (kind ty.now)) costs.now m.old }
     ensures acts { Carries (made.failwith (kind ty.now)) costs.now m.old m.new result }
     ensures less { IfOk result (λ a. Spends a m.old.meter m.new.meter) }
+    ensures ledger { m.new.ledger ≡ m.old.ledger }
+    ensures counts { m.new.counts ≡ m.old.counts }
 {
     if !pay(&mut m.meter, costs, Kind::Failwith, 0) {
         return Ok(Act::Failed(Failed::OutOfGas));
@@ -35,6 +37,8 @@ pub(crate) fn act_never(m: &mut State, costs: &Costs) -> Result<Act, Memory>
     requires { Comes made.never costs.now m.old }
     ensures acts { Carries made.never costs.now m.old m.new result }
     ensures less { IfOk result (λ a. Spends a m.old.meter m.new.meter) }
+    ensures ledger { m.new.ledger ≡ m.old.ledger }
+    ensures counts { m.new.counts ≡ m.old.counts }
 {
     unreachable!()
 }

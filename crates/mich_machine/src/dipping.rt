@@ -40,6 +40,8 @@ pub(crate) fn act_dip(
     requires { (written : Trees) × Comes (made.dip count written (codes body.now)) costs.now m.old }
     ensures acts { (written : Trees) → Carries (made.dip count written (codes body.now)) costs.now m.old m.new result }
     ensures less { IfOk result (λ a. Spends a m.old.meter m.new.meter) }
+    ensures ledger { m.new.ledger ≡ m.old.ledger }
+    ensures counts { m.new.counts ≡ m.old.counts }
 {
     if !pay(&mut m.meter, costs, Kind::Dip, 0) {
         return Ok(Act::Failed(Failed::OutOfGas));

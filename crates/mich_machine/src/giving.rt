@@ -35,6 +35,8 @@ pub(crate) fn act_lambda(
     requires { (a : TypeKind) × (r : TypeKind) × (written : Trees) × (is : Codes) × Comes (made.lambda recursive a r written (tree body.now) is) costs.now m.old }
     ensures acts { (a r : TypeKind) (written : Trees) (is : Codes) → Carries (made.lambda recursive a r written (tree body.now) is) costs.now m.old m.new result }
     ensures less { IfOk result (λ a. Spends a m.old.meter m.new.meter) }
+    ensures ledger { m.new.ledger ≡ m.old.ledger }
+    ensures counts { m.new.counts ≡ m.old.counts }
 {
     let kind = lambda_kind(recursive);
     if !pay(&mut m.meter, costs, kind, 0) {

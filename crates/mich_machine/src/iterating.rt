@@ -1,5 +1,5 @@
 // ITER.
-ghost use Rattle.std.specs.Prelude.{IfOk};
+ghost use Rattle.std.specs.Prelude.{◌≡◌, IfOk};
 ghost use Rattle.mich_instr.specs.Code as made;
 ghost use Rattle.mich_instr.specs.View.{codes};
 ghost use Rattle.mich_machine.specs.Ends.{Comes, Carries, Waits, Resumes, Spends, Turns};
@@ -26,6 +26,8 @@ pub(crate) fn next_each(
     requires { Waits (Frame.Each body items) costs.now m.old }
     ensures acts { Resumes (Frame.Each body items) costs.now m.old m.new result }
     ensures gas { IfOk result (λ a. Turns a m.old.meter m.new.meter) }
+    ensures ledger { m.new.ledger ≡ m.old.ledger }
+    ensures counts { m.new.counts ≡ m.old.counts }
 {
     if is_done(&items) {
         return Ok(Act::On);
@@ -49,6 +51,8 @@ pub(crate) fn act_iter(
     requires { Comes (made.iter (codes body.now)) costs.now m.old }
     ensures acts { Carries (made.iter (codes body.now)) costs.now m.old m.new result }
     ensures less { IfOk result (λ a. Spends a m.old.meter m.new.meter) }
+    ensures ledger { m.new.ledger ≡ m.old.ledger }
+    ensures counts { m.new.counts ≡ m.old.counts }
 {
     if !pay(&mut m.meter, costs, Kind::Iter, 0) {
         return Ok(Act::Failed(Failed::OutOfGas));

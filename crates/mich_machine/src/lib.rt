@@ -3,6 +3,7 @@
 
 mod act;
 mod bodies;
+mod beginning;
 mod branches;
 mod calls;
 mod dipping;
@@ -13,14 +14,14 @@ mod iterating;
 mod loops;
 mod machine;
 mod paying;
-mod run;
 mod running;
 mod stack;
+mod straights;
 mod state;
 
 pub use act::Failed;
+pub use beginning::run_code;
 pub use bodies::Bodies;
 pub use machine::Ended;
-pub use run::run_code;
 pub use running::{Finished, RunError, run};
 pub use state::{Counts, State};

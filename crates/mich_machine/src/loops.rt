@@ -1,5 +1,5 @@
 // LOOP and LOOP_LEFT.
-ghost use Rattle.std.specs.Prelude.{IfOk};
+ghost use Rattle.std.specs.Prelude.{◌≡◌, IfOk};
 ghost use Rattle.mich_instr.specs.Code as made;
 ghost use Rattle.mich_instr.specs.View.{codes};
 ghost use Rattle.mich_machine.specs.Ends.{Comes, Carries, Waits, Resumes, Spends, Turns};
@@ -18,6 +18,8 @@ pub(crate) fn next_turn(m: &mut State, costs: &Costs, body: Block) -> Result<Act
     requires { Waits (Frame.Turns body) costs.now m.old }
     ensures acts { Resumes (Frame.Turns body) costs.now m.old m.new result }
     ensures gas { IfOk result (λ a. Turns a m.old.meter m.new.meter) }
+    ensures ledger { m.new.ledger ≡ m.old.ledger }
+    ensures counts { m.new.counts ≡ m.old.counts }
 {
     if !pop_truth(&mut m.stack) {
         return Ok(Act::On);
@@ -33,6 +35,8 @@ pub(crate) fn act_loop(m: &mut State, costs: &Costs, body: &Block) -> Result<Act
     requires { Comes (made.loop (codes body.now)) costs.now m.old }
     ensures acts { Carries (made.loop (codes body.now)) costs.now m.old m.new result }
     ensures less { IfOk result (λ a. Spends a m.old.meter m.new.meter) }
+    ensures ledger { m.new.ledger ≡ m.old.ledger }
+    ensures counts { m.new.counts ≡ m.old.counts }
 {
     if !pay(&mut m.meter, costs, Kind::Loop, 0) {
         return Ok(Act::Failed(Failed::OutOfGas));
@@ -47,6 +51,8 @@ pub(crate) fn next_left_turn(m: &mut State, costs: &Costs, body: Block) -> Resul
     requires { Waits (Frame.LeftTurns body) costs.now m.old }
     ensures acts { Resumes (Frame.LeftTurns body) costs.now m.old m.new result }
     ensures gas { IfOk result (λ a. Turns a m.old.meter m.new.meter) }
+    ensures ledger { m.new.ledger ≡ m.old.ledger }
+    ensures counts { m.new.counts ≡ m.old.counts }
 {
     if !is_left(&m.stack) {
         open_union(&mut m.stack)?;
@@ -64,6 +70,8 @@ pub(crate) fn act_loop_left(m: &mut State, costs: &Costs, body: &Block) -> Resul
     requires { Comes (made.loop_left (codes body.now)) costs.now m.old }
     ensures acts { Carries (made.loop_left (codes body.now)) costs.now m.old m.new result }
     ensures less { IfOk result (λ a. Spends a m.old.meter m.new.meter) }
+    ensures ledger { m.new.ledger ≡ m.old.ledger }
+    ensures counts { m.new.counts ≡ m.old.counts }
 {
     if !pay(&mut m.meter, costs, Kind::LoopLeft, 0) {
         return Ok(Act::Failed(Failed::OutOfGas));

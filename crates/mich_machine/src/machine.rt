@@ -5,8 +5,8 @@ ghost use Rattle.rules_evaluation.specs.Outcome.{Outcome};
 ghost use Rattle.mich_gas.specs.declared.costs.Costs.{Costs as Prices};
 ghost use Rattle.mich_instr.specs.View.{code};
 ghost use Rattle.mich_machine.specs.View.{Beyond};
-ghost use Rattle.mich_machine.specs.Ends.{Comes, Carries, Waits, Resumes, Spends, Turns};
-ghost use Rattle.mich_machine.specs.Runs.{InBlock, Behind, HasActedIn, IsStep, IsBegun, IsSpent, IsPaidStep, IsSettled, HasLeft, with_below, with_rest, SomeRun, SomeEnd, IsEnd, IsNoBlock, IsNoSequence};
+ghost use Rattle.mich_machine.specs.Ends.{Comes, Carries, Waits, Resumes, Spends, Turns, KeepsState};
+ghost use Rattle.mich_machine.specs.Runs.{InBlock, Behind, HasActedIn, IsStep, IsBegun, IsSpent, IsPaidStep, IsSettled, HasLeft, with_below, with_rest, SomeRun, SomeEnd, IsEnd, state_of, IsNoBlock, IsNoSequence};
 
 use crate::act::{Act, Failed};
 use crate::branches::{act_if, act_if_cons, act_if_left, act_if_none};
@@ -47,19 +47,21 @@ pub(crate) enum Step {
     Failed(Failed),
 }
 
-/// How a run ends: its last state, or why it failed.
+/// How a run ends: with its last state, and where it failed with the reason.
 #[derive(Debug, Drop)]
 pub enum Ended {
     Stack(State),
-    Failed(Failed),
+    Failed(State, Failed),
 }
 
 // An instruction, which isn't a sequence.
+#[tactic(auto, using(crate::proofs::Keeping::same_keeps, crate::proofs::Keeping::keeps_state, crate::proofs::Keeping::keeps_on))]
 fn perform(alloc: Global, m: &mut State, costs: &Costs, instr: &Instr) -> Result<Act, Memory>
     requires charged { IsNoSequence instr.now }
     requires comes { Comes (code instr.now) costs.now m.old }
     ensures acts { Carries (code instr.now) costs.now m.old m.new result }
     ensures less { IfOk result (λ a. Spends a m.old.meter m.new.meter) }
+    ensures keeps { IfOk result (λ _. KeepsState m.old m.new) }
 {
     match instr {
         Instr::If(first, second) => Ok(act_if(m, costs, first, second)?),
@@ -83,11 +85,13 @@ fn perform(alloc: Global, m: &mut State, costs: &Costs, instr: &Instr) -> Result
 }
 
 // A frame that isn't the rest of a block, taken off.
+#[tactic(auto, using(crate::proofs::Keeping::same_keeps, crate::proofs::Keeping::keeps_state, crate::proofs::Keeping::keeps_on))]
 fn unwind(alloc: Global, m: &mut State, costs: &Costs, frame: Frame) -> Result<Act, Memory>
     requires no_block { IsNoBlock frame }
     requires waits { Waits frame costs.now m.old }
     ensures acts { Resumes frame costs.now m.old m.new result }
     ensures gas { IfOk result (λ a. Turns a m.old.meter m.new.meter) }
+    ensures keeps { IfOk result (λ _. KeepsState m.old m.new) }
 {
     match frame {
         Frame::Turns(body) => Ok(next_turn(m, costs, body)?),
@@ -145,6 +149,7 @@ fn begin_inside(m: &mut Machine, below: Option<Frame>, body: Block) -> Result<bo
 fn follow(m: &mut Machine, act: Act) -> Result<Step, Memory>
     ensures stays { (x : Beyond) (costs : Prices) (Z : List Kind) (o : Outcome) → HasActedIn act x costs m.old Z o → IfOk result (λ s. IsStep s x costs m.new Z o) }
     ensures spent { (n : ℕ) → Spends act n m.old.state.meter → IfOk result (λ s. IsPaidStep s n m.new.state.meter) }
+    ensures state { m.new.state ≡ m.old.state }
 {
     match act {
         Act::On => Ok(Step::Paid),
@@ -161,10 +166,12 @@ fn follow(m: &mut Machine, act: Act) -> Result<Step, Memory>
 }
 
 // Behind its block: frames are taken off until a block goes on or opens.
+#[tactic(auto, using(crate::proofs::Keeping::same_keeps, crate::proofs::Keeping::keeps_state, crate::proofs::Keeping::keeps_on))]
 fn leave(alloc: Global, m: &mut Machine, costs: &Costs) -> Result<Step, Memory>
     requires { SomeEnd costs.now m.old }
     ensures stays { (x : Beyond) (Z : List Kind) (o : Outcome) → Behind x costs.now m.old Z o → IfOk result (λ s. IsStep s x costs.now m.new Z o) }
     ensures spent { IfOk result (λ s. HasLeft s m.old m.new) }
+    ensures keeps { IfOk result (λ _. KeepsState m.old.state m.new.state) }
 {
     'frames: loop {
         match m.frames.pop() {
@@ -191,12 +198,14 @@ fn leave(alloc: Global, m: &mut Machine, costs: &Costs) -> Result<Step, Memory>
 }
 
 // The next instruction of the block, at a place within it.
+#[tactic(auto, using(crate::proofs::Keeping::same_keeps, crate::proofs::Keeping::keeps_state, crate::proofs::Keeping::keeps_on))]
 fn advance_inside(alloc: Global, m: &mut Machine, costs: &Costs) -> Result<Step, Memory>
     requires within { m.old.at < length m.old.block }
     requires fits { m.old.at + 1 < 2 ^ 64 }
     requires stands { SomeRun costs.now m.old }
     ensures stays { (x : Beyond) (Z : List Kind) (o : Outcome) → InBlock x costs.now m.old Z o → IfOk result (λ s. IsStep s x costs.now m.new Z o) }
     ensures spent { IfOk result (λ s. IsSpent s m.old m.new) }
+    ensures keeps { IfOk result (λ _. KeepsState m.old.state m.new.state) }
 {
     let instr = m.block.get().at(m.at);
     if let Instr::Seq(inner) = instr {
@@ -217,10 +226,12 @@ fn advance_inside(alloc: Global, m: &mut Machine, costs: &Costs) -> Result<Step,
 }
 
 // The next step.
+#[tactic(auto, using(crate::proofs::Keeping::same_keeps, crate::proofs::Keeping::keeps_state, crate::proofs::Keeping::keeps_on))]
 fn advance(alloc: Global, m: &mut Machine, costs: &Costs) -> Result<Step, Memory>
     requires { SomeRun costs.now m.old }
     ensures stays { (x : Beyond) (Z : List Kind) (o : Outcome) → InBlock x costs.now m.old Z o → IfOk result (λ s. IsStep s x costs.now m.new Z o) }
     ensures spent { IfOk result (λ s. IsSpent s m.old m.new) }
+    ensures keeps { IfOk result (λ _. KeepsState m.old.state m.new.state) }
 {
     if m.at < m.block.get().len() {
         let step = advance_inside(alloc, m, costs)?;
@@ -233,10 +244,12 @@ fn advance(alloc: Global, m: &mut Machine, costs: &Costs) -> Result<Step, Memory
 }
 
 // Steps up to one that was paid for, or an end.
+#[tactic(auto, using(crate::proofs::Keeping::same_keeps, crate::proofs::Keeping::keeps_state, crate::proofs::Keeping::keeps_on))]
 fn settle(alloc: Global, m: &mut Machine, costs: &Costs) -> Result<Step, Memory>
     requires { SomeRun costs.now m.old }
     ensures stays { (x : Beyond) (Z : List Kind) (o : Outcome) → InBlock x costs.now m.old Z o → IfOk result (λ s. IsStep s x costs.now m.new Z o) }
     ensures less { IfOk result (λ s. IsSettled s m.old m.new) }
+    ensures keeps { IfOk result (λ _. KeepsState m.old.state m.new.state) }
 {
     'free: loop {
         match advance(alloc, m, costs)? {
@@ -247,9 +260,11 @@ fn settle(alloc: Global, m: &mut Machine, costs: &Costs) -> Result<Step, Memory>
 }
 
 // Runs to the end.
+#[tactic(auto, using(crate::proofs::Keeping::same_keeps, crate::proofs::Keeping::keeps_state, crate::proofs::Keeping::keeps_on))]
 pub(crate) fn work(alloc: Global, m: Machine, costs: &Costs) -> Result<Ended, Memory>
     requires { SomeRun costs.now m }
-    ensures { (x : Beyond) (Z : List Kind) (o : Outcome) → InBlock x costs.now m Z o → IfOk result (λ e. IsEnd e x Z o) }
+    ensures ends { (x : Beyond) (Z : List Kind) (o : Outcome) → InBlock x costs.now m Z o → IfOk result (λ e. IsEnd e x Z o) }
+    ensures keeps { IfOk result (λ e. KeepsState m.state (state_of e)) }
 {
     let mut m = m;
     'paid: loop {
@@ -257,7 +272,7 @@ pub(crate) fn work(alloc: Global, m: Machine, costs: &Costs) -> Result<Ended, Me
             Step::Free => unreachable!(),
             Step::Paid => {}
             Step::Done => return Ok(Ended::Stack(m.state)),
-            Step::Failed(why) => return Ok(Ended::Failed(why)),
+            Step::Failed(why) => return Ok(Ended::Failed(m.state, why)),
         }
     }
 }

@@ -1,6 +1,8 @@
 // Charges.
-ghost use Rattle.std.specs.Prelude.{◌≡◌, ◌≤◌, ◌<◌};
+ghost use Rattle.std.specs.Prelude.{◌≡◌, ◌≤◌, ◌<◌, ℕ};
+ghost use Rattle.laws_evaluation.specs.Laws.{IsCharged};
 ghost use Rattle.mich_gas.specs.View.{listed};
+ghost use Rattle.mich_term.specs.Weights.{capped};
 ghost use Rattle.mich_machine.specs.Ends.{IsPaid};
 
 use mich_gas::{Costs, Kind, Meter};
@@ -10,4 +12,13 @@ pub(crate) fn pay(meter: &mut Meter, costs: &Costs, kind: Kind, weight: u64) -> 
     ensures { IsPaid result (listed costs.now) kind weight meter.old meter.new }
 {
     meter.charge(costs, kind, weight).is_ok()
+}
+
+#[tactic(auto, using(crate::proofs::Capped::capped_paid))]
+// The same at a weight that is known up to 2^64-1, which is more than any gas.
+pub(crate) fn pay_capped(meter: &mut Meter, costs: &Costs, kind: Kind, weight: u64) -> bool
+    ensures { (w : ℕ) → weight ≡ capped w → IsCharged (listed costs.now) → IsPaid result (listed costs.now) kind w meter.old meter.new }
+{
+    let left = meter.left();
+    left > 0 && pay(meter, costs, kind, weight)
 }

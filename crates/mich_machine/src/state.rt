@@ -1,7 +1,10 @@
 // A run on its way.
 use mich_base::Rows;
 use mich_gas::Meter;
+use mich_instr::Issued;
+use mich_step::Env;
 use mich_term::Value;
+use mich_tickets::Ledger;
 
 /// What is counted in a group: the operations issued, the originations, and the group's own number.
 #[derive(Debug, Drop)]
@@ -22,4 +25,10 @@ pub struct State {
     /// The gas that is left.
     pub meter: Meter,
     pub counts: Counts,
+    /// Where and for whom the code runs.
+    pub env: Env,
+    /// The ledger of tickets. It lists the changes of the run.
+    pub ledger: Ledger,
+    /// The operations that the run issued, in order.
+    pub issued: Rows<Issued>,
 }

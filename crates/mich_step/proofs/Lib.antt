@@ -7,4 +7,3 @@ pub mod Rules
 pub mod Showing
 pub mod Splitting
 pub mod Suiting
-pub mod Taken

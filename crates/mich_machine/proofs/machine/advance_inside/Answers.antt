@@ -10,6 +10,7 @@ use Rattle.mich_machine.specs.declared.act.Act.TheVariants as a
 use Rattle.mich_machine.specs.declared.machine.Machine.{Machine}
 use Rattle.mich_machine.proofs.Begun.{opens_inside, deep_inside}
 use Rattle.mich_machine.proofs.Codes.{code_seq}
+use Rattle.mich_machine.proofs.Keeping.{keeps_to}
 use Rattle.mich_machine.proofs.Left.{meets_at}
 use Rattle.mich_machine.proofs.Listed.{code_at}
 use Rattle.mich_machine.proofs.Stepped.{seq_smaller, paid_spent}
@@ -67,4 +68,5 @@ returns-in_ok-step c =
           (c.in_ok-act.ensures.acts x (fr.rest (codes (drop (c.args.m.now.at + 1) c.args.m.now.block)) ∷ frames x.sight c.args.m.now.frames) c.args.m.now.depth Z o
           (meets_at x c.args.costs.now Z o c.args.m.now h c.at-instr.result.now c.requires.within e));
       spent = paid_spent c.in_ok-step.step c.args.m.now c.follow.new.m (c.in_ok-step.ensures.spent c.args.m.now.state.meter c.in_ok-act.ensures.less);
+      keeps = keeps_to _ _ _ c.in_ok-act.ensures.keeps c.follow.ensures.state;
     }

@@ -3,6 +3,7 @@ use Rattle.mich_frames.specs.Sizes.{frames_size}
 use Rattle.mich_machine.specs.View.{frames}
 use Rattle.mich_machine.specs.declared.frame.Frame.TheVariants as f
 use Rattle.mich_machine.proofs.Begun.{begun_in, begun_deep}
+use Rattle.mich_machine.proofs.Keeping.{keeps_on, keeps_to}
 use Rattle.mich_machine.proofs.Leaving.{on_top, at_end}
 use Rattle.mich_machine.proofs.Stepped.{popped_smaller}
 use Rattle.mich_machine.proofs.machine.leave.Goals as goal
@@ -30,6 +31,7 @@ frames-preserved c =
       keeps = λ x Z o h. rw c.in-On.is at act x (frames x.sight c.pop.new.self) c.frames.m.depth Z o (on_top x c.args.costs.now Z o c.frames.m c.pop.new.self c.in-Some.frame e (c.frames.invariant.keeps x Z o h));
       gas = (rw c.in-On.is at c.in_ok-unwind-in-Some.ensures.gas) ∙ c.frames.invariant.gas;
       size = omega (arith, less, size);
+      state = keeps_on _ _ _ c.frames.invariant.state c.in_ok-unwind-in-Some.ensures.keeps;
     }
 
 pub returns-in-Failed : goal.returns-in-Failed
@@ -39,6 +41,7 @@ returns-in-Failed c =
     record {
       stays = λ x Z o h. rw c.in-Failed.is at act x (frames x.sight c.pop.new.self) c.frames.m.depth Z o (on_top x c.args.costs.now Z o c.frames.m c.pop.new.self c.in-Some.frame e (c.frames.invariant.keeps x Z o h));
       spent = tt;
+      keeps = keeps_on _ _ _ c.frames.invariant.state c.in_ok-unwind-in-Some.ensures.keeps;
     }
 
 pub returns-then-begun : goal.returns-then-begun
@@ -53,6 +56,7 @@ returns-then-begun c =
       stays = λ x Z o h. begun_in x c.args.costs.now Z o _ _ _ _ _ c.unwind.new.m begun c.begin.ensures.state
           (rw c.in-Open.is at act x (frames x.sight c.pop.new.self) c.frames.m.depth Z o (on_top x c.args.costs.now Z o c.frames.m c.pop.new.self c.in-Some.frame e (c.frames.invariant.keeps x Z o h)));
       spent = omega (arith, same, less, gas);
+      keeps = keeps_to _ _ _ (keeps_on _ _ _ c.frames.invariant.state c.in_ok-unwind-in-Some.ensures.keeps) c.begin.ensures.state;
     }
 
 pub returns-else-begun : goal.returns-else-begun
@@ -64,4 +68,5 @@ returns-else-begun c =
       stays = λ x Z o h. begun_deep x c.args.costs.now Z o c.in-Open.below c.in-Open.body c.pop.new.self c.unwind.new.m _ begun
           (rw c.in-Open.is at act x (frames x.sight c.pop.new.self) c.frames.m.depth Z o (on_top x c.args.costs.now Z o c.frames.m c.pop.new.self c.in-Some.frame e (c.frames.invariant.keeps x Z o h)));
       spent = tt;
+      keeps = keeps_to _ _ _ (keeps_on _ _ _ c.frames.invariant.state c.in_ok-unwind-in-Some.ensures.keeps) c.begin.ensures.state;
     }

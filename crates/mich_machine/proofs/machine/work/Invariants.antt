@@ -2,6 +2,7 @@ use Rattle.std.proofs.Common.{List}
 use Rattle.rules_types.specs.Kind.{Kind}
 use Rattle.rules_evaluation.specs.Outcome.{Outcome}
 use Rattle.mich_machine.specs.View.{Beyond}
+use Rattle.mich_machine.specs.Ends.{KeepsState}
 use Rattle.mich_machine.specs.Runs.{InBlock, SomeRun}
 use Rattle.mich_machine.proofs.machine.work.Given as goal
 
@@ -9,6 +10,7 @@ abbrev pub invariant-paid : goal.invariant-paid
 invariant-paid l = record {
   some : SomeRun l.costs l.m;
   keeps : (x : Beyond) (Z : List Kind) (o : Outcome) → InBlock x l.costs l.fn.m Z o → InBlock x l.costs l.m Z o;
+  state : KeepsState l.fn.m.state l.m.state;
 }
 
 abbrev pub decreases-paid : goal.decreases-paid

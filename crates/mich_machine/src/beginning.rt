@@ -5,7 +5,8 @@ ghost use Rattle.rules_types.specs.Kind.{Kind};
 ghost use Rattle.rules_instructions.specs.Context.{Context};
 ghost use Rattle.mich_machine.specs.View.{Beyond};
 ghost use Rattle.mich_machine.specs.Begins.{Begins, outcome_of};
-ghost use Rattle.mich_machine.specs.Runs.{IsEnd};
+ghost use Rattle.mich_machine.specs.Runs.{IsEnd, state_of};
+ghost use Rattle.mich_machine.specs.Ends.{KeepsState};
 
 use crate::machine::{Ended, Machine, work};
 use crate::state::State;
@@ -19,7 +20,8 @@ use std::alloc::Global;
 /// so far, at instructions that aren't built (Michelson reference, "Semantics").
 pub fn run_code(alloc: Global, code: Block, state: State, costs: &Costs) -> Result<Ended, Memory>
     requires { (x : Beyond) × (c : Context) × (ts : Trees) × (A : List Kind) × (Z : List Kind) × Begins x costs.now code state c ts A Z }
-    ensures { (x : Beyond) (c : Context) (ts : Trees) (A : List Kind) (Z : List Kind) → Begins x costs.now code state c ts A Z → IfOk result (λ e. IsEnd e x Z (outcome_of x costs.now state c ts A)) }
+    ensures ends { (x : Beyond) (c : Context) (ts : Trees) (A : List Kind) (Z : List Kind) → Begins x costs.now code state c ts A Z → IfOk result (λ e. IsEnd e x Z (outcome_of x costs.now state c ts A)) }
+    ensures keeps { IfOk result (λ e. KeepsState state (state_of e)) }
 {
     let m = Machine {
         state,

@@ -1,0 +1,78 @@
+// What instructions without bodies weigh on a stack.
+ghost use Rattle.std.specs.Prelude.{◌≡◌, List, take, slice_get, option_map, IfOk};
+ghost use Rattle.std.specs.List.{sum_by};
+ghost use Rattle.rules_values.specs.Val.{Val};
+ghost use Rattle.rules_values.specs.Weight.{weight as whole};
+ghost use Rattle.rules_steps.specs.Costs.{weight_of, weight_found, stack_weight, collection_weight};
+ghost use Rattle.mich_overload.specs.View.{straight, stack_row, collection_row};
+ghost use Rattle.mich_term.specs.Weights.{capped};
+ghost use Rattle.mich_stack.specs.Views.{Sight, seen, values};
+
+use crate::texts::text_weight;
+use mich_base::{Memory, Rows};
+use mich_overload::{CollectionRow, Simple, StackRow};
+use mich_stack::read_at;
+use mich_term::{Value, weight};
+
+// The weight of a value that may be there.
+#[tactic(auto, using(crate::proofs::Weighed::found_weighs))]
+fn found_weight(value: Option<&Value>) -> u64
+    ensures { (big : Sight) → result ≡ capped (weight_found (option_map (λ v. seen big v.now) value.entry)) }
+{
+    match value {
+        Some(value) => weight(value),
+        None => 0,
+    }
+}
+
+// The weight of the value at a depth.
+fn weight_at(stack: &Rows<Value>, depth: usize) -> u64
+    ensures { (big : Sight) → result ≡ capped (weight_found (slice_get (values big stack.now) depth)) }
+{
+    found_weight(read_at(stack, depth))
+}
+
+// The weight of so many values on top.
+fn weight_above(stack: &Rows<Value>, count: usize) -> u64
+    ensures { (big : Sight) → result ≡ capped (sum_by whole (take count (values big stack.now))) }
+{
+    let mut total: u64 = 0;
+    for depth in 0..count {
+        total = total.saturating_add(weight_at(stack, depth));
+    }
+    total
+}
+
+fn order_weight(row: &StackRow, stack: &Rows<Value>) -> u64
+    ensures { (big : Sight) → result ≡ capped (stack_weight (stack_row row.now) (values big stack.now)) }
+{
+    match row {
+        StackRow::Drop(count) => weight_above(stack, *count as usize),
+        StackRow::Dup(place) => weight_at(stack, (*place as usize).saturating_sub(1)),
+        _ => 0,
+    }
+}
+
+// What one on collections weighs. Memory, so far, where a value is looked up.
+fn collection_weight(row: &CollectionRow) -> Result<u64, Memory>
+    ensures { IfOk result (λ w. (V : List Val) → w ≡ capped (collection_weight (collection_row row.now) V)) }
+{
+    match row {
+        CollectionRow::GetMap | CollectionRow::GetBigMap => Err(Memory),
+        _ => Ok(0),
+    }
+}
+
+/// What an instruction weighs on a stack, up to 2^64-1. Memory where the stack doesn't fit it; and, so far, for those that look a
+/// value up, cut, go over a list of strings or bytes, pack or hash (this host's cost table).
+pub fn weigh(instr: &Simple, stack: &Rows<Value>) -> Result<u64, Memory>
+    ensures { IfOk result (λ w. (big : Sight) → w ≡ capped (weight_of (straight instr.now) (values big stack.now))) }
+{
+    match instr {
+        Simple::Stack(row) => Ok(order_weight(row, stack)),
+        Simple::Collections(row) => Ok(collection_weight(row)?),
+        Simple::Texts(row) => Ok(text_weight(row, stack)?),
+        Simple::Hashes(_) => Err(Memory),
+        _ => Ok(0),
+    }
+}
