@@ -9,9 +9,10 @@ pub mod Left
 pub mod Stepped
 pub mod Leaving
 pub mod Starting
+pub mod Located
+pub mod Pushed
 pub mod Keeping
 pub mod Capped
 pub mod Ruled
 pub mod Told
-pub mod Suited
 pub mod Straightened

@@ -17,6 +17,7 @@ mod paying;
 mod running;
 mod stack;
 mod straights;
+mod suiting;
 mod state;
 
 pub use act::Failed;

@@ -13,11 +13,12 @@ use crate::branches::{act_if, act_if_cons, act_if_left, act_if_none};
 use crate::calls::{act_failwith, act_never};
 use crate::dipping::act_dip;
 use crate::frame::Frame;
-use crate::giving::act_lambda;
+use crate::giving::{act_lambda, act_push, act_self};
 use crate::iterating::{act_iter, next_each};
 use crate::loops::{act_loop, act_loop_left, next_left_turn, next_turn};
 use crate::stack::{put_all, put_below};
 use crate::state::State;
+use crate::straights::act_straight;
 use mich_base::{Memory, Rows};
 use mich_gas::Costs;
 use mich_instr::{Block, Instr};
@@ -79,6 +80,9 @@ fn perform(alloc: Global, m: &mut State, costs: &Costs, instr: &Instr) -> Result
             ..
         } => Ok(act_lambda(m, costs, *recursive, body)?),
         Instr::Never => Ok(act_never(m, costs)?),
+        Instr::Push { ty, literal, .. } => Ok(act_push(alloc, m, costs, ty, literal)?),
+        Instr::SelfContract { entrypoint, .. } => Ok(act_self(alloc, m, costs, entrypoint)?),
+        Instr::Straight(simple, _) => Ok(act_straight(alloc, m, costs, simple)?),
         Instr::Seq(_) => unreachable!(),
         _ => Err(Memory),
     }

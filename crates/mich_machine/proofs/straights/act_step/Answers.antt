@@ -5,7 +5,6 @@ use Rattle.mich_machine.specs.View.{tops}
 use Rattle.mich_machine.proofs.Capped.{paid_is, broke_is}
 use Rattle.mich_machine.proofs.Paid.{paid_less}
 use Rattle.mich_machine.proofs.Straightened.{heavy, step_fits, step_stands, step_failed}
-use Rattle.mich_machine.proofs.Suited.{row_suits, row_ready}
 use Rattle.mich_frames.proofs.Straights.{row_broke}
 use Rattle.mich_machine.proofs.straights.act_step.Goals as goal
 
@@ -18,11 +17,24 @@ step-requires c =
     record {
       in_step = c.requires.in_step;
       fits = step_fits x c.args.costs.now c.args.m.now r c.requires.in_step t.1.5 p.0;
-      suits = row_suits x c.args.costs.now c.args.m.now r c.requires.in_step t.1.5;
-      ready = row_ready x c.args.costs.now c.args.m.now r c.requires.in_step t.1.5;
+      suits = c.suits.ensures.suits c.if-not-suits.false;
+      ready = c.suits.ensures.ready c.if-not-suits.false c.args.m.now.ledger.books.present;
     }
 
 pub returns-then-not-pay_capped-clause-acts : goal.returns-then-not-pay_capped-clause-acts
 returns-then-not-pay_capped-clause-acts c = λ app x fs d Z o h.
     let r = straight c.args.instr.now in
     row_broke r h (broke_is c.if-not-pay_capped.true c.price.ensures (c.pay_capped.ensures (heavy x c.args.costs.now c.args.m.now r c.requires.in_step h) (c.in_ok-weight.ensures x.sight) h.runs.charged))
+
+pub returns-in-Ok-clause-acts : goal.returns-in-Ok-clause-acts
+returns-in-Ok-clause-acts c = λ app x fs d Z o h.
+    let r = straight c.args.instr.now in
+    let p = paid_is c.if-not-pay_capped.false c.price.ensures (c.pay_capped.ensures (heavy x c.args.costs.now c.args.m.now r c.requires.in_step h) (c.in_ok-weight.ensures x.sight) h.runs.charged) in
+    step_stands x c.args.costs.now c.args.m.now r c.requires.in_step h p.0 c.step.new.stack c.pay_capped.new.meter c.step.new.ledger
+    (c.in-Ok.ensures.ends x.sight) (c.in-Ok.ensures.tells x.sight (x.shows c.args.m.now.stack)) p.1
+
+pub returns-in-Err-Failed-clause-acts : goal.returns-in-Err-Failed-clause-acts
+returns-in-Err-Failed-clause-acts c = λ app x fs d Z o h.
+    let r = straight c.args.instr.now in
+    let p = paid_is c.if-not-pay_capped.false c.price.ensures (c.pay_capped.ensures (heavy x c.args.costs.now c.args.m.now r c.requires.in_step h) (c.in_ok-weight.ensures x.sight) h.runs.charged) in
+    rw c.failed.ensures x.sight (step_failed x c.args.costs.now c.args.m.now r c.requires.in_step h p.0 _ (c.in-Err-Failed.ensures.ends x.sight))
