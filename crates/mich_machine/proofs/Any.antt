@@ -13,11 +13,12 @@ use Rattle.mich_frames.specs.Around.{Around, less, Pays, Lacks}
 use Rattle.mich_frames.specs.Frames.{Frame}
 use Rattle.mich_frames.specs.Frames as fr
 use Rattle.mich_frames.specs.Stands.{StandsAt, MeetsAt, OpensAt}
-use Rattle.mich_frames.specs.Shapes.{HasTop, HasTruth, HasOption, HasUnion, HasItems, HasList}
+use Rattle.mich_frames.specs.Shapes.{HasTop, HasTruth, HasOption, HasUnion, HasItems, HasList, HasMapped}
 use Rattle.mich_frames.proofs.Branches.{if_broke, if_none_opens, if_some_opens, if_none_broke, if_some_broke, if_left_opens, if_right_opens, if_left_broke, if_right_broke, if_cons_opens, if_empty_opens, if_cons_broke, if_empty_broke}
 use Rattle.mich_frames.proofs.Loops.{loop_acts, loop_broke, loop_left_acts, loop_left_broke, loop_right_acts, loop_right_broke, left_turns_end, left_turns_broke, left_turn_opens}
 use Rattle.mich_frames.proofs.Items.{iter_broke, each_broke}
 use Rattle.mich_frames.proofs.Calls.{fail_broke}
+use Rattle.mich_frames.proofs.Mapping.{map_broke}
 use Rattle.mich_machine.specs.Items.{IsNotEmpty}
 use Rattle.mich_machine.specs.Parts.{is_left_top, is_none_top, is_cons_top, opened}
 
@@ -123,3 +124,19 @@ module _ {fs : List Frame} {u : Around} {m : Tally} {d : ℕ} {Z : List Kind} {o
   pub fail_any_broke : {a : Kind} (V : List Val) → Lacks u g.Failwith 0 m → MeetsAt (made.failwith a) fs u V m d Z o → HasTop V → o ≡ failed f.out_of_gas
   fail_any_broke [] lacks h top = absurd top
   fail_any_broke (x ∷ W) lacks h top = fail_broke x lacks h
+
+module _ {fs : List Frame} {u : Around} {m : Tally} {d : ℕ} {Z : List Kind} {o : Outcome} {is : Codes} where
+  pub map_any_broke : (V : List Val) → Lacks u g.Map 0 m → MeetsAt (made.map is) fs u V m d Z o → HasMapped V → o ≡ failed f.out_of_gas
+  map_any_broke [] lacks h top = absurd top
+  map_any_broke (x ∷ W) lacks h top = map_broke x lacks h
+
+pub mapped_top : (V : List Val) → HasMapped V → HasTop V
+mapped_top [] h = absurd h
+mapped_top (x ∷ W) h = tt
+
+pub mapped_alone : (x : Val) (W : List Val) → HasMapped (x ∷ W) → HasMapped (x ∷ [])
+mapped_alone (v.list xs) W h = tt
+mapped_alone (v.table es) W h = tt
+mapped_alone v.nothing W h = tt
+mapped_alone (v.some x) W h = tt
+mapped_alone _ W h = absurd h

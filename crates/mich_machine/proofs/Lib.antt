@@ -4,6 +4,9 @@ pub mod Codes
 pub mod Any
 pub mod Listed
 pub mod Mapped
+pub mod Keys
+pub mod Rebuilt
+pub mod Results
 pub mod Begun
 pub mod Left
 pub mod Stepped

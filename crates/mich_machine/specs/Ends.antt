@@ -99,3 +99,15 @@ abbrev pub Resumes : Frame → Costs → State → State → Result Act Memory �
 Resumes f costs old new r =
     (x : Beyond) (fs : List fr.Frame) (d : ℕ) (Z : List Kind) (o : Outcome) → Stands f x costs old fs d Z o →
     IfOk r (λ a. Acts a x costs new fs d Z o)
+
+-- the same of a plain frame, by what big maps stand for
+abbrev pub StandsOn : (Sight → fr.Frame) → Beyond → Costs → State → List fr.Frame → ℕ → List Kind → Outcome → Type 0
+StandsOn f x costs m fs d Z o = StandsAt (f x.sight ∷ fs) (around x costs m) (tops x.sight m.stack) (tally x m) d Z o
+
+abbrev pub WaitsOn : (Sight → fr.Frame) → Costs → State → Type 0
+WaitsOn f costs m = (x : Beyond) × (fs : List fr.Frame) × (d : ℕ) × (Z : List Kind) × (o : Outcome) × StandsOn f x costs m fs d Z o
+
+abbrev pub ResumesOn : (Sight → fr.Frame) → Costs → State → State → Result Act Memory → Type 0
+ResumesOn f costs old new r =
+    (x : Beyond) (fs : List fr.Frame) (d : ℕ) (Z : List Kind) (o : Outcome) → StandsOn f x costs old fs d Z o →
+    IfOk r (λ a. Acts a x costs new fs d Z o)

@@ -1,5 +1,6 @@
 pub mod Items
 pub mod Issues
+pub mod Made
 pub mod Parts
 pub mod View
 pub mod Ends

@@ -19,6 +19,7 @@ use Rattle.mich_tickets.specs.Effects.{change}
 use Rattle.mich_tickets.specs.Sums.{minted_of}
 use Rattle.mich_machine.specs.Issues.{issued_by}
 use Rattle.mich_machine.specs.Items.{items_left}
+use Rattle.mich_machine.specs.Made.{making_of}
 use Rattle.mich_machine.specs.declared.frame.Frame.{Frame}
 use Rattle.mich_machine.specs.declared.frame.Frame.TheVariants as f
 use Rattle.mich_machine.specs.declared.state.State.{State}
@@ -39,6 +40,7 @@ frame big (f.Rest block at) = fr.rest (codes (drop at block))
 frame big (f.Turns body) = fr.turns (codes body)
 frame big (f.LeftTurns body) = fr.left_turns (codes body)
 frame big (f.Each body items) = fr.each (codes body) (items_left big items)
+frame big (f.Making body making) = making_of big (codes body) making
 frame big (f.Under above) = fr.under (tops big above)
 frame big (f.Call below) = fr.call (tops big below)
 

@@ -17,14 +17,14 @@ pub(crate) enum Items {
 }
 
 // The values of a list, the first one last.
-fn values_of(list: Chain<Value>) -> Rows<Value>
+pub(crate) fn values_of(list: Chain<Value>) -> Rows<Value>
     ensures { result ≡ reverse list }
 {
     Rows::from_vec(list.into_reversed())
 }
 
 // Entries, the first one last.
-fn backwards(entries: Rows<(Datum, Value)>) -> Rows<(Datum, Value)>
+pub(crate) fn backwards(entries: Rows<(Datum, Value)>) -> Rows<(Datum, Value)>
     ensures { result ≡ reverse entries }
 {
     let mut entries = entries.into_vec();
@@ -56,7 +56,10 @@ fn elements_of(alloc: Global, set: &Elements) -> Result<Rows<Value>, Memory>
 }
 
 // The entries of a map, in order.
-fn entries_of(alloc: Global, table: Table<Value>) -> Result<Rows<(Datum, Value)>, Memory>
+pub(crate) fn entries_of(
+    alloc: Global,
+    table: Table<Value>,
+) -> Result<Rows<(Datum, Value)>, Memory>
     ensures { IfOk result (λ es. es ≡ table) }
 {
     let mut entries = Rows::new(alloc);
@@ -97,7 +100,7 @@ pub(crate) fn is_done(items: &Items) -> bool
 
 // A key and its value as a pair.
 #[tactic(auto, using(crate::proofs::Mapped::pair_is))]
-fn pair_of(alloc: Global, key: &Datum, value: Value) -> Result<Value, Memory>
+pub(crate) fn pair_of(alloc: Global, key: &Datum, value: Value) -> Result<Value, Memory>
     ensures { IfOk result (λ v. (big : Sight) → seen big v ≡ entry_pair big (key.now, value)) }
 {
     let first = Link::new(alloc, key.value(alloc)?)?;

@@ -13,6 +13,8 @@ mod items;
 mod iterating;
 mod loops;
 mod machine;
+mod made;
+mod mapping;
 mod paying;
 mod running;
 mod stack;

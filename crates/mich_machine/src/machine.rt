@@ -16,6 +16,7 @@ use crate::frame::Frame;
 use crate::giving::{act_lambda, act_push, act_self};
 use crate::iterating::{act_iter, next_each};
 use crate::loops::{act_loop, act_loop_left, next_left_turn, next_turn};
+use crate::mapping::{act_map, next_made};
 use crate::stack::{put_all, put_below};
 use crate::state::State;
 use crate::straights::act_straight;
@@ -72,6 +73,7 @@ fn perform(alloc: Global, m: &mut State, costs: &Costs, instr: &Instr) -> Result
         Instr::Loop(body) => Ok(act_loop(m, costs, body)?),
         Instr::LoopLeft(body) => Ok(act_loop_left(m, costs, body)?),
         Instr::Iter(body) => Ok(act_iter(alloc, m, costs, body)?),
+        Instr::Map(body) => Ok(act_map(alloc, m, costs, body)?),
         Instr::Dip { count, body, .. } => Ok(act_dip(alloc, m, costs, *count, body)?),
         Instr::Failwith(ty) => Ok(act_failwith(alloc, m, costs, ty)?),
         Instr::Lambda {
@@ -101,6 +103,7 @@ fn unwind(alloc: Global, m: &mut State, costs: &Costs, frame: Frame) -> Result<A
         Frame::Turns(body) => Ok(next_turn(m, costs, body)?),
         Frame::LeftTurns(body) => Ok(next_left_turn(m, costs, body)?),
         Frame::Each(body, items) => Ok(next_each(alloc, m, costs, body, items)?),
+        Frame::Making(body, making) => Ok(next_made(alloc, m, costs, body, making)?),
         Frame::Under(above) => {
             put_all(&mut m.stack, above)?;
             Ok(Act::On)
