@@ -1,7 +1,7 @@
 -- EXEC and APPLY, FAILWITH and NEVER.
 use Rattle.std.proofs.Common.{◌≡◌, ◌<◌, ◌≤◌, ℕ, Bool, true, false, List, [], ◌∷◌, ◌++◌, Some, None, refl, sym, ap, ◌∙◌, arith}
 use Rattle.std.specs.Prelude.{nat_le}
-use Rattle.rules_base.specs.Tree.{Tree, seq, Trees}
+use Rattle.rules_base.specs.Tree.{Tree, prim, seq, Trees, none}
 use Rattle.rules_gas.specs.declared.Kind.TheVariants as g
 use Rattle.rules_types.specs.Kind.{Kind}
 use Rattle.rules_types.specs.Kind as k
@@ -27,8 +27,10 @@ use Rattle.mich_frames.specs.Pending as p
 use Rattle.mich_frames.specs.Frames.{Frame, Rests}
 use Rattle.mich_frames.specs.Frames as fr
 use Rattle.mich_frames.specs.Stands.{Runs, StandsAt, MeetsAt, OpensAt}
-use Rattle.mich_frames.proofs.Paying.{after_after, when_paid, when_broke}
-use Rattle.mich_frames.proofs.Made.{stands_of, opens_of, form_is, Case, meets_by}
+use Rattle.mich_frames.proofs.Paying.{after_after, pays_is, when_paid, when_broke}
+use Rattle.mich_frames.proofs.Made.{stands_of, opens_of, form_is, Case, meets_by, block_of, FineCase, meets_fine, Ends, ends_of}
+use Rattle.mich_frames.proofs.Fine.{in_call, lambda_below}
+use Rattle.laws_code.proofs.Leading.{seq_leads}
 use Rattle.std.proofs.lemmas.Bool.{le-leb, leb-true}
 use Rattle.rules_base.specs.Tree.{size}
 use Rattle.rules_base.specs.Tree.{depth as levels}
@@ -86,17 +88,18 @@ module _ {fs : List Frame} {u : Around} {m : Tally} {d : ℕ} {Z : List Kind} {o
 
   pub exec_opens : {a r : Kind} {is : Codes} (x : Val) (ts : Trees) (recursive : Bool) (W : List Val) → Pays u g.Exec 0 m → AreCode place.lambda ts is (call_kinds a r recursive) (r ∷ []) →
       MeetsAt (made.exec a r) fs u (x ∷ v.lambda (seq ts) recursive ∷ W) m d Z o → OpensAt is (fr.call W ∷ fs) u (call_values x ts recursive) (less u g.Exec 0 m) d Z o
-  exec_opens {a = a} {r = r} {is = is} x ts recursive W pays fine h = meets_by h by
+  exec_opens {a = a} {r = r} {is = is} x ts recursive W pays fine h = meets_fine h by
     where
-      by : Case (made.exec a r) fs u (x ∷ v.lambda (seq ts) recursive ∷ W) m d Z o (OpensAt is (fr.call W ∷ fs) u (call_values x ts recursive) (less u g.Exec 0 m) d Z o)
-      by ps c _ _ _ (is_exec {A = A} form) rests depth same =
+      by : FineCase (made.exec a r) fs u (x ∷ v.lambda (seq ts) recursive ∷ W) m d Z o (OpensAt is (fr.call W ∷ fs) u (call_values x ts recursive) (less u g.Exec 0 m) d Z o)
+      by ps c _ _ _ (is_exec {A = A} form) rests depth same typed small holds =
           let K : List Kind = call_kinds a r recursive in
           let X : List Val = call_values x ts recursive in
           let n : Tally = less u g.Exec 0 m in
-          opens_of h.runs (p.call (at u c) r A W ∷ ps) place.lambda ts K (r ∷ []) fine (fr.rests_call rests) depth
+          opens_of h.runs (p.call (at u c) r A W ∷ ps) place.lambda ts K (r ∷ []) (block_of fine (seq_leads ts place.lambda K (r ∷ []) (lambda_below holds).1) (lambda_below holds).0) (fr.rests_call rests) depth
           (sym (after_after (block_run ts (at u place.lambda) (depth_of ps) K X n) (on_result u m o c ps a r A x ts recursive W) (resume ps (at u c)))
           ∙ ap (λ y. after (after y (on_result u m o c ps a r A x ts recursive W)) (resume ps (at u c))) (sym (eval_is (node (seq ts)) (at u place.lambda) h.runs.charged (depth_of ps) K X n))
           ∙ when_paid u g.Exec 0 m (called u m o c ps a r A x ts recursive W) o _ (resume ps (at u c)) refl pays (exec_is u m o c ps a r A x ts recursive W h.runs (ap (λ p. after p (resume ps (at u c))) (sym (form_is _ _ _ _ _ _ _ _ m form)) ∙ same)).1)
+          (in_call holds)
 
   pub exec_leads : {a r : Kind} (x : Val) (ts : Trees) (recursive : Bool) (W : List Val) → MeetsAt (made.exec a r) fs u (x ∷ v.lambda (seq ts) recursive ∷ W) m d Z o →
       Leads (tree_type (seq ts) place.lambda (call_kinds a r recursive)) (r ∷ [])
@@ -129,6 +132,9 @@ module _ (o : Outcome) (l : Go) (t : Tree) (go : Tree → Outcome) where
   within_is h i same =
       sym (ap (λ b. after (small_enough b t go) l) (le-leb (size t) applied_size h) ∙ ap (λ b. after (shallow_enough b t go) l) (le-leb (levels t) applied_depth i)) ∙ same
 
+  bounds_are : size t ≤ applied_size → levels t ≤ applied_depth → within_bounds t go ≡ go t
+  bounds_are h i = ap (λ b. small_enough b t go) (le-leb (size t) applied_size h) ∙ ap (λ b. shallow_enough b t go) (le-leb (levels t) applied_depth i)
+
   too_many_is : applied_size < size t → after (within_bounds t go) l ≡ o → o ≡ failed f.size_limit
   too_many_is h same = by (nat_le (size t) applied_size) refl
     where
@@ -147,12 +153,17 @@ module _ (u : Around) (m : Tally) (o : Outcome) (runs : Runs u o) (c : Context) 
   abbrev captured : Tally → Outcome
   captured m = within_bounds (applied a b r x (seq ts) recursive) (λ body. stack (k.lambda b r ∷ A) (v.lambda body false ∷ W) m)
 
-  apply_is : after (only_if (same_kind a a) (only_if (pushable a) (charge u.prices g.Apply (weight x) m captured))) (resume ps (at u c)) ≡ o →
-      after (charge u.prices g.Apply (weight x) m captured) (resume ps (at u c)) ≡ o
-  apply_is same =
+  -- what is captured can be pushed
+  tested : after (only_if (same_kind a a) (only_if (pushable a) (charge u.prices g.Apply (weight x) m captured))) (resume ps (at u c)) ≡ o →
+      only_if (same_kind a a) (only_if (pushable a) (charge u.prices g.Apply (weight x) m captured)) ≡ charge u.prices g.Apply (weight x) m captured
+  tested same =
       let go : Outcome = charge u.prices g.Apply (weight x) m captured in
       let one : after (only_if (pushable a) go) (resume ps (at u c)) ≡ o = ap (λ q. after (only_if q (only_if (pushable a) go)) (resume ps (at u c))) (sym (same_kind_refl a)) ∙ same in
-      sym (ap (λ q. after (only_if q go) (resume ps (at u c))) (holds (resume ps (at u c)) o runs.sound (pushable a) go one)) ∙ one
+      ap (λ q. only_if q (only_if (pushable a) go)) (same_kind_refl a) ∙ ap (λ q. only_if q go) (holds (resume ps (at u c)) o runs.sound (pushable a) go one)
+
+  apply_is : after (only_if (same_kind a a) (only_if (pushable a) (charge u.prices g.Apply (weight x) m captured))) (resume ps (at u c)) ≡ o →
+      after (charge u.prices g.Apply (weight x) m captured) (resume ps (at u c)) ≡ o
+  apply_is same = sym (ap (λ z. after z (resume ps (at u c))) (tested same)) ∙ same
 
 fail_is : (u : Around) (m : Tally) (o : Outcome) (a : Kind) (A : List Kind) (x : Val) (c : Context) (ps : List Pending) → Runs u o →
     after (only_if (pushable a) (paid (at u c) g.Failwith m (λ m. failed (f.failed_with a x)))) (resume ps (at u c)) ≡ o →
@@ -163,7 +174,8 @@ fail_is u m o a A x c ps runs same =
 -- what follows from an APPLY that comes first, on an argument and a lambda
 abbrev Applied : List Frame → Around → Tally → ℕ → List Kind → Outcome → Kind → Kind → Kind → Val → Trees → Bool → List Val → Type 0 → Type 0
 Applied fs u m d Z o a b r x ts recursive W P = (c : Context) (ps : List Pending) (A : List Kind) → Rests fs ps u c (k.lambda b r ∷ A) Z → d ≡ depth_of ps →
-    after (charge u.prices g.Apply (weight x) m (λ m. within_bounds (applied a b r x (seq ts) recursive) (λ body. stack (k.lambda b r ∷ A) (v.lambda body false ∷ W) m))) (resume ps (at u c)) ≡ o → P
+    after (charge u.prices g.Apply (weight x) m (λ m. within_bounds (applied a b r x (seq ts) recursive) (λ body. stack (k.lambda b r ∷ A) (v.lambda body false ∷ W) m))) (resume ps (at u c)) ≡ o →
+    Ends u c ps (k.lambda b r ∷ A) (charge u.prices g.Apply (weight x) m (λ m. within_bounds (applied a b r x (seq ts) recursive) (λ body. stack (k.lambda b r ∷ A) (v.lambda body false ∷ W) m))) → P
 
 module _ {fs : List Frame} {u : Around} {m : Tally} {d : ℕ} {Z : List Kind} {o : Outcome} where
   pub apply_top : {a b r : Kind} {V : List Val} → MeetsAt (made.apply a b r) fs u V m d Z o → HasCall V
@@ -174,30 +186,39 @@ module _ {fs : List Frame} {u : Around} {m : Tally} {d : ℕ} {Z : List Kind} {o
 
   module _ {a b r : Kind} (x : Val) (ts : Trees) (recursive : Bool) (W : List Val) (h : MeetsAt (made.apply a b r) fs u (x ∷ v.lambda (seq ts) recursive ∷ W) m d Z o) where
     apply_by : {P : Type 0} → Applied fs u m d Z o a b r x ts recursive W P → P
-    apply_by {P = P} go = meets_by h by
+    apply_by {P = P} go = meets_fine h by
       where
-        by : Case (made.apply a b r) fs u (x ∷ v.lambda (seq ts) recursive ∷ W) m d Z o P
-        by ps c _ _ _ (is_apply {A = A} form) rests depth same = go c ps A rests depth (apply_is u m o h.runs c ps a b r A x ts recursive W (ap (λ p. after p (resume ps (at u c))) (sym (form_is _ _ _ _ _ _ _ _ m form)) ∙ same))
+        by : FineCase (made.apply a b r) fs u (x ∷ v.lambda (seq ts) recursive ∷ W) m d Z o P
+        by ps c _ _ _ (is_apply {name = name} {annots = annots} {A = A} form) rests depth same typed small holds =
+            let S : List Kind = a ∷ k.lambda (k.pair a b) r ∷ A in
+            let V : List Val = x ∷ v.lambda (seq ts) recursive ∷ W in
+            let is = form_is _ name annots none (at u c) (depth_of ps) S V m form in
+            let unpaid = ap (λ p. after p (resume ps (at u c))) (sym is) ∙ same in
+            let runs = is ∙ tested u m o h.runs c ps a b r A x ts recursive W unpaid in
+            go c ps A rests depth (apply_is u m o h.runs c ps a b r A x ts recursive W unpaid) (ends_of (prim name annots none) S V m _ h.runs typed small holds runs)
 
     pub apply_acts : Pays u g.Apply (weight x) m → size (applied a b r x (seq ts) recursive) ≤ applied_size → levels (applied a b r x (seq ts) recursive) ≤ applied_depth →
         StandsAt fs u (v.lambda (applied a b r x (seq ts) recursive) false ∷ W) (less u g.Apply (weight x) m) d Z o
-    apply_acts pays i j = apply_by (λ c ps A rests depth same.
+    apply_acts pays i j = apply_by (λ c ps A rests depth same ends.
         stands_of h.runs ps c (k.lambda b r ∷ A) rests depth
         (within_is o (resume ps (at u c)) _ (λ body. stack (k.lambda b r ∷ A) (v.lambda body false ∷ W) (less u g.Apply (weight x) m)) i j
-        (when_paid u g.Apply (weight x) m (captured u m o h.runs c ps a b r A x ts recursive W) o _ (resume ps (at u c)) refl pays same)))
+        (when_paid u g.Apply (weight x) m (captured u m o h.runs c ps a b r A x ts recursive W) o _ (resume ps (at u c)) refl pays same))
+        (ends (k.lambda b r ∷ A) (v.lambda (applied a b r x (seq ts) recursive) false ∷ W) (less u g.Apply (weight x) m)
+        (pays_is u g.Apply (weight x) m (captured u m o h.runs c ps a b r A x ts recursive W) pays
+        ∙ bounds_are o (resume ps (at u c)) (applied a b r x (seq ts) recursive) (λ body. stack (k.lambda b r ∷ A) (v.lambda body false ∷ W) (less u g.Apply (weight x) m)) i j)))
 
     pub apply_large : Pays u g.Apply (weight x) m → applied_size < size (applied a b r x (seq ts) recursive) → o ≡ failed f.size_limit
-    apply_large pays i = apply_by (λ c ps A rests depth same.
+    apply_large pays i = apply_by (λ c ps A rests depth same ends.
         too_many_is o (resume ps (at u c)) _ (λ body. stack (k.lambda b r ∷ A) (v.lambda body false ∷ W) (less u g.Apply (weight x) m)) i
         (when_paid u g.Apply (weight x) m (captured u m o h.runs c ps a b r A x ts recursive W) o _ (resume ps (at u c)) refl pays same))
 
     pub apply_deep : Pays u g.Apply (weight x) m → size (applied a b r x (seq ts) recursive) ≤ applied_size → applied_depth < levels (applied a b r x (seq ts) recursive) → o ≡ failed f.depth_limit
-    apply_deep pays i j = apply_by (λ c ps A rests depth same.
+    apply_deep pays i j = apply_by (λ c ps A rests depth same ends.
         too_deep_is o (resume ps (at u c)) _ (λ body. stack (k.lambda b r ∷ A) (v.lambda body false ∷ W) (less u g.Apply (weight x) m)) i j
         (when_paid u g.Apply (weight x) m (captured u m o h.runs c ps a b r A x ts recursive W) o _ (resume ps (at u c)) refl pays same))
 
     pub apply_broke : Lacks u g.Apply (weight x) m → o ≡ failed f.out_of_gas
-    apply_broke lacks = apply_by (λ c ps A rests depth same.
+    apply_broke lacks = apply_by (λ c ps A rests depth same ends.
         when_broke u g.Apply (weight x) m (captured u m o h.runs c ps a b r A x ts recursive W) o _ (resume ps (at u c)) refl lacks same)
 
   -- ---- FAILWITH and NEVER

@@ -1,47 +1,42 @@
 -- Blocks that open and end, what is under DIP, calls that end, and where a run begins and ends.
 use Rattle.std.proofs.Common.{◌≡◌, ◌<◌, ◌≤◌, ◌+◌, ℕ, suc, Bool, true, false, List, [], ◌∷◌, Option, Some, None, ◌++◌, refl, sym, ap, ◌∙◌, subst, arith}
 use Rattle.std.specs.Prelude.{nat_lt}
-use Rattle.rules_base.specs.Tree.{seq, Trees}
+use Rattle.rules_base.specs.Tree.{seq, Trees, none}
 use Rattle.rules_types.specs.Kind.{Kind}
 use Rattle.rules_instructions.specs.Context.{Context}
-use Rattle.rules_values.specs.Val.{Val, Vals, no_val, more_vals}
-use Rattle.rules_values.specs.Val as v
+use Rattle.rules_values.specs.Val.{Val}
 use Rattle.rules_steps.specs.Failure as f
 use Rattle.rules_evaluation.specs.Surroundings.{Surroundings}
 use Rattle.rules_evaluation.specs.Operations.{Tally}
-use Rattle.rules_evaluation.specs.Outcome.{Outcome, stack, failed, stuck, after, only_if}
+use Rattle.rules_evaluation.specs.Outcome.{Outcome, stack, failed, after, only_if}
 use Rattle.rules_evaluation.specs.Evaluation.{tree_run, eval_task}
 use Rattle.laws_evaluation.specs.Laws.{IsCharged}
 use Rattle.mich_instr.specs.Code.{Code, Codes}
 use Rattle.mich_instr.specs.Code as made
-use Rattle.mich_frames.specs.Around.{Around, at, around, in_environment, returned}
+use Rattle.mich_frames.specs.Around.{Around, at, around}
 use Rattle.mich_frames.specs.Pending.{Pending, depth_of, block_run, resume}
 use Rattle.mich_frames.specs.Pending as p
-use Rattle.mich_frames.specs.Frames.{Frame, Rests}
+use Rattle.mich_frames.specs.Fine.{IsFine}
+use Rattle.mich_frames.specs.Frames.{Frame, IsBlock, Rests}
 use Rattle.mich_frames.specs.Frames as fr
 use Rattle.rules_steps.specs.Failure.{Failure}
 use Rattle.mich_frames.specs.Stands.{ActsAt, EntersAt, StandsAt, MeetsAt, OpensAt}
 use Rattle.mich_frames.proofs.Paying.{after_after, after_stack}
-use Rattle.mich_frames.proofs.Made.{stands_of, opens_of}
+use Rattle.mich_frames.proofs.Made.{stands_of, opens_of, block_of}
+use Rattle.mich_frames.proofs.Fine.{over_rest, behind_rest, off_rest, back, called_back, sound_here}
+use Rattle.laws_code.proofs.Leading.{next_leads, leads_seq}
+use Rattle.laws_stock.proofs.Nodes.{node_sound}
 use Rattle.std.proofs.lemmas.Bool.{lt-ltb, ltb-true}
-use Rattle.rules_steps.specs.Environment.{Environment}
-use Rattle.rules_steps.specs.Changes.{Change}
-use Rattle.rules_evaluation.specs.Operations.{Issued}
 use Rattle.rules_evaluation.specs.Outcome.{block_limit, opened}
-use Rattle.rules_evaluation.specs.Shapes.{on_top}
 use Rattle.rules_evaluation.specs.Evaluation.{node, trees_run, eval}
-use Rattle.std.specs.Prelude.{◌^◌}
-use Rattle.rules_base.specs.Tree.{Tree, size}
-use Rattle.rules_typing.specs.Typing.{Typing, goes, fails, bad}
-use Rattle.rules_typing.specs.Nodes.{tree_type}
+use Rattle.std.specs.Prelude.{◌^◌, ℤ}
+use Rattle.rules_values.specs.Tickets.{Identity}
+use Rattle.rules_base.specs.Tree.{size}
+use Rattle.rules_typing.specs.Nodes.{trees_type}
 use Rattle.rules_typing.specs.Fits.{Leads}
-use Rattle.laws_evaluation.specs.Laws.{NeverStuck, Keeps}
-use Rattle.laws_evaluation.specs.Laws.{Stands as Begins}
 use Rattle.laws_evaluation.proofs.Levels.{eval_is}
 use Rattle.laws_types.proofs.SameKinds.{same_kinds_refl}
 use Rattle.mich_instr.specs.Typed.{AreCode, no_code, more_code}
-use Rattle.mich_frames.specs.Shapes.{HasTop}
-use Rattle.mich_frames.proofs.Shapes.{has_top}
 
 -- ---- blocks
 
@@ -57,7 +52,7 @@ module _ {fs : List Frame} {u : Around} {V : List Val} {m : Tally} {d : ℕ} {Z 
   enters {is = is} lt h =
       let below : nat_lt (depth_of h.pending) block_limit ≡ true = lt-ltb (depth_of h.pending) block_limit (let e = h.depth in omega (arith, lt, e)) in
       stands_of h.runs (p.rest h.nodes ∷ h.pending) h.context h.types (fr.rests_rest h.fine h.rests) (let e = h.depth in omega (arith, e))
-      (sym (ap (λ b. after (opened b (trees_run eval_task h.nodes) (at u h.context) (depth_of h.pending) h.types V m) (resume h.pending (at u h.context))) below) ∙ h.same)
+      (sym (ap (λ b. after (opened b (trees_run eval_task h.nodes) (at u h.context) (depth_of h.pending) h.types V m) (resume h.pending (at u h.context))) below) ∙ h.same) (over_rest h.nodes h.holds)
 
   pub too_deep : {is : Codes} → block_limit ≤ d → OpensAt is fs u V m d Z o → o ≡ failed f.depth_limit
   too_deep {is = is} le h =
@@ -71,21 +66,30 @@ module _ {fs : List Frame} {u : Around} {V : List Val} {m : Tally} {d : ℕ} {Z 
 
   -- the next instruction of a block, and the rest of it
   pub meets_next : {i : Code} {is : Codes} → StandsAt (fr.rest (made.more i is) ∷ fs) u V m d Z o → MeetsAt i (fr.rest is ∷ fs) u V m d Z o
-  meets_next {i = i} {is = is} h = by h.pending h.context h.types h.rests h.depth h.same
+  meets_next {i = i} {is = is} h = by h.pending h.context h.types h.rests h.depth h.same h.holds
     where
-      by : (ps : List Pending) (c : Context) (A : List Kind) → Rests (fr.rest (made.more i is) ∷ fs) ps u c A Z → d ≡ depth_of ps → resume ps (at u c) A V m ≡ o → MeetsAt i (fr.rest is ∷ fs) u V m d Z o
-      by _ c A (fr.rests_rest {ps = ps} (more_code {t = t} {ts = ts} {M = M} first later) rests) depth same = record {
-        runs = h.runs;
-        pending = p.rest ts ∷ ps;
-        context = c;
-        node = t;
-        types = A;
-        next = M;
-        fine = first;
-        rests = fr.rests_rest later rests;
-        depth = depth;
-        same = sym (after_after (tree_run eval_task t (at u c) (suc (depth_of ps)) A V m) (trees_run eval_task ts (at u c) (suc (depth_of ps))) (resume ps (at u c))) ∙ same;
-      }
+      by : (ps : List Pending) (c : Context) (A : List Kind) → Rests (fr.rest (made.more i is) ∷ fs) ps u c A Z → d ≡ depth_of ps → resume ps (at u c) A V m ≡ o → IsFine u c ps A V m.issued m.changes → MeetsAt i (fr.rest is ∷ fs) u V m d Z o
+      by _ c A (fr.rests_rest {ps = ps} fine rests) depth same holds = first fine.code fine.typed fine.small rests depth same holds
+        where
+          first : {ts : Trees} {B : List Kind} → AreCode c ts (made.more i is) A B → Leads (trees_type ts c A) B → size (seq ts) < 2 ^ 32 → Rests fs ps u c B Z → d ≡ suc (depth_of ps) →
+              after (trees_run eval_task ts (at u c) (suc (depth_of ps)) A V m) (resume ps (at u c)) ≡ o → IsFine u c (p.rest ts ∷ ps) A V m.issued m.changes → MeetsAt i (fr.rest is ∷ fs) u V m d Z o
+          first (more_code {t = t} {ts = ts} {M = M} now later) typed small rests depth same holds =
+              let leads = next_leads now later typed in
+              record {
+                runs = h.runs;
+                pending = p.rest ts ∷ ps;
+                context = c;
+                node = t;
+                types = A;
+                next = M;
+                fine = now;
+                typed = leads.0;
+                small = omega (arith, small);
+                rests = fr.rests_rest (block_of later leads.1 (omega (arith, small))) rests;
+                depth = depth;
+                same = sym (after_after (tree_run eval_task t (at u c) (suc (depth_of ps)) A V m) (trees_run eval_task ts (at u c) (suc (depth_of ps))) (resume ps (at u c))) ∙ same;
+                holds = behind_rest _ ts holds;
+              }
 
   pub rest_depth : {is : Codes} → StandsAt (fr.rest is ∷ fs) u V m d Z o → 0 < d
   rest_depth {is = is} h = by h.pending h.context h.types h.rests h.depth
@@ -95,51 +99,30 @@ module _ {fs : List Frame} {u : Around} {V : List Val} {m : Tally} {d : ℕ} {Z 
 
   -- the end of a block
   pub rest_ends : (d' : ℕ) → d ≡ d' + 1 → StandsAt (fr.rest made.none ∷ fs) u V m d Z o → StandsAt fs u V m d' Z o
-  rest_ends d' n h = by h.pending h.context h.types h.rests h.depth h.same
+  rest_ends d' n h = by h.pending h.context h.types h.rests h.depth h.same h.holds
     where
-      by : (ps : List Pending) (c : Context) (A : List Kind) → Rests (fr.rest made.none ∷ fs) ps u c A Z → d ≡ depth_of ps → resume ps (at u c) A V m ≡ o → StandsAt fs u V m d' Z o
-      by _ c A (fr.rests_rest {ps = ps} no_code rests) depth same = stands_of h.runs ps c A rests (omega (arith, n, depth)) same
+      by : (ps : List Pending) (c : Context) (A : List Kind) → Rests (fr.rest made.none ∷ fs) ps u c A Z → d ≡ depth_of ps → resume ps (at u c) A V m ≡ o → IsFine u c ps A V m.issued m.changes → StandsAt fs u V m d' Z o
+      by _ c A (fr.rests_rest {ps = ps} fine rests) depth same holds = at_end fine.code rests depth same holds
+        where
+          at_end : {ts : Trees} {B : List Kind} → AreCode c ts made.none A B → Rests fs ps u c B Z → d ≡ suc (depth_of ps) →
+              after (trees_run eval_task ts (at u c) (suc (depth_of ps)) A V m) (resume ps (at u c)) ≡ o → IsFine u c (p.rest ts ∷ ps) A V m.issued m.changes → StandsAt fs u V m d' Z o
+          at_end no_code rests depth same holds = stands_of h.runs ps c A rests (omega (arith, n, depth)) same (off_rest none holds)
 
   -- ---- DIP, calls and views
 
   pub under_ends : {W : List Val} → StandsAt (fr.under W ∷ fs) u V m d Z o → StandsAt fs u (W ++ V) m d Z o
-  under_ends {W = W} h = by h.pending h.context h.types h.rests h.depth h.same
+  under_ends {W = W} h = by h.pending h.context h.types h.rests h.depth h.same h.holds
     where
-      by : (ps : List Pending) (c : Context) (A : List Kind) → Rests (fr.under W ∷ fs) ps u c A Z → d ≡ depth_of ps → resume ps (at u c) A V m ≡ o → StandsAt fs u (W ++ V) m d Z o
-      by _ c B (fr.rests_under {ps = ps} {A = A} rests) depth same = stands_of h.runs ps c (A ++ B) rests depth same
+      by : (ps : List Pending) (c : Context) (A : List Kind) → Rests (fr.under W ∷ fs) ps u c A Z → d ≡ depth_of ps → resume ps (at u c) A V m ≡ o → IsFine u c ps A V m.issued m.changes → StandsAt fs u (W ++ V) m d Z o
+      by _ c B (fr.rests_under {ps = ps} {A = A} rests) depth same holds = stands_of h.runs ps c (A ++ B) rests depth same (back holds)
 
   pub call_ends : {W : List Val} → StandsAt (fr.call W ∷ fs) u V m d Z o → StandsAt fs u (V ++ W) m d Z o
-  call_ends {W = W} h = by h.pending h.context h.types h.rests h.depth h.same
+  call_ends {W = W} h = by h.pending h.context h.types h.rests h.depth h.same h.holds
     where
-      by : (ps : List Pending) (c : Context) (A : List Kind) → Rests (fr.call W ∷ fs) ps u c A Z → d ≡ depth_of ps → resume ps (at u c) A V m ≡ o → StandsAt fs u (V ++ W) m d Z o
-      by _ c _ (fr.rests_call {ps = ps} {c' = c'} {r = r} {B = B} rests) depth same =
+      by : (ps : List Pending) (c : Context) (A : List Kind) → Rests (fr.call W ∷ fs) ps u c A Z → d ≡ depth_of ps → resume ps (at u c) A V m ≡ o → IsFine u c ps A V m.issued m.changes → StandsAt fs u (V ++ W) m d Z o
+      by _ c _ (fr.rests_call {ps = ps} {c' = c'} {r = r} {B = B} rests) depth same holds =
           stands_of h.runs ps c' (r ∷ B) rests depth
-          (ap (λ q. after (only_if q (stack (r ∷ B) (V ++ W) m)) (resume ps (at u c'))) (sym (same_kinds_refl (r ∷ []))) ∙ same)
-
-view_same : (u : Around) (m : Tally) (o : Outcome) (c : Context) (ps : List Pending) (issued : List Issued) (changes : List Change) (b : Kind) (B : List Kind) (V W : List Val) (e : Surroundings) →
-    resume (p.viewing (at u c) issued changes b B W ∷ ps) e (b ∷ []) V m ≡ o →
-    after (on_top (b ∷ []) V (λ _ _ y _. stack B (v.some y ∷ W) (returned issued changes m))) (resume ps (at u c)) ≡ o
-view_same u m o c ps issued changes b B V W e same =
-    ap (λ q. after (only_if q (on_top (b ∷ []) V (λ _ _ y _. stack B (v.some y ∷ W) (returned issued changes m)))) (resume ps (at u c))) (sym (same_kinds_refl (b ∷ []))) ∙ same
-
-module _ {fs : List Frame} {u : Around} {m : Tally} {d : ℕ} {Z : List Kind} {o : Outcome} where
-  pub view_top : {e : Environment} {issued : List Issued} {changes : List Change} {W V : List Val} → StandsAt (fr.viewing e issued changes W ∷ fs) u V m d Z o → HasTop V
-  view_top {e = e} {issued = issued} {changes = changes} {W = W} {V = V} h = by e h.pending h.context h.types h.rests h.same
-    where
-      by : (e : Environment) (ps : List Pending) (c : Context) (A : List Kind) → Rests (fr.viewing e issued changes W ∷ fs) ps u c A Z → resume ps (at u c) A V m ≡ o → HasTop V
-      by _ _ c _ (fr.rests_viewing {ps = ps} {u' = u'} {c' = c'} {b = b} {B = B} back rests) same =
-          has_top (resume ps (at u' c')) o h.runs.sound (b ∷ []) V (λ _ _ y _. stack B (v.some y ∷ W) (returned issued changes m)) (view_same u' m o c' ps issued changes b B V W (at u c) same)
-
-  pub view_ends : {e : Environment} {issued : List Issued} {changes : List Change} {W : List Val} (y : Val) {X : List Val} → StandsAt (fr.viewing e issued changes W ∷ fs) u (y ∷ X) m d Z o →
-      StandsAt fs (in_environment u e) (v.some y ∷ W) (returned issued changes m) d Z o
-  view_ends {e = e} {issued = issued} {changes = changes} {W = W} y {X = X} h = by e h.pending h.context h.types h.rests h.depth h.same
-    where
-      by : (e : Environment) (ps : List Pending) (c : Context) (A : List Kind) → Rests (fr.viewing e issued changes W ∷ fs) ps u c A Z → d ≡ depth_of ps → resume ps (at u c) A (y ∷ X) m ≡ o →
-          StandsAt fs (in_environment u e) (v.some y ∷ W) (returned issued changes m) d Z o
-      by _ _ c _ (fr.rests_viewing {ps = ps} {u' = u'} {c' = c'} {b = b} {B = B} back rests) depth same =
-          subst (λ w. StandsAt fs w (v.some y ∷ W) (returned issued changes m) d Z o) back
-          (stands_of record { charged = subst (λ w. IsCharged w.prices) (sym back) h.runs.charged; sound = h.runs.sound } ps c' B rests depth
-          (view_same u' m o c' ps issued changes b B (y ∷ X) W (at u c) same))
+          (ap (λ q. after (only_if q (stack (r ∷ B) (V ++ W) m)) (resume ps (at u c'))) (sym (same_kinds_refl (r ∷ []))) ∙ same) (called_back holds)
 
 -- ---- the whole
 
@@ -151,21 +134,11 @@ all_done {u = u} {V = V} {m = m} {Z = Z} {o = o} h = by h.pending h.context h.ty
     by _ c _ fr.rests_end same = sym same
 
 -- where a run begins
-pub starts : (u : Around) (c : Context) (ts : Trees) (is : Codes) (A Z : List Kind) (V : List Val) (m : Tally) → IsCharged u.prices → AreCode c ts is A Z →
-    (eval (seq ts) (at u c) 0 A V m ≡ stuck → ⊥) → OpensAt is [] u V m 0 Z (eval (seq ts) (at u c) 0 A V m)
-starts u c ts is A Z V m charged fine sound =
-    opens_of record { charged = charged; sound = sound } [] c ts A Z fine fr.rests_end refl
-    (after_stack (block_run ts (at u c) 0 A V m) ∙ sym (eval_is (node (seq ts)) (at u c) charged 0 A V m))
+pub starts : (u : Around) (c : Context) (ts : Trees) (is : Codes) (A Z : List Kind) (V : List Val) (m : Tally) → IsCharged u.prices → IsBlock c ts is A Z →
+    IsFine u c [] A V m.issued m.changes → OpensAt is [] u V m 0 Z (eval (seq ts) (at u c) 0 A V m)
+starts u c ts is A Z V m charged fine holds =
+    opens_of record { charged = charged; sound = node_sound (at u c) 0 (seq ts) A Z V m fine.small (leads_seq ts c A Z fine.typed) holds.good (sound_here holds) } [] c ts A Z fine fr.rests_end refl
+    (after_stack (block_run ts (at u c) 0 A V m) ∙ sym (eval_is (node (seq ts)) (at u c) charged 0 A V m)) holds
 
--- what is typed and begins well isn't stuck
-pub not_stuck : NeverStuck → (t : Tree) (e : Surroundings) (d : ℕ) (A Z : List Kind) (V : List Val) (m : Tally) → size t < 2 ^ 32 → Begins e m A V →
-    Leads (tree_type t e.context A) Z → eval t e d A V m ≡ stuck → ⊥
-not_stuck law t e d A Z V m small begins leads same = by (tree_type t e.context A) leads (subst (Keeps e (tree_type t e.context A)) same (law t e d A V m small begins))
-  where
-    by : (x : Typing) → Leads x Z → Keeps e x stuck → ⊥
-    by (goes B) l h = h
-    by fails l h = h
-    by (bad i) l h = l
-
-pub at_around : (e : Surroundings) → at (around e) e.context ≡ e
-at_around e = refl
+pub at_around : (e : Surroundings) (burnt : Identity → ℤ) → at (around e burnt) e.context ≡ e
+at_around e burnt = refl

@@ -14,11 +14,14 @@ use Rattle.mich_instr.specs.Code as made
 use Rattle.mich_frames.specs.Around.{Around, at, less, Pays, Lacks}
 use Rattle.mich_frames.specs.Pending.{Pending, depth_of, block_run, resume}
 use Rattle.mich_frames.specs.Pending as p
+use Rattle.mich_frames.specs.Fine.{IsFine}
 use Rattle.mich_frames.specs.Frames.{Frame, Rests}
 use Rattle.mich_frames.specs.Frames as fr
 use Rattle.mich_frames.specs.Stands.{Runs, StandsAt, MeetsAt, OpensAt}
 use Rattle.mich_frames.proofs.Paying.{after_after, when_paid, when_broke}
-use Rattle.mich_frames.proofs.Made.{stands_of, opens_of, form_is, Case, meets_by}
+use Rattle.mich_frames.proofs.Made.{stands_of, opens_of, form_is, Case, meets_by, block_of, small_one, FineCase, meets_fine}
+use Rattle.mich_frames.proofs.Fine.{over_items, next_item, no_item}
+use Rattle.laws_code.proofs.Leading.{iter_leads}
 use Rattle.rules_instructions.specs.Same.{same_kinds}
 use Rattle.rules_evaluation.specs.Branches.{paid}
 use Rattle.rules_evaluation.specs.Items.{Items, items, mapped_items, with_items}
@@ -88,14 +91,14 @@ module _ {fs : List Frame} {u : Around} {m : Tally} {d : ℕ} {Z : List Kind} {o
           (iter_over u m o h.runs ts s a V c ps A parts (ap (λ p. after p (resume ps (at u c))) (sym (form_is _ _ _ _ _ _ _ V m form)) ∙ same)).0
 
   pub iter_acts : {is : Codes} (x : Val) {W : List Val} → Pays u g.Iter 0 m → MeetsAt (made.iter is) fs u (x ∷ W) m d Z o → StandsAt (fr.each is (items_in x) ∷ fs) u W (less u g.Iter 0 m) d Z o
-  iter_acts {is = is} x {W = W} pays h = meets_by h by
+  iter_acts {is = is} x {W = W} pays h = meets_fine h by
     where
-      by : Case (made.iter is) fs u (x ∷ W) m d Z o (StandsAt (fr.each is (items_in x) ∷ fs) u W (less u g.Iter 0 m) d Z o)
-      by ps c _ _ M (is_iter {ts = ts} {s = s} {a = a} {A = A} form parts fine) rests depth same =
-          stands_of h.runs (p.each a A ts (items_in x) ∷ ps) c A (fr.rests_each fine rests) depth
+      by : FineCase (made.iter is) fs u (x ∷ W) m d Z o (StandsAt (fr.each is (items_in x) ∷ fs) u W (less u g.Iter 0 m) d Z o)
+      by ps c _ _ M (is_iter {name = name} {annots = annots} {ts = ts} {s = s} {a = a} {A = A} form parts fine) rests depth same typed small holds =
+          stands_of h.runs (p.each a A ts (items_in x) ∷ ps) c A (fr.rests_each (block_of fine (iter_leads name annots M form parts fine typed) (small_one name annots ts small)) rests) depth
           (ap (λ q. after (only_if q (each_run (block_run ts) a (items_in x) (at u c) (depth_of ps) A W (less u g.Iter 0 m))) (resume ps (at u c))) (same_kinds_refl A)
           ∙ when_paid u g.Iter 0 m (λ m. each_run (block_run ts) a (items_in x) (at u c) (depth_of ps) A W m) o _ (resume ps (at u c)) refl pays
-          ((iter_over u m o h.runs ts s a (x ∷ W) c ps A parts (ap (λ p. after p (resume ps (at u c))) (sym (form_is _ _ _ _ _ _ _ _ m form)) ∙ same)).1 x W refl))
+          ((iter_over u m o h.runs ts s a (x ∷ W) c ps A parts (ap (λ p. after p (resume ps (at u c))) (sym (form_is _ _ _ _ _ _ _ _ m form)) ∙ same)).1 x W refl)) (over_items ts parts holds)
 
   pub iter_broke : {is : Codes} (x : Val) {W : List Val} → Lacks u g.Iter 0 m → MeetsAt (made.iter is) fs u (x ∷ W) m d Z o → o ≡ failed f.out_of_gas
   iter_broke {is = is} x {W = W} lacks h = meets_by h by
@@ -114,10 +117,10 @@ each_same u m o c ps ts a B V xs same =
 
 module _ {fs : List Frame} {u : Around} {m : Tally} {d : ℕ} {Z : List Kind} {o : Outcome} where
   pub each_end : {is : Codes} {V : List Val} → StandsAt (fr.each is [] ∷ fs) u V m d Z o → StandsAt fs u V m d Z o
-  each_end {is = is} {V = V} h = by h.pending h.context h.types h.rests h.depth h.same
+  each_end {is = is} {V = V} h = by h.pending h.context h.types h.rests h.depth h.same h.holds
     where
-      by : (ps : List Pending) (c : Context) (A : List Kind) → Rests (fr.each is [] ∷ fs) ps u c A Z → d ≡ depth_of ps → resume ps (at u c) A V m ≡ o → StandsAt fs u V m d Z o
-      by _ c B (fr.rests_each {ps = ps} {ts = ts} {a = a} fine rests) depth same = stands_of h.runs ps c B rests depth (each_same u m o c ps ts a B V [] same)
+      by : (ps : List Pending) (c : Context) (A : List Kind) → Rests (fr.each is [] ∷ fs) ps u c A Z → d ≡ depth_of ps → resume ps (at u c) A V m ≡ o → IsFine u c ps A V m.issued m.changes → StandsAt fs u V m d Z o
+      by _ c B (fr.rests_each {ps = ps} {ts = ts} {a = a} fine rests) depth same holds = stands_of h.runs ps c B rests depth (each_same u m o c ps ts a B V [] same) (no_item holds)
 
   pub each_broke : {is : Codes} (x : Val) (xs : List Val) {V : List Val} → Lacks u g.Turn 0 m → StandsAt (fr.each is (x ∷ xs) ∷ fs) u V m d Z o → o ≡ failed f.out_of_gas
   each_broke {is = is} x xs {V = V} lacks h = by h.pending h.context h.types h.rests h.same
@@ -127,10 +130,10 @@ module _ {fs : List Frame} {u : Around} {m : Tally} {d : ℕ} {Z : List Kind} {o
           when_broke u g.Turn 0 m _ o _ (resume ps (at u c)) refl lacks (each_same u m o c ps ts a B V (x ∷ xs) same)
 
   pub each_opens : {is : Codes} (x : Val) (xs : List Val) {V : List Val} → Pays u g.Turn 0 m → StandsAt (fr.each is (x ∷ xs) ∷ fs) u V m d Z o → OpensAt is (fr.each is xs ∷ fs) u (x ∷ V) (less u g.Turn 0 m) d Z o
-  each_opens {is = is} x xs {V = V} pays h = by h.pending h.context h.types h.rests h.depth h.same
+  each_opens {is = is} x xs {V = V} pays h = by h.pending h.context h.types h.rests h.depth h.same h.holds
     where
-      by : (ps : List Pending) (c : Context) (A : List Kind) → Rests (fr.each is (x ∷ xs) ∷ fs) ps u c A Z → d ≡ depth_of ps → resume ps (at u c) A V m ≡ o → OpensAt is (fr.each is xs ∷ fs) u (x ∷ V) (less u g.Turn 0 m) d Z o
-      by _ c B (fr.rests_each {ps = ps} {ts = ts} {a = a} fine rests) depth same =
+      by : (ps : List Pending) (c : Context) (A : List Kind) → Rests (fr.each is (x ∷ xs) ∷ fs) ps u c A Z → d ≡ depth_of ps → resume ps (at u c) A V m ≡ o → IsFine u c ps A V m.issued m.changes → OpensAt is (fr.each is xs ∷ fs) u (x ∷ V) (less u g.Turn 0 m) d Z o
+      by _ c B (fr.rests_each {ps = ps} {ts = ts} {a = a} fine rests) depth same holds =
           opens_of h.runs (p.each a B ts xs ∷ ps) c ts (a ∷ B) B fine (fr.rests_each fine rests) depth
           (sym (after_after (block_run ts (at u c) (depth_of ps) (a ∷ B) (x ∷ V) (less u g.Turn 0 m)) (λ C X m. only_if (same_kinds C B) (each_run (block_run ts) a xs (at u c) (depth_of ps) C X m)) (resume ps (at u c)))
-          ∙ when_paid u g.Turn 0 m _ o _ (resume ps (at u c)) refl pays (each_same u m o c ps ts a B V (x ∷ xs) same))
+          ∙ when_paid u g.Turn 0 m _ o _ (resume ps (at u c)) refl pays (each_same u m o c ps ts a B V (x ∷ xs) same)) (next_item holds)

@@ -1,6 +1,6 @@
 -- MAP, and its further turns.
 use Rattle.std.proofs.Common.{◌≡◌, ℕ, List, [], ◌∷◌, ◌++◌, Some, refl, sym, ap, ◌∙◌, subst}
-use Rattle.rules_base.specs.Tree.{Trees}
+use Rattle.rules_base.specs.Tree.{Trees, prim, seq, none, more}
 use Rattle.rules_gas.specs.declared.Kind.TheVariants as g
 use Rattle.rules_types.specs.Kind.{Kind}
 use Rattle.rules_instructions.specs.Context.{Context}
@@ -13,11 +13,14 @@ use Rattle.mich_instr.specs.Code as made
 use Rattle.mich_frames.specs.Around.{Around, at, less, Pays, Lacks}
 use Rattle.mich_frames.specs.Pending.{Pending, depth_of, block_run, resume}
 use Rattle.mich_frames.specs.Pending as p
+use Rattle.mich_frames.specs.Fine.{IsFine}
 use Rattle.mich_frames.specs.Frames.{Frame, Rests}
 use Rattle.mich_frames.specs.Frames as fr
 use Rattle.mich_frames.specs.Stands.{Runs, StandsAt, MeetsAt, OpensAt}
 use Rattle.mich_frames.proofs.Paying.{after_after, when_paid, when_broke}
-use Rattle.mich_frames.proofs.Made.{stands_of, opens_of, form_is, Case, meets_by}
+use Rattle.mich_frames.proofs.Made.{stands_of, opens_of, form_is, Case, meets_by, block_of, small_one, FineCase, meets_fine}
+use Rattle.mich_frames.proofs.Fine.{node_types, over_mapped, next_mapped, one_made, all_made}
+use Rattle.laws_code.proofs.Leading.{map_leads, map_goes}
 use Rattle.rules_instructions.specs.Same.{same_kinds}
 use Rattle.rules_typing.specs.Typing.{part_kind}
 use Rattle.rules_typing.specs.Nodes.{trees_type}
@@ -61,15 +64,16 @@ module _ {fs : List Frame} {u : Around} {m : Tally} {d : ℕ} {Z : List Kind} {o
           (map_over u m o h.runs ts s a b r V c ps A parts part (ap (λ p. after p (resume ps (at u c))) (sym (form_is _ _ _ _ _ _ _ V m form)) ∙ same)).0
 
   pub map_acts : {is : Codes} (x : Val) {W : List Val} → Pays u g.Map 0 m → MeetsAt (made.map is) fs u (x ∷ W) m d Z o → StandsAt (fr.mapping is x [] (items_in x) ∷ fs) u W (less u g.Map 0 m) d Z o
-  map_acts {is = is} x {W = W} pays h = meets_by h by
+  map_acts {is = is} x {W = W} pays h = meets_fine h by
     where
-      by : Case (made.map is) fs u (x ∷ W) m d Z o (StandsAt (fr.mapping is x [] (items_in x) ∷ fs) u W (less u g.Map 0 m) d Z o)
-      by ps c _ _ _ (is_map {ts = ts} {s = s} {a = a} {b = b} {r = r} {A = A} form parts part fine) rests depth same =
+      by : FineCase (made.map is) fs u (x ∷ W) m d Z o (StandsAt (fr.mapping is x [] (items_in x) ∷ fs) u W (less u g.Map 0 m) d Z o)
+      by ps c _ _ _ (is_map {name = name} {annots = annots} {ts = ts} {s = s} {a = a} {b = b} {r = r} {A = A} form parts part fine) rests depth same typed small holds =
           let w : Mapping = mapping_of a b s x A ts in
           let over = map_over u m o h.runs ts s a b r (x ∷ W) c ps A parts part (ap (λ p. after p (resume ps (at u c))) (sym (form_is _ _ _ _ _ _ _ _ m form)) ∙ same) in
-          stands_of h.runs (p.mapping w [] (items_in x) ∷ ps) c A (fr.rests_mapping fine (subst (λ z. Rests fs ps u c (z ∷ A) Z) (sym over.1) rests)) depth
+          stands_of h.runs (p.mapping w [] (items_in x) ∷ ps) c A (fr.rests_mapping (block_of fine (map_leads part fine) (small_one name annots ts small)) (subst (λ z. Rests fs ps u c (z ∷ A) Z) (sym over.1) rests)) depth
           (ap (λ q. after (only_if q (mapping_run w [] (items_in x) (at u c) (depth_of ps) A W (less u g.Map 0 m))) (resume ps (at u c))) (same_kinds_refl A)
           ∙ when_paid u g.Map 0 m (λ m. mapping_run w [] (items_in x) (at u c) (depth_of ps) A W m) o _ (resume ps (at u c)) refl pays (over.2 x W refl))
+          (over_mapped ts parts (node_types (prim name annots (more (seq ts) none)) (r ∷ A) (map_goes name annots c ts A _ form parts part typed) holds).0 holds)
 
   pub map_broke : {is : Codes} (x : Val) {W : List Val} → Lacks u g.Map 0 m → MeetsAt (made.map is) fs u (x ∷ W) m d Z o → o ≡ failed f.out_of_gas
   map_broke {is = is} x {W = W} lacks h = meets_by h by
@@ -94,11 +98,11 @@ making_same u m o c ps w V ys xs same =
 
 module _ {fs : List Frame} {u : Around} {m : Tally} {d : ℕ} {Z : List Kind} {o : Outcome} where
   pub mapping_end : {is : Codes} {over : Val} {ys V : List Val} → StandsAt (fr.mapping is over ys [] ∷ fs) u V m d Z o → StandsAt fs u (rebuilt over ys ∷ V) m d Z o
-  mapping_end {is = is} {over = over} {ys = ys} {V = V} h = by over h.pending h.context h.types h.rests h.depth h.same
+  mapping_end {is = is} {over = over} {ys = ys} {V = V} h = by over h.pending h.context h.types h.rests h.depth h.same h.holds
     where
-      by : (over : Val) (ps : List Pending) (c : Context) (A : List Kind) → Rests (fr.mapping is over ys [] ∷ fs) ps u c A Z → d ≡ depth_of ps → resume ps (at u c) A V m ≡ o → StandsAt fs u (rebuilt over ys ∷ V) m d Z o
-      by _ _ c _ (fr.rests_mapping {ps = ps} {m = w} fine rests) depth same =
-          stands_of h.runs ps c (with_items w.collection w.result ∷ w.below) rests depth (mapping_same u m o c ps w V ys [] same)
+      by : (over : Val) (ps : List Pending) (c : Context) (A : List Kind) → Rests (fr.mapping is over ys [] ∷ fs) ps u c A Z → d ≡ depth_of ps → resume ps (at u c) A V m ≡ o → IsFine u c ps A V m.issued m.changes → StandsAt fs u (rebuilt over ys ∷ V) m d Z o
+      by _ _ c _ (fr.rests_mapping {ps = ps} {m = w} fine rests) depth same holds =
+          stands_of h.runs ps c (with_items w.collection w.result ∷ w.below) rests depth (mapping_same u m o c ps w V ys [] same) (all_made holds)
 
   pub mapping_broke : {is : Codes} {over : Val} {ys : List Val} (x : Val) (xs : List Val) {V : List Val} → Lacks u g.Turn 0 m → StandsAt (fr.mapping is over ys (x ∷ xs) ∷ fs) u V m d Z o → o ≡ failed f.out_of_gas
   mapping_broke {is = is} {over = over} {ys = ys} x xs {V = V} lacks h = by over h.pending h.context h.types h.rests h.same
@@ -109,15 +113,15 @@ module _ {fs : List Frame} {u : Around} {m : Tally} {d : ℕ} {Z : List Kind} {o
 
   pub mapping_opens : {is : Codes} {over : Val} {ys : List Val} (x : Val) (xs : List Val) {V : List Val} → Pays u g.Turn 0 m → StandsAt (fr.mapping is over ys (x ∷ xs) ∷ fs) u V m d Z o →
       OpensAt is (fr.making is over ys xs ∷ fs) u (x ∷ V) (less u g.Turn 0 m) d Z o
-  mapping_opens {is = is} {over = over} {ys = ys} x xs {V = V} pays h = by over h.pending h.context h.types h.rests h.depth h.same
+  mapping_opens {is = is} {over = over} {ys = ys} x xs {V = V} pays h = by over h.pending h.context h.types h.rests h.depth h.same h.holds
     where
-      by : (over : Val) (ps : List Pending) (c : Context) (A : List Kind) → Rests (fr.mapping is over ys (x ∷ xs) ∷ fs) ps u c A Z → d ≡ depth_of ps → resume ps (at u c) A V m ≡ o →
+      by : (over : Val) (ps : List Pending) (c : Context) (A : List Kind) → Rests (fr.mapping is over ys (x ∷ xs) ∷ fs) ps u c A Z → d ≡ depth_of ps → resume ps (at u c) A V m ≡ o → IsFine u c ps A V m.issued m.changes →
           OpensAt is (fr.making is over ys xs ∷ fs) u (x ∷ V) (less u g.Turn 0 m) d Z o
-      by _ _ c _ (fr.rests_mapping {ps = ps} {m = w} fine rests) depth same =
+      by _ _ c _ (fr.rests_mapping {ps = ps} {m = w} fine rests) depth same holds =
           opens_of h.runs (p.making w ys xs ∷ ps) c w.body (w.item ∷ w.below) (w.result ∷ w.below) fine (fr.rests_making fine rests) depth
           (sym (after_after (block_run w.body (at u c) (depth_of ps) (w.item ∷ w.below) (x ∷ V) (less u g.Turn 0 m))
           (λ C X m. only_if (same_kinds C (w.result ∷ w.below)) (on_top C X (λ _ B y W. mapping_run w (ys ++ y ∷ []) xs (at u c) (depth_of ps) B W m))) (resume ps (at u c)))
-          ∙ when_paid u g.Turn 0 m _ o _ (resume ps (at u c)) refl pays (mapping_same u m o c ps w V ys (x ∷ xs) same))
+          ∙ when_paid u g.Turn 0 m _ o _ (resume ps (at u c)) refl pays (mapping_same u m o c ps w V ys (x ∷ xs) same)) (next_mapped holds)
 
   pub making_top : {is : Codes} {over : Val} {ys xs V : List Val} → StandsAt (fr.making is over ys xs ∷ fs) u V m d Z o → HasTop V
   making_top {is = is} {over = over} {ys = ys} {xs = xs} {V = V} h = by over h.pending h.context h.types h.rests h.same
@@ -126,11 +130,11 @@ module _ {fs : List Frame} {u : Around} {m : Tally} {d : ℕ} {Z : List Kind} {o
       by _ _ c _ (fr.rests_making {ps = ps} {m = w} fine rests) same = has_top (resume ps (at u c)) o h.runs.sound (w.result ∷ w.below) V _ (making_same u m o c ps w V ys xs same)
 
   pub making_ends : {is : Codes} {over : Val} {ys xs : List Val} (y : Val) {W : List Val} → StandsAt (fr.making is over ys xs ∷ fs) u (y ∷ W) m d Z o → StandsAt (fr.mapping is over (ys ++ y ∷ []) xs ∷ fs) u W m d Z o
-  making_ends {is = is} {over = over} {ys = ys} {xs = xs} y {W = W} h = by over h.pending h.context h.types h.rests h.depth h.same
+  making_ends {is = is} {over = over} {ys = ys} {xs = xs} y {W = W} h = by over h.pending h.context h.types h.rests h.depth h.same h.holds
     where
-      by : (over : Val) (ps : List Pending) (c : Context) (A : List Kind) → Rests (fr.making is over ys xs ∷ fs) ps u c A Z → d ≡ depth_of ps → resume ps (at u c) A (y ∷ W) m ≡ o →
+      by : (over : Val) (ps : List Pending) (c : Context) (A : List Kind) → Rests (fr.making is over ys xs ∷ fs) ps u c A Z → d ≡ depth_of ps → resume ps (at u c) A (y ∷ W) m ≡ o → IsFine u c ps A (y ∷ W) m.issued m.changes →
           StandsAt (fr.mapping is over (ys ++ y ∷ []) xs ∷ fs) u W m d Z o
-      by _ _ c _ (fr.rests_making {ps = ps} {m = w} fine rests) depth same =
+      by _ _ c _ (fr.rests_making {ps = ps} {m = w} fine rests) depth same holds =
           stands_of h.runs (p.mapping w (ys ++ y ∷ []) xs ∷ ps) c w.below (fr.rests_mapping fine rests) depth
           (ap (λ q. after (only_if q (mapping_run w (ys ++ y ∷ []) xs (at u c) (depth_of ps) w.below W m)) (resume ps (at u c))) (same_kinds_refl w.below)
-          ∙ making_same u m o c ps w (y ∷ W) ys xs same)
+          ∙ making_same u m o c ps w (y ∷ W) ys xs same) (one_made holds)

@@ -1,41 +1,28 @@
 -- Instructions on contracts and operations.
-use Rattle.std.proofs.Common.{◌≡◌, ℕ, List, [], ◌∷◌, Some, None, refl, sym, ap, ◌∙◌}
-use Rattle.rules_base.specs.Tree.{Tree, seq, Trees}
+use Rattle.std.proofs.Common.{◌≡◌, ℕ, List, [], ◌∷◌, None, refl, ap}
+use Rattle.rules_base.specs.Tree.{Tree}
 use Rattle.rules_types.specs.Kind.{Kind}
-use Rattle.rules_types.specs.Kind as k
-use Rattle.rules_instructions.specs.Context.{Context}
-use Rattle.rules_instructions.specs.Context as place
 use Rattle.rules_values.specs.Val.{Val, Vals, no_val, more_vals}
 use Rattle.rules_values.specs.Val as v
 use Rattle.rules_steps.specs.Failure as f
 use Rattle.rules_evaluation.specs.Surroundings.{Surroundings}
 use Rattle.rules_evaluation.specs.Operations.{Tally}
-use Rattle.rules_evaluation.specs.Outcome.{Outcome, stack, failed, stuck, Go, after, only_if}
+use Rattle.rules_evaluation.specs.Outcome.{Outcome, stack, failed, stuck}
 use Rattle.rules_evaluation.specs.Evaluation.{eval_task}
 use Rattle.mich_instr.specs.Code.{Code, Codes}
 use Rattle.mich_instr.specs.Code as made
 use Rattle.mich_frames.specs.Around.{Around, at, less, Pays}
-use Rattle.mich_frames.specs.Pending.{Pending, depth_of, block_run, resume}
-use Rattle.mich_frames.specs.Pending as p
-use Rattle.mich_frames.specs.Frames.{Frame, Rests}
-use Rattle.mich_frames.specs.Frames as fr
-use Rattle.mich_frames.specs.Stands.{StandsAt, MeetsAt, OpensAt}
-use Rattle.mich_frames.proofs.Paying.{after_after}
-use Rattle.mich_frames.proofs.Made.{opens_of}
+use Rattle.mich_frames.specs.Frames.{Frame}
+use Rattle.mich_frames.specs.Stands.{StandsAt, MeetsAt}
 use Rattle.rules_instructions.specs.Straight.{Straight, OperationRow, on_stack, on_pairs, on_unions, on_collections, on_numbers, on_truth, on_text, on_hashes, on_environment, on_operations, on_tickets}
-use Rattle.rules_instructions.specs.Same.{same_kinds}
 use Rattle.rules_values.specs.Tickets.{tickets}
 use Rattle.rules_steps.specs.Failure.{Failure}
 use Rattle.rules_steps.specs.Changes.{burns}
 use Rattle.rules_steps.specs.Costs.{kind_of, weight_of}
 use Rattle.rules_evaluation.specs.Outcome.{with_changes}
-use Rattle.rules_evaluation.specs.Shapes.{on_top}
-use Rattle.rules_evaluation.specs.Contracts.{Viewed, viewed}
+use Rattle.rules_evaluation.specs.Contracts.{viewed}
 use Rattle.rules_evaluation.specs.Operating.{view_run}
 use Rattle.rules_evaluation.specs.Evaluation.{node}
-use Rattle.laws_evaluation.proofs.Levels.{eval_is}
-use Rattle.mich_instr.specs.Typed.{AreCode}
-use Rattle.mich_frames.specs.Around.{viewing_at, returned}
 use Rattle.rules_instructions.specs.Straight.{HashRow}
 use Rattle.rules_instructions.specs.Straight as i
 use Rattle.rules_steps.specs.Step.{optional}
@@ -48,7 +35,7 @@ use Rattle.rules_evaluation.specs.Issuing.{operation_limit, with_operation}
 use Rattle.mich_frames.specs.Shapes.{HasTop, HasBytes, HasTransfer, HasViewing}
 use Rattle.mich_frames.specs.Rows.{IsPlace, placed}
 use Rattle.mich_frames.proofs.Creating.{issue_is, issue_over}
-use Rattle.mich_frames.proofs.Straights.{row_by, row_same, row_acts, row_fails, row_sound}
+use Rattle.mich_frames.proofs.Straights.{row_acts, row_fails, row_sound}
 
 -- ---- ADDRESS, IMPLICIT_ACCOUNT and CONTRACT
 
@@ -156,24 +143,3 @@ module _ {fs : List Frame} {u : Around} {m : Tally} {d : ℕ} {Z : List Kind} {o
     -- there is no such view
     pub view_none : viewed u.contract_at name a b address ≡ None → StandsAt fs u (v.nothing ∷ W) (with_changes (view_paid u m name a b x address W) (burns (tickets x))) d Z o
     view_none e = row_acts (view_row name a b) h pays _ _ (λ c d B. ap (λ w. view_run (λ t. eval_task (node t)) (at u c) d a b w x B W (view_paid u m name a b x address W)) e)
-
-    view_same : (w : Viewed) → viewed u.contract_at name a b address ≡ Some w → (c : Context) (ps : List Pending) (B : List Kind) →
-        after (does (view_row name a b) (at u c) (depth_of ps) B (x ∷ v.bytes address ∷ W) (view_paid u m name a b x address W)) (resume ps (at u c)) ≡ o →
-        after (view_run (λ t. eval_task (node t)) (at u c) (depth_of ps) a b (Some w) x B W (view_paid u m name a b x address W)) (resume ps (at u c)) ≡ o
-    view_same w e c ps B same = sym (ap (λ w. after (view_run (λ t. eval_task (node t)) (at u c) (depth_of ps) a b w x B W (view_paid u m name a b x address W)) (resume ps (at u c))) e) ∙ same
-
-    -- the view's body runs on its input and the storage
-    pub view_opens : (w : Viewed) (ts : Trees) (is : Codes) → viewed u.contract_at name a b address ≡ Some w → w.body ≡ seq ts → AreCode place.view ts is (k.pair a w.storage ∷ []) (b ∷ []) →
-        OpensAt is (fr.viewing u.environment m.issued m.changes W ∷ fs) (viewing_at u w) (v.both x w.contract.storage ∷ []) (view_paid u m name a b x address W) d Z o
-    view_opens w ts is e is_body fine = row_by (view_row name a b) h (λ c ps B rests depth same.
-        let A : List Kind = k.pair a w.storage ∷ [] in
-        let X : List Val = v.both x w.contract.storage ∷ [] in
-        let y : Surroundings = at (viewing_at u w) place.view in
-        let on_result : Go = λ C Y n. only_if (same_kinds C (b ∷ [])) (on_top C Y (λ _ _ y _. stack B (v.some y ∷ W) (returned m.issued m.changes n))) in
-        let one : after (after (eval_task (node w.body) y (depth_of ps) A X (view_paid u m name a b x address W)) on_result) (resume ps (at u c)) ≡ o = view_same w e c ps B (row_same (view_row name a b) h pays c ps B same) in
-        let two : after (after (eval_task (node (seq ts)) y (depth_of ps) A X (view_paid u m name a b x address W)) on_result) (resume ps (at u c)) ≡ o =
-        sym (ap (λ t. after (after (eval_task (node t) y (depth_of ps) A X (view_paid u m name a b x address W)) on_result) (resume ps (at u c))) is_body) ∙ one in
-        opens_of record { charged = h.runs.charged; sound = h.runs.sound } (p.viewing (at u c) m.issued m.changes b B W ∷ ps) place.view ts A (b ∷ []) fine (fr.rests_viewing {u' = u} refl rests) depth
-        (sym (after_after (block_run ts y (depth_of ps) A X (view_paid u m name a b x address W)) on_result (resume ps (at u c)))
-        ∙ ap (λ z. after (after z on_result) (resume ps (at u c))) (sym (eval_is (node (seq ts)) y h.runs.charged (depth_of ps) A X (view_paid u m name a b x address W)))
-        ∙ two))

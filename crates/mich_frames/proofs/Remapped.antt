@@ -17,10 +17,12 @@ use Rattle.mich_instr.specs.Code.{Codes}
 use Rattle.mich_frames.specs.Around.{Around, at}
 use Rattle.mich_frames.specs.Pending.{Pending, Mapping, mapping_run, depth_of, block_run, resume}
 use Rattle.mich_frames.specs.Pending as p
+use Rattle.mich_frames.specs.Fine.{IsFine}
 use Rattle.mich_frames.specs.Frames.{Frame, Rests}
 use Rattle.mich_frames.specs.Frames as fr
 use Rattle.mich_frames.specs.Stands.{StandsAt}
 use Rattle.mich_frames.proofs.Made.{stands_of}
+use Rattle.mich_frames.proofs.Fine.{other_kept}
 
 -- both make the same of these results with so many more
 abbrev pub AreAlike : (List Val → Val) → (List Val → Val) → List Val → List Val → Type 0
@@ -41,12 +43,12 @@ module _ {fs : List Frame} {u : Around} {m : Tally} {d : ℕ} {Z : List Kind} {o
   -- the collection that is gone over may be another one that is rebuilt alike
   pub remap : {is : Codes} (over other : Val) (ys xs : List Val) {V : List Val} → AreAlike (rebuilt over) (rebuilt other) ys xs → StandsAt (fr.mapping is over ys xs ∷ fs) u V m d Z o →
       StandsAt (fr.mapping is other ys xs ∷ fs) u V m d Z o
-  remap {is = is} over other ys xs {V = V} alike h = by over alike h.pending h.context h.types h.rests h.depth h.same
+  remap {is = is} over other ys xs {V = V} alike h = by over alike h.pending h.context h.types h.rests h.depth h.same h.holds
     where
-      by : (over : Val) → AreAlike (rebuilt over) (rebuilt other) ys xs → (ps : List Pending) (c : Context) (A : List Kind) → Rests (fr.mapping is over ys xs ∷ fs) ps u c A Z → d ≡ depth_of ps → resume ps (at u c) A V m ≡ o →
+      by : (over : Val) → AreAlike (rebuilt over) (rebuilt other) ys xs → (ps : List Pending) (c : Context) (A : List Kind) → Rests (fr.mapping is over ys xs ∷ fs) ps u c A Z → d ≡ depth_of ps → resume ps (at u c) A V m ≡ o → IsFine u c ps A V m.issued m.changes →
           StandsAt (fr.mapping is other ys xs ∷ fs) u V m d Z o
-      by _ alike _ c _ (fr.rests_mapping {ps = ps} {m = w} fine rests) depth same =
+      by _ alike _ c _ (fr.rests_mapping {ps = ps} {m = w} fine rests) depth same holds =
           let w' : Mapping = record w { over = other } in
           stands_of h.runs (p.mapping w' ys xs ∷ ps) c w.below (fr.rests_mapping fine rests) depth
           (ap (λ x. after (only_if (same_kinds w.below w.below) x) (resume ps (at u c)))
-          (sym (each_alike (block_run w.body) w.item w.result (with_items w.collection w.result) (rebuilt w.over) (rebuilt other) xs ys alike (at u c) (depth_of ps) w.below V m)) ∙ same)
+          (sym (each_alike (block_run w.body) w.item w.result (with_items w.collection w.result) (rebuilt w.over) (rebuilt other) xs ys alike (at u c) (depth_of ps) w.below V m)) ∙ same) (other_kept other alike holds)

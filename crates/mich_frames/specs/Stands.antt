@@ -1,19 +1,23 @@
--- Where a run with frames stands: the outcome of what is pending is the outcome of the whole, which is never stuck.
-use Rattle.std.specs.Prelude.{◌≡◌, ◌<◌, ◌≤◌, ◌+◌, ℕ, List, ◌∷◌, Option, Some, None}
-use Rattle.rules_base.specs.Tree.{Tree, Trees}
+-- Where a run with frames stands: the outcome of what is pending is the outcome of the whole, which is never stuck, and values
+-- and tickets are as typed code leaves them.
+use Rattle.std.specs.Prelude.{◌≡◌, ◌<◌, ◌≤◌, ◌+◌, ◌^◌, ℕ, List, ◌∷◌, Option, Some, None}
+use Rattle.rules_base.specs.Tree.{Tree, Trees, size}
 use Rattle.rules_types.specs.Kind.{Kind}
 use Rattle.rules_instructions.specs.Context.{Context}
 use Rattle.rules_values.specs.Val.{Val}
+use Rattle.rules_typing.specs.Nodes.{tree_type}
+use Rattle.rules_typing.specs.Fits.{Leads}
 use Rattle.rules_evaluation.specs.Operations.{Tally}
 use Rattle.rules_steps.specs.Failure.{Failure, depth_limit}
 use Rattle.rules_evaluation.specs.Outcome.{Outcome, failed, stuck, after, block_limit}
 use Rattle.rules_evaluation.specs.Evaluation.{tree_run, eval_task}
 use Rattle.laws_evaluation.specs.Laws.{IsCharged}
 use Rattle.mich_instr.specs.Code.{Code, Codes}
-use Rattle.mich_instr.specs.Typed.{IsCode, AreCode}
+use Rattle.mich_instr.specs.Typed.{IsCode}
 use Rattle.mich_frames.specs.Around.{Around, at}
 use Rattle.mich_frames.specs.Pending.{Pending, depth_of, block_run, resume}
-use Rattle.mich_frames.specs.Frames.{Frame, Rests}
+use Rattle.mich_frames.specs.Fine.{IsFine}
+use Rattle.mich_frames.specs.Frames.{Frame, IsBlock, Rests}
 use Rattle.mich_frames.specs.Frames as fr
 
 -- what holds of the whole
@@ -32,6 +36,7 @@ pub record StandsAt (fs : List Frame) (u : Around) (V : List Val) (m : Tally) (d
   pub rests : Rests fs pending u context types Z
   pub depth : d ≡ depth_of pending
   pub same : resume pending (at u context) types V m ≡ o
+  pub holds : IsFine u context pending types V m.issued m.changes
 
 -- the same where this instruction comes first
 pub record MeetsAt (i : Code) (fs : List Frame) (u : Around) (V : List Val) (m : Tally) (d : ℕ) (Z : List Kind) (o : Outcome) :
@@ -43,9 +48,12 @@ pub record MeetsAt (i : Code) (fs : List Frame) (u : Around) (V : List Val) (m :
   pub types : List Kind
   pub next : List Kind
   pub fine : IsCode context node i types next
+  pub typed : Leads (tree_type node context types) next
+  pub small : size node < 2 ^ 32
   pub rests : Rests fs pending u context next Z
   pub depth : d ≡ depth_of pending
   pub same : after (tree_run eval_task node (at u context) (depth_of pending) types V m) (resume pending (at u context)) ≡ o
+  pub holds : IsFine u context pending types V m.issued m.changes
 
 -- the same where a block of this code comes first
 pub record OpensAt (is : Codes) (fs : List Frame) (u : Around) (V : List Val) (m : Tally) (d : ℕ) (Z : List Kind) (o : Outcome) :
@@ -56,10 +64,11 @@ pub record OpensAt (is : Codes) (fs : List Frame) (u : Around) (V : List Val) (m
   pub nodes : Trees
   pub types : List Kind
   pub next : List Kind
-  pub fine : AreCode context nodes is types next
+  pub fine : IsBlock context nodes is types next
   pub rests : Rests fs pending u context next Z
   pub depth : d ≡ depth_of pending
   pub same : after (block_run nodes (at u context) (depth_of pending) types V m) (resume pending (at u context)) ≡ o
+  pub holds : IsFine u context pending types V m.issued m.changes
 
 -- ---- how a part of a run ends
 

@@ -1,0 +1,2 @@
+//! Lemmas on typed code: what typing says of its nodes.
+#![tactic(auto)]
