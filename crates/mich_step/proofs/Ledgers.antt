@@ -9,6 +9,7 @@ use Rattle.mich_term.specs.TicketView.{held}
 use Rattle.mich_term.specs.declared.ticket.Ticket.{Ticket}
 use Rattle.mich_tickets.specs.Books.{State}
 use Rattle.mich_tickets.specs.Effects.{change, listed_after, Tells}
+use Rattle.mich_tickets.specs.Limits.{IsReady}
 use Rattle.mich_tickets.specs.Prefixes.{among_append}
 use Rattle.mich_tickets.specs.Sums.{minted_of}
 
@@ -51,3 +52,9 @@ tells_more ts t a b c p q = record {
 pub tells_put : (ts : List Ticket) (t : Ticket) (a b c : State) → Tells (burns (map held ts)) a b → Tells (burnt (held t) ∷ []) b c →
     Tells (burns (map held (ts ++ t ∷ []))) a c
 tells_put ts t a b c p q = subst (λ l. Tells (burns l) a c) (sym (map-append held ts (t ∷ []))) (tells_more (map held ts) (held t) a b c p q)
+
+-- ---- the next of the tickets that are left
+
+pub left_ready : (l : State) (left rest : List Ticket) (t : Ticket) → left ≡ t ∷ rest → IsReady l.books.present (map held left) →
+    IsReady l.books.present (held t ∷ map held rest)
+left_ready l left rest t e r = subst (λ ts. IsReady l.books.present (map held ts)) e r

@@ -7,3 +7,4 @@ pub mod Rules
 pub mod Showing
 pub mod Splitting
 pub mod Suiting
+pub mod Taken

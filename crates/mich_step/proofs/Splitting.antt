@@ -11,9 +11,11 @@ use Rattle.rules_steps.specs.TicketSteps.{as_value, ticket_step}
 use Rattle.mich_term.specs.TicketView.{held}
 use Rattle.mich_term.specs.declared.ticket.Ticket.{Ticket}
 use Rattle.mich_tickets.specs.Answers.{IsSplit, IsJoin}
-use Rattle.mich_tickets.specs.Books.{State}
+use Rattle.mich_tickets.specs.Books.{Books, State}
 use Rattle.mich_tickets.specs.Effects.{Tells}
+use Rattle.mich_tickets.specs.Limits.{IsReady}
 use Rattle.mich_step.specs.Parts.{IsTicketsOnTop}
+use Rattle.mich_step.specs.Rule.{tickets_on_top}
 use Rattle.mich_step.specs.Tells.{IsDone, IsMinted, changes_of, split_changes, join_changes}
 use Rattle.mich_stack.specs.Ends.{IsKept, IsEnd, IsFitting}
 use Rattle.mich_stack.specs.Views.{Sight}
@@ -106,6 +108,11 @@ join_tells t u (Some x) old new h = tells_equal old new h.2
 pub join_fits : (e : Environment) (total : Identity → ℤ) (V : List Val) → IsFitting (ticket_step e total i.join_tickets V) → IsTicketsOnTop V
 join_fits e total (both (ticket issuer k content n) (ticket issuer' k' content' n') ∷ V) h = tt
 join_fits e total _ h = h
+
+-- the ticket on top may be burnt
+pub split_ready : (b : Books) (V : List Val) (t : Ticket) (W : List Val) → V ≡ as_value (held t) ∷ W → IsReady b (tickets_on_top V) →
+    IsReady b (held t ∷ [])
+split_ready b V t W e r = subst (λ X. IsReady b (tickets_on_top X)) e r
 
 -- a failure of a mint
 pub minted_error : (s t : Step) (V W : List Val) (old new : State) (e : StepError) → s ≡ t → IsMinted t V old new (Err e) → IsDone s W (Err e)

@@ -11,11 +11,10 @@ use Rattle.rules_steps.specs.Changes.{is_alike}
 use Rattle.rules_steps.specs.Step.{Step, wrong, kept}
 use Rattle.rules_steps.specs.Steps.{step}
 use Rattle.rules_steps.specs.TicketSteps.{most_minted}
+use Rattle.mich_stack.specs.Ends.{gone}
 use Rattle.mich_stack.specs.Keys.{IsKeyOnTop}
 use Rattle.mich_collections.specs.Keys.{SuitsCollections}
-use Rattle.mich_tickets.specs.Books.{Books}
-use Rattle.mich_tickets.specs.Limits.{IsReady}
-use Rattle.mich_step.specs.Ends.{SuitsNumbers}
+use Rattle.mich_step.specs.Ends.{SuitsStack, SuitsNumbers}
 
 -- an address without an entrypoint is a place, and that of a contract is the contract (Michelson reference, "Operations on contracts")
 abbrev pub operation_step : OperationRow → List Val → Step
@@ -37,6 +36,7 @@ SuitsTickets i.join_tickets (both (ticket issuer k content n) (ticket issuer' k'
 SuitsTickets _ V = Unit {0}
 
 abbrev pub Suits : Straight → List Val → Type 0
+Suits (on_stack row) V = SuitsStack row V
 Suits (on_collections row) V = SuitsCollections row V
 Suits (on_numbers row) V = SuitsNumbers row V
 Suits (on_tickets row) V = SuitsTickets row V
@@ -46,14 +46,16 @@ abbrev pub tickets_on_top : List Val → List Held
 tickets_on_top [] = []
 tickets_on_top (v ∷ V) = tickets v
 
--- what joining tickets asks of the books: that both may be burnt
-abbrev pub JoinsReady : Books → TicketRow → List Val → Type 0
-JoinsReady b i.join_tickets V = IsReady b (tickets_on_top V)
-JoinsReady b _ V = Unit {0}
+-- the tickets that an instruction on tickets may burn
+abbrev pub ticket_stake : TicketRow → List Val → List Held
+ticket_stake i.split_ticket V = tickets_on_top V
+ticket_stake i.join_tickets V = tickets_on_top V
+ticket_stake _ V = []
 
-abbrev pub Ready : Books → Straight → List Val → Type 0
-Ready b (on_tickets row) V = JoinsReady b row V
-Ready b _ V = Unit {0}
+-- the tickets that an instruction burns or may burn
+abbrev pub at_stake : Environment → (Identity → ℤ) → Straight → List Val → List Held
+at_stake e total (on_tickets row) V = ticket_stake row V
+at_stake e total s V = gone (rule e total s V)
 
 -- an instruction that burns and mints nothing
 abbrev pub IsQuiet : Straight → Type 0

@@ -1,18 +1,18 @@
 // Groups of instructions that burn tickets, over the ledger.
-ghost use Rattle.std.specs.Prelude.{◌≡◌, ◌+ℤ◌, ◌≤ℤ◌, [], ◌∷◌, false, IfOk, IsTrue, map};
+ghost use Rattle.std.specs.Prelude.{◌≡◌, [], false, IfOk, map};
 ghost use Rattle.mich_undo.specs.History.{Keeps as KeepsBooks};
-ghost use Rattle.rules_steps.specs.Changes.{burnt, burns};
+ghost use Rattle.rules_steps.specs.Changes.{burns};
 ghost use Rattle.rules_steps.specs.Collections.{collection_step};
 ghost use Rattle.rules_steps.specs.Stack.{pair_step, stack_step};
 ghost use Rattle.mich_overload.specs.View.{collection_row, pair_row, stack_row};
 ghost use Rattle.mich_overload.specs.Steps.{is_on_big_map};
-ghost use Rattle.mich_term.specs.TicketView.{held, identity};
+ghost use Rattle.mich_term.specs.TicketView.{held};
 ghost use Rattle.mich_stack.specs.Views.{Sight, values, plain};
-ghost use Rattle.mich_stack.specs.Ends.{Fits};
+ghost use Rattle.mich_stack.specs.Ends.{Fits, gone};
 ghost use Rattle.mich_collections.specs.Keys.{SuitsCollections};
 ghost use Rattle.mich_tickets.specs.Effects.{Tells};
-ghost use Rattle.mich_tickets.specs.Limits.{IsPositive};
-ghost use Rattle.mich_tickets.specs.Sums.{minted_of, burnt_of};
+ghost use Rattle.mich_tickets.specs.Limits.{IsReady};
+ghost use Rattle.mich_step.specs.Ends.{SuitsStack};
 ghost use Rattle.mich_step.specs.Shown.{ShowsTickets};
 ghost use Rattle.mich_step.specs.Tells.{changes_of, Steps};
 
@@ -26,39 +26,15 @@ use mich_term::{Ticket, Value};
 use mich_tickets::{Collector, Ledger};
 use std::alloc::Global;
 
-// Whether no more is burnt with a ticket than was minted.
-pub(crate) fn may_burn(ledger: &Ledger, ticket: &Ticket) -> bool
-    ensures positive { IsTrue result → IsPositive (held ticket.now) }
-    ensures within { IsTrue result → (burnt_of ledger.now.books.present (identity ticket.now.id) +ℤ ticket.now.amount) ≤ℤ minted_of ledger.now.books.present (identity ticket.now.id) }
-{
-    let totals = ledger.totals(&ticket.id);
-    match totals.burnt.checked_add(ticket.amount) {
-        Some(burnt) => ticket.amount > 0 && burnt <= totals.minted,
-        None => false,
-    }
-}
-
-// Burns a ticket. Memory too where more would be burnt than was minted.
-#[tactic(auto, using(mich_undo::proofs::Histories::keeps_same))]
-fn burn_one(alloc: Global, ledger: &mut Ledger, ticket: Ticket) -> Result<(), Memory>
-    ensures tells { IfOk result (λ _. Tells (burnt (held ticket) ∷ []) ledger.old ledger.new) }
-    ensures keeps { KeepsBooks ledger.old.books ledger.new.books }
-{
-    if !may_burn(ledger, &ticket) {
-        return Err(Memory);
-    }
-    ledger.burn(alloc, ticket)?;
-    Ok(())
-}
-
-// Burns tickets, the first before those behind it. Memory too where more would be burnt than was minted.
+// Burns tickets, the first before those behind it.
 #[tactic(auto, using(mich_undo::proofs::Histories::keeps_same, mich_undo::proofs::Histories::keeps_trans, crate::proofs::Ledgers::tells_same))]
 fn burn_all(alloc: Global, ledger: &mut Ledger, tickets: Rows<Ticket>) -> Result<(), Memory>
+    requires { IsReady ledger.old.books.present (map held tickets) }
     ensures tells { IfOk result (λ _. Tells (burns (map held tickets)) ledger.old ledger.new) }
     ensures keeps { KeepsBooks ledger.old.books ledger.new.books }
 {
     for ticket in tickets.into_vec() {
-        burn_one(alloc, ledger, ticket)?;
+        ledger.burn(alloc, ticket)?;
     }
     Ok(())
 }
@@ -79,7 +55,9 @@ pub(crate) fn order(
     stack: &mut Rows<Value>,
     ledger: &mut Ledger,
 ) -> Result<(), StepError>
-    requires { Fits (stack_step (stack_row row.now)) stack.old }
+    requires fits { Fits (stack_step (stack_row row.now)) stack.old }
+    requires suits { SuitsStack (stack_row row.now) (plain stack.old) }
+    requires ready { IsReady ledger.old.books.present (gone (stack_step (stack_row row.now) (plain stack.old))) }
     ensures ends { Steps (stack_step (stack_row row.now)) stack.old stack.new result }
     ensures tells { IfOk result (λ _. (big : Sight) → ShowsTickets big stack.old → Tells (changes_of (stack_step (stack_row row.now) (values big stack.old))) ledger.old ledger.new) }
     ensures keeps { KeepsBooks ledger.old.books ledger.new.books }
@@ -101,7 +79,8 @@ pub(crate) fn pairs(
     stack: &mut Rows<Value>,
     ledger: &mut Ledger,
 ) -> Result<(), StepError>
-    requires { Fits (pair_step (pair_row row.now)) stack.old }
+    requires fits { Fits (pair_step (pair_row row.now)) stack.old }
+    requires ready { IsReady ledger.old.books.present (gone (pair_step (pair_row row.now) (plain stack.old))) }
     ensures ends { Steps (pair_step (pair_row row.now)) stack.old stack.new result }
     ensures tells { IfOk result (λ _. (big : Sight) → ShowsTickets big stack.old → Tells (changes_of (pair_step (pair_row row.now) (values big stack.old))) ledger.old ledger.new) }
     ensures keeps { KeepsBooks ledger.old.books ledger.new.books }
@@ -126,6 +105,7 @@ pub(crate) fn collections(
     requires no_big_map { is_on_big_map (collection_row row.now) ≡ false }
     requires fits { Fits (collection_step (collection_row row.now)) stack.old }
     requires suits { SuitsCollections (collection_row row.now) (plain stack.old) }
+    requires ready { IsReady ledger.old.books.present (gone (collection_step (collection_row row.now) (plain stack.old))) }
     ensures ends { Steps (collection_step (collection_row row.now)) stack.old stack.new result }
     ensures tells { IfOk result (λ _. (big : Sight) → ShowsTickets big stack.old → Tells (changes_of (collection_step (collection_row row.now) (values big stack.old))) ledger.old ledger.new) }
     ensures keeps { KeepsBooks ledger.old.books ledger.new.books }

@@ -1,14 +1,15 @@
 // One instruction without bodies.
-ghost use Rattle.std.specs.Prelude.{◌≡◌, ℤ, true, IfOk};
+ghost use Rattle.std.specs.Prelude.{◌≡◌, ℤ, true, flat_map, IfOk};
 ghost use Rattle.mich_undo.specs.History.{Keeps as KeepsBooks};
-ghost use Rattle.rules_values.specs.Tickets.{Identity};
+ghost use Rattle.rules_values.specs.Tickets.{Identity, tickets};
 ghost use Rattle.mich_overload.specs.Steps.{in_step};
 ghost use Rattle.mich_overload.specs.View.{straight};
 ghost use Rattle.mich_stack.specs.Views.{Sight, values, plain};
 ghost use Rattle.mich_stack.specs.Ends.{Fits, Keeps};
 ghost use Rattle.mich_tickets.specs.Effects.{Tells};
+ghost use Rattle.mich_tickets.specs.Limits.{IsReady};
 ghost use Rattle.mich_tickets.specs.Sums.{minted_of};
-ghost use Rattle.mich_step.specs.Rule.{IsQuiet, Ready, Suits, rule};
+ghost use Rattle.mich_step.specs.Rule.{IsQuiet, Suits, rule};
 ghost use Rattle.mich_step.specs.Shown.{ShowsTickets};
 ghost use Rattle.mich_step.specs.Tells.{changes_of, Steps};
 ghost use Rattle.mich_step.specs.Views.{environment};
@@ -50,8 +51,7 @@ fn quiet(alloc: Global, instr: &Simple, stack: &mut Rows<Value>, env: &Env) -> R
 
 /// What an instruction without bodies makes of a stack and of a ledger of tickets, where and for whom code runs. Failed exactly
 /// where its rule fails; after that and after Memory stack and ledger are given up, and what was written to the ledger can be taken
-/// back. Memory too where more of a ticket would be burnt than was minted. Not for instructions that pack, hash, look up or issue,
-/// or work on big maps (Michelson reference, "Instructions").
+/// back. Not for instructions that pack, hash, look up or issue, or work on big maps (Michelson reference, "Instructions").
 #[tactic(auto, using(mich_undo::proofs::Histories::keeps_same, crate::proofs::Ledgers::tells_same))]
 pub fn step(
     alloc: Global,
@@ -63,7 +63,7 @@ pub fn step(
     requires in_step { in_step (straight instr.now) ≡ true }
     requires fits { Fits (rule (environment env.now) (minted_of ledger.old.books.present) (straight instr.now)) stack.old }
     requires suits { Suits (straight instr.now) (plain stack.old) }
-    requires ready { Ready ledger.old.books.present (straight instr.now) (plain stack.old) }
+    requires ready { IsReady ledger.old.books.present (flat_map tickets (plain stack.old)) }
     ensures ends { Steps (rule (environment env.entry.now) (minted_of ledger.old.books.present) (straight instr.now)) stack.old stack.new result }
     ensures tells { IfOk result (λ _. (big : Sight) → ShowsTickets big stack.old → Tells (changes_of (rule (environment env.entry.now) (minted_of ledger.old.books.present) (straight instr.now) (values big stack.old))) ledger.old ledger.new) }
     ensures keeps { KeepsBooks ledger.old.books ledger.new.books }

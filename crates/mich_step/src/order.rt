@@ -8,11 +8,12 @@ ghost use Rattle.rules_steps.specs.Stack.{stack_step};
 ghost use Rattle.mich_base.specs.TypeView.{kind};
 ghost use Rattle.mich_overload.specs.View.{stack_row};
 ghost use Rattle.mich_stack.specs.Ends.{Fits, Keeps, Ends, gone};
+ghost use Rattle.mich_step.specs.Ends.{SuitsStack};
 
 use mich_base::{Memory, Rows, Ty};
 use mich_overload::StackRow;
 use mich_stack::{StepError, insert_at, pop, push, read_at, split_top, take_at};
-use mich_term::{Burner, Value, discard, shadow};
+use mich_term::{Burner, Value, discard, dup};
 use std::alloc::Global;
 
 // Discards so many values from the top on.
@@ -41,13 +42,14 @@ fn drop_values<B: Burner>(
 }
 
 fn dup_value(alloc: Global, place: u32, stack: &mut Rows<Value>) -> Result<(), StepError>
-    requires { Fits (stack_step (i.dup place)) stack.old }
+    requires fits { Fits (stack_step (i.dup place)) stack.old }
+    requires suits { SuitsStack (i.dup place) (plain stack.old) }
     ensures { Keeps (stack_step (i.dup place)) stack.old stack.new result }
 {
     let Some(value) = read_at(stack, place.saturating_sub(1) as usize) else {
         unreachable!()
     };
-    let copy = shadow(alloc, value)?;
+    let copy = dup(alloc, value)?;
     push(stack, copy)?;
     Ok(())
 }
@@ -142,6 +144,7 @@ pub fn stack_step<B: Burner>(
     burner: &mut B,
 ) -> Result<(), StepError>
     requires fits { Fits (stack_step (stack_row row.now)) stack.old }
+    requires suits { SuitsStack (stack_row row.now) (plain stack.old) }
     requires ready { B.ready burner.old (gone (stack_step (stack_row row.now) (plain stack.old))) }
     ensures ends { Ends (stack_step (stack_row row.now)) stack.old stack.new result }
     ensures tells { IfOk result (λ _. B.told burner.new ≡ B.told burner.old ++ gone (stack_step (stack_row row.now) (plain stack.old))) }

@@ -21,9 +21,8 @@ ghost use Rattle.mich_tickets.specs.Sums.{minted_of};
 ghost use Rattle.mich_step.specs.Views.{environment};
 ghost use Rattle.mich_step.specs.Tells.{changes_of, Steps, IsMinted};
 ghost use Rattle.mich_step.specs.Parts.{IsNumber, IsTicket, IsAmountsOnTop, IsTicketsOnTop};
-ghost use Rattle.mich_step.specs.Rule.{SuitsTickets, JoinsReady, tickets_on_top};
+ghost use Rattle.mich_step.specs.Rule.{SuitsTickets, ticket_stake};
 
-use crate::burning::may_burn;
 use crate::environment::{Env, place_value};
 use crate::pairs::split_pair;
 use mich_base::{Link, Memory, Rows, Ty, copy_type};
@@ -170,13 +169,14 @@ fn optional_parts(alloc: Global, parts: Option<(Ticket, Ticket)>) -> Result<Valu
     Ok(Value::Some(Link::new(alloc, pair)?))
 }
 
-#[tactic(auto, using(mich_undo::proofs::Histories::keeps_same, crate::proofs::Splitting::split_is, crate::proofs::Splitting::split_tells, crate::proofs::Splitting::ends_with, crate::proofs::Splitting::tells_with))]
+#[tactic(auto, using(crate::proofs::Splitting::split_is, crate::proofs::Splitting::split_tells, crate::proofs::Splitting::ends_with, crate::proofs::Splitting::tells_with))]
 fn split_ticket(
     alloc: Global,
     stack: &mut Rows<Value>,
     ledger: &mut Ledger,
 ) -> Result<(), StepError>
-    requires { (e : Environment) × (total : Identity → ℤ) × Fits (ticket_step e total i.split_ticket) stack.old }
+    requires fits { (e : Environment) × (total : Identity → ℤ) × Fits (ticket_step e total i.split_ticket) stack.old }
+    requires ready { IsReady ledger.old.books.present (ticket_stake i.split_ticket (plain stack.old)) }
     ensures ends { (e : Environment) (total : Identity → ℤ) → Steps (ticket_step e total i.split_ticket) stack.old stack.new result }
     ensures tells { IfOk result (λ _. (e : Environment) (total : Identity → ℤ) (big : Sight) → Tells (changes_of (ticket_step e total i.split_ticket (values big stack.old))) ledger.old ledger.new) }
     ensures keeps { KeepsBooks ledger.old.books ledger.new.books }
@@ -186,9 +186,6 @@ fn split_ticket(
     };
     let ticket = ticket_in(top);
     let (a, b) = take_amounts(stack);
-    if !may_burn(ledger, &ticket) {
-        return Err(StepError::Memory);
-    }
     let parts = ledger.split(alloc, ticket, a, b)?;
     let value = optional_parts(alloc, parts)?;
     push(stack, value)?;
@@ -226,7 +223,7 @@ fn join_tickets(
 ) -> Result<(), StepError>
     requires fits { (e : Environment) × (total : Identity → ℤ) × Fits (ticket_step e total i.join_tickets) stack.old }
     requires suits { SuitsTickets i.join_tickets (plain stack.old) }
-    requires ready { IsReady ledger.old.books.present (tickets_on_top (plain stack.old)) }
+    requires ready { IsReady ledger.old.books.present (ticket_stake i.join_tickets (plain stack.old)) }
     ensures ends { (e : Environment) (total : Identity → ℤ) → Steps (ticket_step e total i.join_tickets) stack.old stack.new result }
     ensures tells { IfOk result (λ _. (e : Environment) (total : Identity → ℤ) (big : Sight) → Tells (changes_of (ticket_step e total i.join_tickets (values big stack.old))) ledger.old ledger.new) }
     ensures keeps { KeepsBooks ledger.old.books ledger.new.books }
@@ -250,7 +247,7 @@ pub(crate) fn ticket_step(
 ) -> Result<(), StepError>
     requires fits { Fits (ticket_step (environment env.now) (minted_of ledger.old.books.present) (ticket_row row.now)) stack.old }
     requires suits { SuitsTickets (ticket_row row.now) (plain stack.old) }
-    requires ready { JoinsReady ledger.old.books.present (ticket_row row.now) (plain stack.old) }
+    requires ready { IsReady ledger.old.books.present (ticket_stake (ticket_row row.now) (plain stack.old)) }
     ensures ends { Steps (ticket_step (environment env.entry.now) (minted_of ledger.old.books.present) (ticket_row row.now)) stack.old stack.new result }
     ensures tells { IfOk result (λ _. (big : Sight) → Tells (changes_of (ticket_step (environment env.entry.now) (minted_of ledger.old.books.present) (ticket_row row.now) (values big stack.old))) ledger.old ledger.new) }
     ensures keeps { KeepsBooks ledger.old.books ledger.new.books }

@@ -5,9 +5,18 @@ use Rattle.std.proofs.Common.{rules, SFits, ◌≡◌, [], ◌∷◌, ap, ◌∙
 use Rattle.rules_values.specs.Val.{number, both}
 use Rattle.rules_steps.specs.TicketSteps.{as_value}
 use Rattle.mich_term.specs.TicketView.{held}
-use Rattle.mich_stack.specs.Views.{values}
-use Rattle.mich_step.proofs.Splitting.{split_by}
+use Rattle.mich_term.specs.ValueView.{big_step}
+use Rattle.mich_stack.specs.Views.{values, plain}
+use Rattle.mich_tickets.proofs.Readiness.{ready_first}
+use Rattle.mich_step.proofs.Splitting.{split_ready, split_by}
 use Rattle.mich_step.proofs.tickets.split_ticket.Goals as goal
+
+pub split-requires-clause-within : goal.split-requires-clause-within
+split-requires-clause-within c =
+    let t = c.ticket_in-ticket.result in
+    let b = c.args.ledger.now.books.present in
+    ready_first b (held t) [] (split_ready b (plain c.args.stack.now) t (plain c.pop.new.stack)
+    (c.in-Some.ensures big_step ∙ ap (λ v. v ∷ plain c.pop.new.stack) (c.ticket_in-ticket.ensures big_step)) c.requires.ready)
 
 pub returns-clause-tells : goal.returns-clause-tells
 returns-clause-tells c = λ e total big.
