@@ -18,4 +18,5 @@ pub mod Keeping
 pub mod Capped
 pub mod Ruled
 pub mod Told
+pub mod Suited
 pub mod Straightened

@@ -18,4 +18,4 @@ pub run_begins : (x : Beyond) (costs : Costs) (code : List Instr) (m : State) (c
     StandsAt (fr.rest (codes code) ∷ frames x.sight gs) (around x costs m) (tops x.sight m.stack) (tally x m) 1 Z (outcome_of x costs m c ts A)
 run_begins x costs code m c ts A Z gs e h =
     subst (λ hs. StandsAt (fr.rest (codes code) ∷ frames x.sight hs) (around x costs m) (tops x.sight m.stack) (tally x m) 1 Z (outcome_of x costs m c ts A)) (sym e)
-    (enters (lit< tt) (starts (around x costs m) c ts (codes code) A Z (tops x.sight m.stack) (tally x m) h.charged h.typed h.sound))
+    (enters (lit< tt) (starts (around x costs m) c ts (codes code) A Z (tops x.sight m.stack) (tally x m) h.charged h.block h.fine))

@@ -11,12 +11,12 @@ use Rattle.mich_stack.specs.Views.{Sight, seen}
 use Rattle.mich_instr.specs.View.{codes}
 use Rattle.mich_frames.specs.Around.{Around}
 use Rattle.mich_frames.specs.Frames as fr
-use Rattle.rules_steps.specs.Changes.{minted_in}
+use Rattle.rules_steps.specs.Changes.{minted_in, burnt_in}
 use Rattle.mich_step.specs.Shown.{ShowsTickets}
 use Rattle.mich_step.specs.Views.{environment}
 use Rattle.mich_tickets.specs.Books.{State as Ledger}
 use Rattle.mich_tickets.specs.Effects.{change}
-use Rattle.mich_tickets.specs.Sums.{minted_of}
+use Rattle.mich_tickets.specs.Sums.{minted_of, burnt_of}
 use Rattle.mich_machine.specs.Issues.{issued_by}
 use Rattle.mich_machine.specs.Items.{items_left}
 use Rattle.mich_machine.specs.Made.{making_of}
@@ -48,9 +48,12 @@ frame big (f.Call below) = fr.call (tops big below)
 abbrev pub frames : Sight → List Frame → List fr.Frame
 frames big fs = map (frame big) (reverse fs)
 
--- what was minted of an identity before the changes that a ledger lists
+-- what was minted of an identity before the changes that a ledger lists, and what was burnt
 abbrev pub minted_before : Ledger → Identity → ℤ
 minted_before l id = minted_of l.books.present id -ℤ minted_in id (map change l.changes)
+
+abbrev pub burnt_before : Ledger → Identity → ℤ
+burnt_before l id = burnt_of l.books.present id -ℤ burnt_in id (map change l.changes)
 
 abbrev pub around : Beyond → Costs → State → Around
 around x costs m = record {
@@ -59,6 +62,7 @@ around x costs m = record {
   prices = listed costs;
   contract_at = x.contract_at;
   minted = minted_before m.ledger;
+  burnt = burnt_before m.ledger;
 }
 
 -- the ledger lists the changes of the run

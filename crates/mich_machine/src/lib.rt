@@ -19,7 +19,6 @@ mod paying;
 mod running;
 mod stack;
 mod straights;
-mod suiting;
 mod state;
 
 pub use act::Failed;

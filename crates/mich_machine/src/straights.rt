@@ -10,7 +10,6 @@ ghost use Rattle.mich_machine.specs.Ends.{Comes, Carries, Spends, KeepsState, fa
 use crate::act::{Act, Failed};
 use crate::paying::pay_capped;
 use crate::state::State;
-use crate::suiting::suits;
 use mich_base::Memory;
 use mich_gas::Costs;
 use mich_overload::Simple;
@@ -31,7 +30,7 @@ fn failed(why: StepFailure) -> Failed
     }
 }
 
-// One that asks for nothing but the stack, the tickets and what surrounds the run. Memory too where the stack doesn't suit it.
+// One that asks for nothing but the stack, the tickets and what surrounds the run.
 fn act_step(alloc: Global, m: &mut State, costs: &Costs, instr: &Simple) -> Result<Act, Memory>
     requires in_step { in_step (straight instr.now) ≡ true }
     requires comes { (app : Tree) × Comes (made.straight (straight instr.now) app) costs.now m.old }
@@ -39,9 +38,6 @@ fn act_step(alloc: Global, m: &mut State, costs: &Costs, instr: &Simple) -> Resu
     ensures less { IfOk result (λ a. Spends a m.old.meter m.new.meter) }
     ensures keeps { IfOk result (λ _. KeepsState m.old m.new) }
 {
-    if !suits(instr, &m.stack) {
-        return Err(Memory);
-    }
     let weight = weigh(instr, &m.stack)?;
     if !pay_capped(&mut m.meter, costs, price(instr), weight) {
         return Ok(Act::Failed(Failed::OutOfGas));

@@ -4,6 +4,7 @@ use Rattle.mich_overload.specs.View.{straight}
 use Rattle.mich_machine.specs.View.{tops}
 use Rattle.mich_machine.proofs.Capped.{paid_is, broke_is}
 use Rattle.mich_machine.proofs.Paid.{paid_less}
+use Rattle.mich_machine.proofs.Suited.{suits_plain, ready_plain}
 use Rattle.mich_machine.proofs.Straightened.{heavy, step_fits, step_stands, step_failed}
 use Rattle.mich_frames.proofs.Straights.{row_broke}
 use Rattle.mich_machine.proofs.straights.act_step.Goals as goal
@@ -17,8 +18,8 @@ step-requires c =
     record {
       in_step = c.requires.in_step;
       fits = step_fits x c.args.costs.now c.args.m.now r c.requires.in_step t.1.5 p.0;
-      suits = c.suits.ensures.suits c.if-not-suits.false;
-      ready = c.suits.ensures.ready c.if-not-suits.false c.args.m.now.ledger.books.present;
+      suits = suits_plain x c.args.costs.now c.args.m.now r t.1.5;
+      ready = ready_plain x c.args.costs.now c.args.m.now r t.1.5;
     }
 
 pub returns-then-not-pay_capped-clause-acts : goal.returns-then-not-pay_capped-clause-acts

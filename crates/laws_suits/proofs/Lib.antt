@@ -1,0 +1,3 @@
+pub mod Suiting
+pub mod Rows
+pub mod Tickets
