@@ -67,7 +67,7 @@ part_of : (x h a : ℤ) → x +ℤ a ≡ h +ℤ pos 0 → pos 0 ≤ℤ x → a �
 part_of x h a e p = omega (arith, ints, e, p)
 
 -- a contract holds no more than is held
-held_within : (w : World) (hash : List ℕ) (c : Contract) (id : Identity) → IsOrderly w → contract_at w hash ≡ Some c →
+pub held_within : (w : World) (hash : List ℕ) (c : Contract) (id : Identity) → IsOrderly w → contract_at w hash ≡ Some c →
     amount_in id c.storage ≤ℤ held w id
 held_within w hash c id o there =
     let d : Contract = record c { storage = v.unit } in
@@ -187,7 +187,7 @@ module _ (e : Environment) (s : Setting) (w : World) (t : Target) (argument : Va
       subst (λ (s : Script). FitsIn w s.storage is_met.contract.storage)
       (script_one is_met.contract.script stores.0 t.script stores.1 is_met.read) stores.3
 
-  before_amount : (id : Identity) → amount_in id (value_before t argument is_met.contract) ≡ amount_in id argument +ℤ amount_in
+  pub before_amount : (id : Identity) → amount_in id (value_before t argument is_met.contract) ≡ amount_in id argument +ℤ amount_in
       id is_met.contract.storage
   before_amount id =
       in_both id (wrapped t.entry.path argument) is_met.contract.storage

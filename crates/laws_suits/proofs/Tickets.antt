@@ -1,5 +1,5 @@
 -- The tickets on a stack of typed code that runs: their amounts are positive, and with what was burnt they are within what was minted.
-use Rattle.std.proofs.Common.{◌≡◌, ◌^◌, ◌-◌, suc, true, List, [], ◌∷◌, refl, sym, ap, ◌∙◌, subst, arith}
+use Rattle.std.proofs.Common.{◌≡◌, ◌^◌, ◌-◌, true, List, [], ◌∷◌, sym, subst, arith}
 use Rattle.std.specs.Prelude.{ℤ, pos, ◌+ℤ◌, ◌≤ℤ◌, ◌<ℤ◌, int_le}
 use Rattle.std.specs.List.{All, AllByRecursion, flat_map}
 use Rattle.std.proofs.lemmas.Bool.{and_parts}
@@ -23,7 +23,7 @@ use Rattle.laws_agreement.specs.Totals as ticket
 use Rattle.mich_tickets.specs.Books.{Books}
 use Rattle.mich_tickets.specs.Sums.{minted_of, burnt_of}
 use Rattle.mich_tickets.specs.Limits.{IsPositive, IsReady}
-use Rattle.mich_frames.specs.Around.{Around, at}
+use Rattle.mich_frames.specs.Around.{Around}
 use Rattle.mich_frames.specs.Pending.{Pending}
 use Rattle.mich_frames.specs.Fine.{stock, minted_by, burnt_by, IsFine}
 use Rattle.mich_frames.proofs.Fine.{stock_positive}

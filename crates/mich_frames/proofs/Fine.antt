@@ -46,7 +46,7 @@ use Rattle.mich_frames.specs.Fine.{stock, minted_by, burnt_by, IsMapping, Pendin
 
 -- ---- what is pending
 
-stock_positive : (id : Identity) (w : Known) (ps : List Pending) → PendingFits w ps → pos 0 ≤ℤ stock id ps
+pub stock_positive : (id : Identity) (w : Known) (ps : List Pending) → PendingFits w ps → pos 0 ≤ℤ stock id ps
 stock_positive id w [] h = omega (arith, ints)
 stock_positive id w (p.rest ts ∷ ps) h = stock_positive id w ps h
 stock_positive id w (p.turns A ts ∷ ps) h = stock_positive id w ps h

@@ -1,12 +1,11 @@
 // A run of code from its beginning.
 ghost use Rattle.std.specs.Prelude.{List, IfOk};
-ghost use Rattle.rules_base.specs.Tree.{Trees};
 ghost use Rattle.rules_types.specs.Kind.{Kind};
-ghost use Rattle.rules_instructions.specs.Context.{Context};
+ghost use Rattle.rules_evaluation.specs.Outcome.{Outcome};
 ghost use Rattle.mich_machine.specs.View.{Beyond};
-ghost use Rattle.mich_machine.specs.Begins.{Begins, outcome_of};
-ghost use Rattle.mich_machine.specs.Runs.{IsEnd, state_of};
+ghost use Rattle.mich_machine.specs.Begins.{Opens};
 ghost use Rattle.mich_machine.specs.Ends.{KeepsState};
+ghost use Rattle.mich_machine.specs.Runs.{IsEnd, state_of};
 
 use crate::machine::{Ended, Machine, work};
 use crate::state::State;
@@ -19,8 +18,8 @@ use std::alloc::Global;
 /// counts or with the same failure. It has no answer for a stack of the wrong type. Memory where there is no room for it, and,
 /// so far, at instructions that aren't built (Michelson reference, "Semantics").
 pub fn run_code(alloc: Global, code: Block, state: State, costs: &Costs) -> Result<Ended, Memory>
-    requires { (x : Beyond) × (c : Context) × (ts : Trees) × (A : List Kind) × (Z : List Kind) × Begins x costs.now code state c ts A Z }
-    ensures ends { (x : Beyond) (c : Context) (ts : Trees) (A : List Kind) (Z : List Kind) → Begins x costs.now code state c ts A Z → IfOk result (λ e. IsEnd e x Z (outcome_of x costs.now state c ts A)) }
+    requires { (x : Beyond) × (Z : List Kind) × (o : Outcome) × Opens x costs.now code state Z o }
+    ensures ends { (x : Beyond) (Z : List Kind) (o : Outcome) → Opens x costs.now code state Z o → IfOk result (λ e. IsEnd e x Z o) }
     ensures keeps { IfOk result (λ e. KeepsState state (state_of e)) }
 {
     let m = Machine {
