@@ -1,10 +1,6 @@
 -- Where an instruction without bodies comes first, the stack suits it, and its tickets may be burnt.
 use Rattle.std.proofs.Common.{◌≡◌, ℕ, List, subst}
-<<<<<<< HEAD
-use Rattle.std.specs.Prelude.{ℤ, pos, ◌+ℤ◌, ◌≤ℤ◌}
-=======
 use Rattle.std.specs.Prelude.{◌+ℤ◌, ◌≤ℤ◌}
->>>>>>> d229ee74dfafce4e48f5fe8b39146ffed27cba14
 use Rattle.std.specs.List.{AllByRecursion, flat_map}
 use Rattle.rules_base.specs.Tree.{Tree, Trees}
 use Rattle.rules_base.specs.Primitives.{primitive_of_name}
