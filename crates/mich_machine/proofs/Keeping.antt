@@ -11,6 +11,9 @@ same_keeps old new e f = record {
   group = ap (λ n. n.group) f;
 }
 
+pub keeps_group : (old new : State) → new.ledger ≡ old.ledger → new.counts.group ≡ old.counts.group → KeepsState old new
+keeps_group old new e f = record { books = subst (λ l. Keeps old.ledger.books l.books) (sym e) (keeps_same old.ledger.books); group = f }
+
 pub keeps_state : (s : State) → KeepsState s s
 keeps_state s = record { books = keeps_same s.ledger.books; group = refl }
 

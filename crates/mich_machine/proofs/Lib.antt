@@ -18,5 +18,6 @@ pub mod Keeping
 pub mod Capped
 pub mod Ruled
 pub mod Told
+pub mod Issued
 pub mod Suited
 pub mod Straightened

@@ -9,6 +9,7 @@ mod calls;
 mod dipping;
 mod frame;
 mod giving;
+mod issuing;
 mod items;
 mod iterating;
 mod loops;

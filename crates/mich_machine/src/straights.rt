@@ -8,6 +8,7 @@ ghost use Rattle.mich_stack.specs.Views.{Sight, failure as step_failure};
 ghost use Rattle.mich_machine.specs.Ends.{Comes, Carries, Spends, KeepsState, failure};
 
 use crate::act::{Act, Failed};
+use crate::issuing::act_operation;
 use crate::paying::pay_capped;
 use crate::state::State;
 use mich_base::Memory;
@@ -49,7 +50,8 @@ fn act_step(alloc: Global, m: &mut State, costs: &Costs, instr: &Simple) -> Resu
     }
 }
 
-// Memory, so far, for those that pack, hash, look up or issue, or work on big maps.
+// Memory, so far, for those that pack, hash or look up, or work on big maps.
+#[tactic(auto, using(crate::proofs::Keeping::keeps_group))]
 pub(crate) fn act_straight(
     alloc: Global,
     m: &mut State,
@@ -61,9 +63,12 @@ pub(crate) fn act_straight(
     ensures less { IfOk result (λ a. Spends a m.old.meter m.new.meter) }
     ensures keeps { IfOk result (λ _. KeepsState m.old m.new) }
 {
-    if !instr.in_step() {
-        return Err(Memory);
+    if instr.in_step() {
+        let act = act_step(alloc, m, costs, instr)?;
+        return Ok(act);
     }
-    let act = act_step(alloc, m, costs, instr)?;
-    Ok(act)
+    match instr {
+        Simple::Operations(row) => Ok(act_operation(alloc, m, costs, row)?),
+        _ => Err(Memory),
+    }
 }

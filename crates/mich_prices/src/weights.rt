@@ -15,7 +15,6 @@ use mich_stack::read_at;
 use mich_term::{Value, weight};
 
 // The weight of a value that may be there.
-#[tactic(auto, using(crate::proofs::Weighed::found_weighs))]
 fn found_weight(value: Option<&Value>) -> u64
     ensures { (big : Sight) → result ≡ capped (weight_found (option_map (λ v. seen big v.now) value.entry)) }
 {
