@@ -10,17 +10,20 @@ use Rattle.laws_evaluation.specs.Laws.{IsCharged}
 use Rattle.mich_term.specs.Weights.{capped}
 use Rattle.mich_machine.specs.Ends.{IsPaid}
 
+too_much : (base c p old most : ℕ) → c ≡ most → c ≤ p → 1 ≤ base → old ≤ most → base + p ≤ old → ⊥
+too_much base c p old most f g one small le = omega (arith, f, g, one, small, le)
+
+grows : (k c : ℕ) → c ≤ suc k * c
+grows k c = let h : 1 * c ≤ suc k * c = mul-le-mul_right c (omega arith) in omega (arith, h)
+
 -- what can be paid at a capped weight costs the same at the whole one
 same_cost : (base n w c old most : ℕ) → c ≡ min w most → 1 ≤ base → old ≤ most → base + n * c ≤ old → base + n * w ≡ base + n * c
-same_cost base zero w c old most e one small le = refl
+same_cost base zero w c old most e one small le = omega arith
 same_cost base (suc k) w c old most e one small le = by (cases_lt w most)
   where
-    at_least : c ≤ suc k * c
-    at_least = let h : 1 * c ≤ suc k * c = mul-le-mul_right c (omega arith) in omega (arith, h)
-
     by : (w < most) ⊎ (most ≤ w) → base + suc k * w ≡ base + suc k * c
-    by (inl h) = ap (λ x. base + suc k * x) (sym (e ∙ min-eq_left (omega arith)))
-    by (inr h) = let f : c ≡ most = e ∙ min-eq_right h in let g = at_least in absurd (omega (arith, f, g, one, small, le))
+    by (inl h) = let le : w ≤ most = omega arith in ap (λ x. base + suc k * x) (sym (e ∙ min-eq_left le))
+    by (inr h) = absurd (too_much base c (suc k * c) old most (e ∙ min-eq_right h) (grows k c) one small le)
 
 pub capped_paid : (p : Listed) (kind : Priced) (w c old new : ℕ) (b : Bool) → c ≡ capped w → IsCharged p → old ≤ 2 ^ 64 - 1 → IsPaid b p kind c old new → IsPaid b p kind w old new
 capped_paid p kind w c old new true e charged small h =

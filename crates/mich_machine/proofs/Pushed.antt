@@ -14,7 +14,8 @@ use Rattle.mich_data.specs.Whole.{Layer, IsSimple, IsOption, IsEither, IsPair, I
 use Rattle.mich_term.specs.View.{vals_of, pairs_of}
 use Rattle.mich_term.specs.ValueView.{val, value_step, big_step, big_pairs}
 use Rattle.mich_term.specs.declared.datum.Datum.{Datum}
-use Rattle.mich_term.specs.declared.value.Value.{Value, out-Value, map-Value, fold_out-Value}
+use Rattle.mich_term.specs.declared.value.Value.{Value, out-Value, map-Value}
+use Rattle.mich_term.specs.declared.value.Value.TheFolds.{fold_out-Value}
 use Rattle.mich_term.specs.declared.value.Value.TheOpen.{Value-F}
 use Rattle.mich_term.specs.declared.value.BigMap.{BigMap}
 use Rattle.mich_stack.specs.Views.{Sight, seen}
