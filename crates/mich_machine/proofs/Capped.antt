@@ -34,7 +34,6 @@ capped_paid p kind w c old new false e charged small h =
     let more : (price_of p kind).coefficient * c ≤ (price_of p kind).coefficient * w = mul-le-mul_left (price_of p kind).coefficient le in
     omega (arith, more, h)
 
-
 -- what was paid, and what wasn't, of a kind
 module _ {p : Listed} {kind given : Priced} {w old new : ℕ} {b : Bool} where
   pub paid_is : b ≡ true → given ≡ kind → IsPaid b p given w old new → IsPaid true p kind w old new

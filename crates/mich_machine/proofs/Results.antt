@@ -39,7 +39,6 @@ abbrev pub over_table : Codes → List Datum → List Val → List Val → Frame
 over_table is ks ys xs = fr.mapping is (v.table (keyed ks)) ys xs
 
 module _ (big : Sight) {is : Codes} {fs : List Frame} {u : Around} {m : Tally} {d : ℕ} {Z : List Kind} {o : Outcome} {V : List Val} where
-
   -- ---- lists
 
   pub list_ends : (w : OverList) → w.left ≡ [] → StandsAt (list_mapping big is w ∷ fs) u V m d Z o → StandsAt fs u (seen big (value.List w.made) ∷ V) m d Z o

@@ -94,13 +94,7 @@ fn act_transfer(m: &mut State, costs: &Costs) -> Result<Act, Memory>
     Ok(Act::On)
 }
 
-fn act_emit(
-    alloc: Global,
-    m: &mut State,
-    costs: &Costs,
-    tag: &Text,
-    ty: &Ty,
-) -> Result<Act, Memory>
+fn act_emit(alloc: Global, m: &mut State, costs: &Costs, tag: &Text, ty: &Ty) -> Result<Act, Memory>
     requires { (app : Tree) × Comes (made.straight (on_operations (i.emit tag.now (kind ty.now))) app) costs.now m.old }
     ensures acts { (app : Tree) → Carries (made.straight (on_operations (i.emit tag.now (kind ty.now))) app) costs.now m.old m.new result }
     ensures less { IfOk result (λ a. Spends a m.old.meter m.new.meter) }

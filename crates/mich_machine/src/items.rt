@@ -56,10 +56,7 @@ fn elements_of(alloc: Global, set: &Elements) -> Result<Rows<Value>, Memory>
 }
 
 // The entries of a map, in order.
-pub(crate) fn entries_of(
-    alloc: Global,
-    table: Table<Value>,
-) -> Result<Rows<(Datum, Value)>, Memory>
+pub(crate) fn entries_of(alloc: Global, table: Table<Value>) -> Result<Rows<(Datum, Value)>, Memory>
     ensures { IfOk result (λ es. es ≡ table) }
 {
     let mut entries = Rows::new(alloc);

@@ -2,8 +2,8 @@
 #![tactic(auto)]
 
 mod act;
-mod bodies;
 mod beginning;
+mod bodies;
 mod branches;
 mod calls;
 mod dipping;
@@ -19,8 +19,8 @@ mod mapping;
 mod paying;
 mod running;
 mod stack;
-mod straights;
 mod state;
+mod straights;
 
 pub use act::Failed;
 pub use beginning::run_code;

@@ -4,7 +4,10 @@ ghost use Rattle.rules_steps.specs.Costs.{kind_of, stack_kind, pair_kind, union_
 ghost use Rattle.mich_overload.specs.View.{straight, stack_row, pair_row, union_row, collection_row, number_row, logic_row, text_row, hash_row, environment_row, operation_row, ticket_row};
 
 use mich_gas::Kind;
-use mich_overload::{CollectionRow, EnvironmentRow, HashRow, LogicRow, NumberRow, OperationRow, PairRow, StackRow, TextRow, TicketRow, UnionRow, Simple};
+use mich_overload::{
+    CollectionRow, EnvironmentRow, HashRow, LogicRow, NumberRow, OperationRow, PairRow, Simple,
+    StackRow, TextRow, TicketRow, UnionRow,
+};
 
 fn stack_price(row: &StackRow) -> Kind
     ensures { result ≡ stack_kind (stack_row row.now) }
@@ -57,7 +60,8 @@ fn collection_price(row: &CollectionRow) -> Kind
         CollectionRow::SizeList | CollectionRow::SizeSet | CollectionRow::SizeMap => Kind::Size,
         CollectionRow::MemSet | CollectionRow::MemMap | CollectionRow::MemBigMap => Kind::Mem,
         CollectionRow::GetMap | CollectionRow::GetBigMap => Kind::Get,
-        CollectionRow::UpdateSet | CollectionRow::UpdateMap | CollectionRow::UpdateBigMap => Kind::Update,
+        CollectionRow::UpdateSet | CollectionRow::UpdateMap | CollectionRow::UpdateBigMap =>
+            Kind::Update,
         CollectionRow::GetAndUpdateMap | CollectionRow::GetAndUpdateBigMap => Kind::GetAndUpdate,
     }
 }
@@ -102,7 +106,10 @@ fn text_price(row: &TextRow) -> Kind
     ensures { result ≡ text_kind (text_row row.now) }
 {
     match row {
-        TextRow::ConcatStrings | TextRow::ConcatBytes | TextRow::ConcatStringList | TextRow::ConcatBytesList => Kind::Concat,
+        TextRow::ConcatStrings
+        | TextRow::ConcatBytes
+        | TextRow::ConcatStringList
+        | TextRow::ConcatBytesList => Kind::Concat,
         TextRow::SliceString | TextRow::SliceBytes => Kind::Slice,
         TextRow::SizeString | TextRow::SizeBytes => Kind::Size,
     }
