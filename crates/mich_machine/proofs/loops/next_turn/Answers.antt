@@ -1,8 +1,11 @@
 use Rattle.rules_gas.specs.declared.Kind.TheVariants as g
 use Rattle.mich_gas.specs.View.{listed}
-use Rattle.mich_frames.proofs.Loops.{turns_end, turns_broke, turn_opens}
+use Rattle.mich_frames.proofs.Loops.{turns_top, turns_end, turns_broke, turn_opens}
 use Rattle.mich_machine.proofs.Paid.{opens_paid, paid_less}
 use Rattle.mich_machine.proofs.loops.next_turn.Goals as goal
+
+pub pop_truth-requires : goal.pop_truth-requires
+pop_truth-requires c = (c.requires.0.sight, turns_top c.requires.5)
 
 pub returns-then-not-pop_truth-clause-acts : goal.returns-then-not-pop_truth-clause-acts
 returns-then-not-pop_truth-clause-acts c = λ x fs d Z o h.
