@@ -19,3 +19,9 @@ pub returns-clause-less : goal.returns-clause-less
 returns-clause-less c =
     let p = rw c.if-not-pay.false at c.pay.ensures in
     paid_less (listed c.args.costs.now) g.TransferTokens 0 _ _ c.requires.1.5.runs.charged p.0 p.1
+
+pub pop_amount-requires : goal.pop_amount-requires
+pop_amount-requires c =
+    let p = rw c.if-not-pay.false at c.pay.ensures in
+    let x = c.requires.1.0 in
+    (x.sight, transfer_second _ _ (rw (c.pop-argument.ensures x.sight) at (transfer_top p.0 c.requires.1.5)))
