@@ -33,4 +33,4 @@ returns-clause-acts c = λ app x fs d Z o h.
     let W = tops x.sight c.pop-value.new.stack in
     rw (c.in_ok-push-2.ensures x.sight)
     (stands_issued x c.args.costs.now c.args.m.now c.push-2.new.stack c.pay.new.meter c.count_operation.new.counts c.push.new.self g.Emit 0 (event c.args.tag.now (kind c.args.ty.now) (seen x.sight v))
-    (i.Event c.in-Some.number c.in_ok-tag.tag c.in_ok-ty.ty v) c.in-Some.number p.1 n.0 n.2 c.count_operation.ensures.others.0 c.count_operation.ensures.others.1 c.in_ok-push.ensures ? ?)
+    (i.Event c.in-Some.number c.in_ok-tag.tag c.in_ok-ty.ty v) c.in-Some.number p.1 n.0 n.2 c.count_operation.ensures.others.0 c.count_operation.ensures.others.1 c.in_ok-push.ensures.pushed ? ?)

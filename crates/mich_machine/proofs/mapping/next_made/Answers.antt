@@ -13,14 +13,14 @@ next_value-requires c =
       r.2,
       r.3,
       r.4,
-      value_made r.0.sight c.in-Value.work (record c.in-Value.work { made = c.push.new.self }) c.pop-result.result refl c.in_ok-push-in-Value.ensures
+      value_made r.0.sight c.in-Value.work (record c.in-Value.work { made = c.push.new.self }) c.pop-result.result refl c.in_ok-push-in-Value.ensures.pushed
           (rw (c.pop-result.ensures r.0.sight, c.in-Value.is) at r.5),
     )
 
 pub returns-in_ok-next_value-in-Value-clause-acts : goal.returns-in_ok-next_value-in-Value-clause-acts
 returns-in_ok-next_value-in-Value-clause-acts c = λ x fs d Z o h.
     c.in_ok-next_value-in-Value.ensures.acts x fs d Z o
-    (value_made x.sight c.in-Value.work (record c.in-Value.work { made = c.push.new.self }) c.pop-result.result refl c.in_ok-push-in-Value.ensures (rw (c.pop-result.ensures x.sight, c.in-Value.is) at h))
+    (value_made x.sight c.in-Value.work (record c.in-Value.work { made = c.push.new.self }) c.pop-result.result refl c.in_ok-push-in-Value.ensures.pushed (rw (c.pop-result.ensures x.sight, c.in-Value.is) at h))
 
 pub next_entry-requires : goal.next_entry-requires
 next_entry-requires c =
