@@ -1,0 +1,42 @@
+// Operations that a contract issued.
+ghost use Rattle.std.specs.Prelude.{IfOk};
+ghost use Rattle.rules_world.specs.Application.{apply};
+ghost use Rattle.rules_world.specs.Groups.{setting_of};
+ghost use Rattle.rules_world.specs.World.{World as PlainWorld};
+ghost use Rattle.mich_bigmap.specs.Extended.{Extends};
+ghost use Rattle.mich_gas.specs.View.{listed};
+ghost use Rattle.mich_machine.specs.Calls.{counts_of, IsHanded, IsHosting};
+ghost use Rattle.mich_world.specs.Marks.{KeepsWorld};
+ghost use Rattle.mich_operations.specs.Going.{Begins, EndsAs, WithMemory, issued_by};
+
+use crate::applied::{Applied, ApplyError};
+use mich_forms::KeyHash;
+use mich_gas::{Costs, Meter};
+use mich_instr::Issued;
+use mich_machine::{Bodies, Counts};
+use mich_world::World;
+use std::alloc::Global;
+
+/// Applies an operation that the contract of these 20 bytes issued. Failed exactly where the rules say that it fails; the world can
+/// then be taken back to an earlier mark. After Memory the world is given up (Octez "Operations", internal operations).
+pub fn apply_issued(
+    alloc: Global,
+    world: &mut World,
+    costs: &Costs,
+    source: KeyHash,
+    meter: &mut Meter,
+    counts: &mut Counts,
+    bodies: &mut Bodies,
+    by: [u8; 20],
+    operation: Issued,
+) -> Result<Applied, ApplyError>
+    requires next { (w : PlainWorld) × Begins world.old w (setting_of (listed costs.now) counts.old.group source) (issued_by world.old.store.bases.present by operation) (counts_of counts.old) }
+    requires hosting { IsHosting world.old }
+    requires handed { IsHanded world.old.store.bases.present operation }
+    ensures ends { (w : PlainWorld) → Begins world.old w (setting_of (listed costs.entry.now) counts.old.group source) (issued_by world.old.store.bases.present by operation) (counts_of counts.old) → EndsAs (apply (setting_of (listed costs.entry.now) counts.old.group source) w (issued_by world.old.store.bases.present by operation) meter.old (counts_of counts.old)) world.new meter.new counts.old counts.new result }
+    ensures hosting { IfOk result (λ _. IsHosting world.new) }
+    ensures bases { IfOk result (λ _. Extends world.old.store.bases.present world.new.store.bases.present) }
+    ensures keeps { WithMemory result (KeepsWorld world.old world.new) }
+{
+    Err(ApplyError::Memory)
+}

@@ -1,0 +1,10 @@
+//! One operation of a group: a transfer, an origination, a gift of tickets or an event is applied to the world.
+#![tactic(auto)]
+
+mod action;
+mod applied;
+mod issued;
+
+pub use action::apply_action;
+pub use applied::{Applied, ApplyError};
+pub use issued::apply_issued;
