@@ -1,5 +1,5 @@
 -- Operations that wait, as a list whose last one is next.
-use Rattle.std.proofs.Common.{◌≡◌, ℕ, List, [], ◌∷◌, ◌++◌, map, refl, sym, ap, ◌∙◌, subst}
+use Rattle.std.proofs.Common.{◌≡◌, ℕ, true, is_some, List, [], ◌∷◌, ◌++◌, map, refl, sym, ap, ◌∙◌, subst}
 use Rattle.std.specs.Prelude.{reverse}
 use Rattle.std.specs.List.{AllByRecursion}
 use Rattle.std.proofs.lemmas.List.{append-nil, append_assoc, map-append, reverse-append, reverse-reverse}
@@ -17,7 +17,10 @@ use Rattle.mich_instr.specs.View.{script_node}
 use Rattle.mich_instr.specs.declared.issued.Issued.{Issued}
 use Rattle.mich_instr.specs.declared.issued.Issued.TheVariants as i
 use Rattle.mich_machine.specs.Calls.{issued_in, IsHanded}
-use Rattle.mich_operations.specs.Going.{issued_by}
+use Rattle.mich_operations.specs.Going.{issued_by, KeepsContracts}
+use Rattle.mich_base.specs.Counted.{IsNotEmpty}
+use Rattle.mich_world.specs.Holders.{contract_at}
+use Rattle.mich_world.specs.World.{World}
 use Rattle.mich_group.specs.Waiting.{sent, sent_by, all_sent, AreHanded}
 use Rattle.mich_group.specs.declared.waiting.Sent.{Sent}
 
@@ -58,19 +61,29 @@ module _ {X : Type 0} (P : X → Type 0) where
   all_back [] ys a = a
   all_back (x ∷ xs) ys a = all_back xs ys a.1
 
-pub handed_front : (bs : Bases) (ss : List Sent) (s : Sent) → AreHanded bs (ss ++ s ∷ []) → AreHanded bs ss
-handed_front bs ss s h = all_front (λ (s : Sent). IsHanded bs s.operation) ss (s ∷ []) h
+-- what is so of each
+abbrev IsHeld : World → Sent → Type 0
+IsHeld v s = IsHanded v.store.bases.present s.operation × (is_some (contract_at v.funds.present s.by) ≡ true)
 
-pub handed_last : (bs : Bases) (ss : List Sent) (s : Sent) → AreHanded bs (ss ++ s ∷ []) → IsHanded bs s.operation
-handed_last bs ss s h = (all_back (λ (s : Sent). IsHanded bs s.operation) ss (s ∷ []) h).0
+pub handed_front : (v : World) (ss : List Sent) (s : Sent) → AreHanded v (ss ++ s ∷ []) → AreHanded v ss
+handed_front v ss s h = all_front (IsHeld v) ss (s ∷ []) h
 
-handed_each : (bs : Bases) (by : List ℕ) (ss : List Sent) (is : List Issued) → AllByRecursion (IsHanded bs) is → AreHanded bs ss → AreHanded bs (ss ++ reverse (map (sent_by by) is))
-handed_each bs by ss [] a h = subst (AreHanded bs) (sym (append-nil ss)) h
-handed_each bs by ss (x ∷ is) a h =
+pub handed_last : (v : World) (ss : List Sent) (s : Sent) → AreHanded v (ss ++ s ∷ []) → IsHanded v.store.bases.present s.operation × (is_some (contract_at v.funds.present s.by) ≡ true)
+handed_last v ss s h = (all_back (IsHeld v) ss (s ∷ []) h).0
+
+each_held : (v : World) (by : List ℕ) (ss : List Sent) (is : List Issued) → AllByRecursion (IsHanded v.store.bases.present) is →
+    is_some (contract_at v.funds.present by) ≡ true → AreHanded v ss → AreHanded v (ss ++ reverse (map (sent_by by) is))
+each_held v by ss [] a t h = subst (AreHanded v) (sym (append-nil ss)) h
+each_held v by ss (x ∷ is) a t h =
     let e : ss ++ reverse (map (sent_by by) (x ∷ is)) ≡ (ss ++ reverse (map (sent_by by) is)) ++ sent_by by x ∷ []
     = ap (λ t. ss ++ t) (reverse-append (sent_by by x ∷ []) (map (sent_by by) is)) ∙ sym (append_assoc ss (reverse (map (sent_by by) is)) (sent_by by x ∷ [])) in
-    subst (AreHanded bs) (sym e)
-    (all_append (λ (s : Sent). IsHanded bs s.operation) (ss ++ reverse (map (sent_by by) is)) (sent_by by x ∷ []) (handed_each bs by ss is a.1 h) (a.0, tt))
+    subst (AreHanded v) (sym e)
+    (all_append (IsHeld v) (ss ++ reverse (map (sent_by by) is)) (sent_by by x ∷ []) (each_held v by ss is a.1 t h) ((a.0, t), tt))
+
+pub handed_each : (v : World) (by : List ℕ) (ss : List Sent) (is : List Issued) → AllByRecursion (IsHanded v.store.bases.present) is →
+    (IsNotEmpty is → is_some (contract_at v.funds.present by) ≡ true) → AreHanded v ss → AreHanded v (ss ++ reverse (map (sent_by by) is))
+handed_each v by ss [] a t h = subst (AreHanded v) (sym (append-nil ss)) h
+handed_each v by ss (x ∷ is) a t h = each_held v by ss (x ∷ is) a (t tt) h
 
 -- ---- bases that are added
 
@@ -86,10 +99,11 @@ handed_later old new (i.Transfer number argument amount to) e h = (h.0, based_la
 handed_later old new (i.Origination number delegate amount script storage hash) e h = (h.0, based_later old new storage e h.1, h.2)
 handed_later old new (i.Event number tag ty value) e h = (h.0, based_later old new value e h.1)
 
-map_later : (old new : Bases) (ss : List Sent) → Extends old new → AreHanded old ss → map (sent new) ss ≡ map (sent old) ss
-map_later old new [] e h = refl
-map_later old new (s ∷ ss) e h =
-    λ j. issued (contract_place s.by) (issued_later old new s.operation e h.0 j).operation ∷ map_later old new ss e h.1 j
+map_later : (u v : World) (ss : List Sent) → Extends u.store.bases.present v.store.bases.present → AreHanded u ss →
+    map (sent v.store.bases.present) ss ≡ map (sent u.store.bases.present) ss
+map_later u v [] e h = refl
+map_later u v (s ∷ ss) e h =
+    λ j. issued (contract_place s.by) (issued_later u.store.bases.present v.store.bases.present s.operation e h.0.0 j).operation ∷ map_later u v ss e h.1 j
 
 map_reverse : (bs : Bases) (ss : List Sent) → map (sent bs) (reverse ss) ≡ reverse (map (sent bs) ss)
 map_reverse bs [] = refl
@@ -98,9 +112,12 @@ map_reverse bs (s ∷ ss) =
     ∙ ap (λ t. t ++ sent bs s ∷ []) (map_reverse bs ss) ∙ sym (reverse-append (sent bs s ∷ []) (map (sent bs) ss))
 
 -- they stand for the same operations
-pub sent_later : (old new : Bases) (ss : List Sent) → Extends old new → AreHanded old ss → all_sent new ss ≡ all_sent old ss
-sent_later old new ss e h = map_reverse new ss ∙ ap reverse (map_later old new ss e h) ∙ sym (map_reverse old ss)
+pub sent_later : (u v : World) (ss : List Sent) → Extends u.store.bases.present v.store.bases.present → AreHanded u ss →
+    all_sent v.store.bases.present ss ≡ all_sent u.store.bases.present ss
+sent_later u v ss e h =
+    map_reverse v.store.bases.present ss ∙ ap reverse (map_later u v ss e h) ∙ sym (map_reverse u.store.bases.present ss)
 
-pub are_handed_later : (old new : Bases) (ss : List Sent) → Extends old new → AreHanded old ss → AreHanded new ss
-are_handed_later old new [] e h = tt
-are_handed_later old new (s ∷ ss) e h = (handed_later old new s.operation e h.0, are_handed_later old new ss e h.1)
+pub are_handed_later : (u v : World) (ss : List Sent) → Extends u.store.bases.present v.store.bases.present → KeepsContracts u v → AreHanded u ss → AreHanded v ss
+are_handed_later u v [] e k h = tt
+are_handed_later u v (s ∷ ss) e k h =
+    ((handed_later u.store.bases.present v.store.bases.present s.operation e h.0.0, k s.by h.0.1), are_handed_later u v ss e k h.1)

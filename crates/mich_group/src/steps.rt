@@ -39,7 +39,7 @@ pub(crate) fn apply_first(
     ensures steps { (start w : PlainWorld) (contents : ℕ) → Goes start (setting_of (listed costs.entry.now) counts.old.group source) contents world.old w (ordered (action_of action.entry.now) ∷ []) (counts_of counts.old) → StepsAs (setting_of (listed costs.entry.now) counts.old.group source) w (ordered (action_of action.entry.now) ∷ []) meter.old (counts_of counts.old) world.new meter.new (counts_of counts.new) waiting.new effects.old effects.new result }
     ensures group { OnOk result (counts.new.group ≡ counts.old.group) }
     ensures hosting { IfOk result (λ _. IsHosting world.new) }
-    ensures handed { IfOk result (λ _. AreHanded world.new.store.bases.present waiting.new) }
+    ensures handed { IfOk result (λ _. AreHanded world.new waiting.new) }
     ensures keeps { OnStep result (KeepsWorld world.old world.new) }
 {
     let applied = apply_action(alloc, world, costs, source, meter, counts, bodies, action)?;
@@ -62,12 +62,12 @@ pub(crate) fn apply_next(
 ) -> Result<bool, ApplyError>
     requires goes { (start w : PlainWorld) × (contents : ℕ) × Goes start (setting_of (listed costs.now) counts.old.group source) contents world.old w (all_sent world.old.store.bases.present waiting.old) (counts_of counts.old) }
     requires hosting { IsHosting world.old }
-    requires handed { AreHanded world.old.store.bases.present waiting.old }
+    requires handed { AreHanded world.old waiting.old }
     ensures none { result ≡ Ok false → (waiting.old ≡ []) × (waiting.new ≡ []) × (world.new ≡ world.old) × (meter.new ≡ meter.old) × (counts.new ≡ counts.old) × (effects.new ≡ effects.old) }
     ensures steps { (start w : PlainWorld) (contents : ℕ) → Goes start (setting_of (listed costs.entry.now) counts.old.group source) contents world.old w (all_sent world.old.store.bases.present waiting.old) (counts_of counts.old) → StepsTo (setting_of (listed costs.entry.now) counts.old.group source) w (all_sent world.old.store.bases.present waiting.old) meter.old (counts_of counts.old) world.new meter.new (counts_of counts.new) waiting.new effects.old effects.new result }
     ensures group { OnOk result (counts.new.group ≡ counts.old.group) }
     ensures hosting { IfOk result (λ _. IsHosting world.new) }
-    ensures handed { IfOk result (λ _. AreHanded world.new.store.bases.present waiting.new) }
+    ensures handed { IfOk result (λ _. AreHanded world.new waiting.new) }
     ensures keeps { OnStep result (KeepsWorld world.old world.new) }
 {
     let Some(next) = waiting.pop() else {

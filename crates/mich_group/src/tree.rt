@@ -56,7 +56,7 @@ fn apply_waiting(
     requires some { 0 < gas }
     requires goes { (start w : PlainWorld) × (contents : ℕ) × Goes start (setting_of (listed costs.now) counts.old.group source) contents world.old w (all_sent world.old.store.bases.present waiting.old) (counts_of counts.old) }
     requires hosting { IsHosting world.old }
-    requires handed { AreHanded world.old.store.bases.present waiting.old }
+    requires handed { AreHanded world.old waiting.old }
     ensures walks { (start w : PlainWorld) (contents : ℕ) → Goes start (setting_of (listed costs.entry.now) counts.old.group source) contents world.old w (all_sent world.old.store.bases.present waiting.old) (counts_of counts.old) → WalksAs (behind_all (map effect effects.old) 1 (tree_within (gas - 1) (setting_of (listed costs.entry.now) counts.old.group source) w (all_sent world.old.store.bases.present waiting.old) meter.old (counts_of counts.old))) world.new meter.new counts.old counts.new effects.new result }
     ensures hosting { IfOk result (λ _. IsHosting world.new) }
     ensures keeps { WithMemory result (KeepsWorld world.old world.new) }

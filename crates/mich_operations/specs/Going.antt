@@ -1,16 +1,18 @@
 -- One operation of a group, and how its application ends (Octez "Operations", internal operations).
-use Rattle.std.specs.Prelude.{◌≡◌, ◌≤◌, ℕ, List, [], ◌∷◌, map, Result, Ok, Err}
+use Rattle.std.specs.Prelude.{◌≡◌, ◌≤◌, ℕ, true, is_some, List, [], ◌∷◌, map, Result, Ok, Err}
 use Rattle.std.specs.List.{AllByRecursion}
 use Rattle.rules_forms.specs.Spelling.{contract_place}
 use Rattle.rules_world.specs.World.{World as PlainWorld}
 use Rattle.rules_world.specs.Outcomes.{Setting, Waiting, issued, Counts as PlainCounts, Outcome, applied, failed, stuck}
 use Rattle.laws_runs.specs.Going.{IsSetting, IsGoing}
+use Rattle.mich_base.specs.Counted.{IsNotEmpty}
 use Rattle.mich_bigmap.specs.Bases.{Bases}
 use Rattle.mich_instr.specs.declared.issued.Issued.{Issued}
 use Rattle.mich_machine.specs.Calls.{counts_of, issued_in, IsHanded}
 use Rattle.mich_machine.specs.declared.state.Counts.{Counts}
 use Rattle.mich_ops.specs.Told.{told}
 use Rattle.mich_ops.specs.View.{effect, failure}
+use Rattle.mich_world.specs.Holders.{contract_at}
 use Rattle.mich_world.specs.Standing.{StandsFor}
 use Rattle.mich_world.specs.World.{World}
 use Rattle.mich_operations.specs.declared.applied.Applied.{Applied}
@@ -54,6 +56,8 @@ pub record IsApplied (o : Outcome) (v : World) (gas : ℕ) (old new : Counts) (a
       })
   pub group : new.group ≡ old.group
   pub handed : AllByRecursion (IsHanded v.store.bases.present) a.emitted
+  -- the contract that issued them is there
+  pub there : IsNotEmpty a.emitted → is_some (contract_at v.funds.present a.by) ≡ true
 
 -- It was applied so, or failed as the definitions say. After want of memory nothing is said.
 abbrev pub EndsAs : Outcome → World → ℕ → Counts → Counts → Result Applied ApplyError → Type 0
@@ -61,6 +65,10 @@ EndsAs o v gas old new (Ok a) = IsApplied o v gas old new a
 EndsAs (failed why) v gas old new (Err (Failed f)) = failure f ≡ told why
 EndsAs o v gas old new (Err (Failed f)) = ⊥
 EndsAs o v gas old new (Err Memory) = Unit {0}
+
+-- contracts that were there are there still
+abbrev pub KeepsContracts : World → World → Type 0
+KeepsContracts old new = (hash : List ℕ) → is_some (contract_at old.funds.present hash) ≡ true → is_some (contract_at new.funds.present hash) ≡ true
 
 -- what holds where memory sufficed
 abbrev pub WithMemory : Result Applied ApplyError → Type 0 → Type 0

@@ -9,11 +9,13 @@ ghost use Rattle.mich_gas.specs.View.{listed};
 ghost use Rattle.mich_machine.specs.Calls.{counts_of, IsHosting};
 ghost use Rattle.mich_ops.specs.View.{action as action_of};
 ghost use Rattle.mich_world.specs.Marks.{KeepsWorld};
-ghost use Rattle.mich_operations.specs.Going.{Begins, EndsAs, WithMemory};
+ghost use Rattle.mich_operations.specs.Going.{Begins, EndsAs, KeepsContracts, WithMemory};
 
 use crate::applied::{Applied, ApplyError};
+use crate::calls::call;
+use crate::charging::charge;
 use mich_forms::KeyHash;
-use mich_gas::{Costs, Meter};
+use mich_gas::{Costs, Kind, Meter};
 use mich_machine::{Bodies, Counts};
 use mich_ops::Action;
 use mich_world::World;
@@ -36,7 +38,22 @@ pub fn apply_action(
     ensures ends { (w : PlainWorld) → Begins world.old w (setting_of (listed costs.entry.now) counts.old.group source) (ordered (action_of action.entry.now)) (counts_of counts.old) → EndsAs (apply (setting_of (listed costs.entry.now) counts.old.group source) w (ordered (action_of action.entry.now)) meter.old (counts_of counts.old)) world.new meter.new counts.old counts.new result }
     ensures hosting { IfOk result (λ _. IsHosting world.new) }
     ensures bases { IfOk result (λ _. Extends world.old.store.bases.present world.new.store.bases.present) }
+    ensures contracts { IfOk result (λ _. KeepsContracts world.old world.new) }
     ensures keeps { WithMemory result (KeepsWorld world.old world.new) }
 {
-    Err(ApplyError::Memory)
+    match action {
+        Action::Call {
+            amount,
+            to,
+            entry,
+            argument,
+        } => {
+            charge(costs, meter, Kind::Transfer)?;
+            call(
+                alloc, world, costs, source, meter, counts, bodies, *amount, *to, *entry, argument,
+            )
+        }
+        Action::Originate { .. } => Err(ApplyError::Memory),
+        Action::Give { .. } => Err(ApplyError::Memory),
+    }
 }

@@ -1,9 +1,13 @@
 //! One operation of a group: a transfer, an origination, a gift of tickets or an event is applied to the world.
 #![tactic(auto)]
 
+mod accounts;
 mod action;
 mod applied;
+mod calls;
+mod charging;
 mod issued;
+mod printing;
 
 pub use action::apply_action;
 pub use applied::{Applied, ApplyError};
