@@ -55,7 +55,7 @@ counts_of counts = record { operations = counts.issued; originations = counts.or
 pub record Calls (v : World) (w : PlainWorld) (prices : Listed) (counts : Counts) (to name : List ℕ) (argument : Value) (env : Env) (t : Target) : Type 0 where
   pub stands : StandsFor v w
   pub hash : t.hash ≡ to
-  pub name : t.entry.name ≡ name
+  pub named : t.entry.name ≡ name
   pub call : IsCall (environment env) (setting prices counts env) w t (val_in v.store.bases.present argument) (counts_of counts)
 
 -- the run that the definitions give of it
