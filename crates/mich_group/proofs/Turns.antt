@@ -12,7 +12,7 @@ use Rattle.rules_world.specs.Receipts.{Status, Applied, Backtracked, Failed, Ski
 use Rattle.rules_world.specs.Trees.{Walk, completed, broken_off, tree}
 use Rattle.rules_world.specs.World.{World as PlainWorld}
 use Rattle.laws_runs.specs.Going.{IsGoing}
-use Rattle.laws_world.proofs.Walks.{KeepsWalk, tree_keeps, begins}
+use Rattle.mich_group.proofs.Laws.{KeepsWalk, tree_keeps, begins}
 use Rattle.mich_machine.specs.Calls.{counts_of}
 use Rattle.mich_machine.specs.declared.state.Counts.{Counts}
 use Rattle.mich_ops.specs.Told.{told, told_status}
@@ -81,7 +81,7 @@ module _ (start : PlainWorld) (s : Setting) (t : Turn) (v : World) (counts : Pla
             ∙ behind_one_more h.done applied (in_turn s left d.last.world d.last.counts)
             ∙ ap (λ k. behind_done (h.done ++ applied ∷ []) (in_turn s left d.last.world k)) (sym d.counts);
         statuses = map-append status ss (said.Applied used effects ∷ [])
-            ∙ (λ i. h.statuses i ++ Rattle.mich_ops.specs.Told.Applied (d.used i) (d.effects i) ∷ [])
+            ∙ (λ i. h.statuses i ++ Rattle.mich_ops.specs.Told.Applied (d.spent i) (d.did i) ∷ [])
             ∙ sym (map-append told_status h.done (applied ∷ []));
         count = Rattle.std.proofs.lemmas.List.length-append h.done (applied ∷ []) ∙ ap (λ n. n + 1) h.count ∙ omega arith;
       }

@@ -10,7 +10,7 @@ use Rattle.rules_world.specs.Application.{apply}
 use Rattle.rules_world.specs.Trees.{Walk, Last, completed, broken_off, stuck_walk, behind_one, with_emitted, tree_within, tree}
 use Rattle.rules_steps.specs.Failure.{Failure, out_of_gas}
 use Rattle.laws_runs.specs.Going.{IsSetting, IsGoing, KeepsGoing}
-use Rattle.laws_world.proofs.Walks.{apply_keeps}
+use Rattle.mich_group.proofs.Laws.{apply_keeps}
 use Rattle.mich_machine.specs.Calls.{counts_of}
 use Rattle.mich_machine.specs.declared.state.Counts.{Counts}
 use Rattle.mich_ops.specs.Told.{told}
@@ -51,7 +51,7 @@ module _ (start : PlainWorld) (s : Setting) (contents : ℕ) where
         setting = g.setting;
         stands = p.stands;
         going = subst (λ ws. IsGoing start s.group contents p.behind.world ws now) (sym p.sent)
-            (subst (λ c. IsGoing start s.group contents p.behind.world (p.behind.emitted ++ p.others) c) (sym p.counts) keeps);
+            (subst (λ c. IsGoing start s.group contents p.behind.world (p.behind.emitted ++ p.others) c) (sym p.counted) keeps);
       }
 
   -- where it has come to
@@ -75,7 +75,7 @@ step_comes start s contents t limit n v x w waiting gas counts now left ss befor
     = ap (λ k. tree_within k s w waiting gas counts) more ∙ ap (λ ws. tree_within (suc (limit - (n + 1))) s w ws gas counts) p.first
       ∙ step_walk s (limit - (n + 1)) w p.op p.others gas counts (applied a) p.same in
     let rest : tree_within (limit - (n + 1)) s a.world (a.emitted ++ p.others) a.gas a.counts ≡ tree_within (limit - (n + 1)) s a.world (all_sent x.store.bases.present ss) left now
-    = λ i. tree_within (limit - (n + 1)) s a.world (sym p.sent i) (sym p.gas i) (sym p.counts i) in
+    = λ i. tree_within (limit - (n + 1)) s a.world (sym p.sent i) (sym p.units i) (sym p.counted i) in
     (
       a.world,
       goes_on start s contents v x w waiting gas counts now left ss before after g p,

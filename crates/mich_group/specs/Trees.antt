@@ -41,8 +41,8 @@ pub record IsStep (s : Setting) (w : PlainWorld) (waiting : List Waiting) (gas :
   pub stands : StandsFor v behind.world
   pub sent : all_sent v.store.bases.present ss ≡ behind.emitted ++ others
   pub done : map effect after ≡ map effect before ++ behind.effects
-  pub gas : left ≡ behind.gas
-  pub counts : now ≡ behind.counts
+  pub units : left ≡ behind.gas
+  pub counted : now ≡ behind.counts
 
 -- the next operation failed
 pub record IsFailed (s : Setting) (w : PlainWorld) (waiting : List Waiting) (gas : ℕ) (counts : PlainCounts) (f : Failed) : Type 0 where

@@ -27,8 +27,8 @@ pub record IsDone (t : Walk) (gas : ℕ) (v : World) (old new : Counts) (used : 
   pub last : Last
   pub same : t ≡ completed last
   pub stands : StandsFor v last.world
-  pub used : used ≡ gas - last.gas
-  pub effects : map effect effects ≡ last.effects
+  pub spent : used ≡ gas - last.gas
+  pub did : map effect effects ≡ last.effects
   pub counts : counts_of new ≡ last.counts
   pub group : new.group ≡ old.group
 

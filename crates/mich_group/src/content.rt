@@ -41,15 +41,15 @@ pub(crate) fn apply_content(
     alloc: Global,
     world: &mut World,
     costs: &Costs,
-    source: KeyHash,
+    source: &KeyHash,
     counts: &mut Counts,
     bodies: &mut Bodies,
     content: &Content,
     gas: u64,
 ) -> Result<Ended, Memory>
-    requires goes { (start w : PlainWorld) × (contents : ℕ) × Goes start (setting_of (listed costs.now) counts.old.group source) contents world.old w (ordered (action_of content.now.action) ∷ []) (counts_of counts.old) }
+    requires goes { (start w : PlainWorld) × (contents : ℕ) × Goes start (setting_of (listed costs.now) counts.old.group source.now) contents world.old w (ordered (action_of content.now.action) ∷ []) (counts_of counts.old) }
     requires hosting { IsHosting world.old }
-    ensures ends { (start w : PlainWorld) (contents : ℕ) → Goes start (setting_of (listed costs.entry.now) counts.old.group source) contents world.old w (ordered (action_of content.entry.now.action) ∷ []) (counts_of counts.old) → ContentAs (tree (setting_of (listed costs.entry.now) counts.old.group source) w (ordered (action_of content.entry.now.action) ∷ []) gas (counts_of counts.old)) gas world.new counts.old counts.new result }
+    ensures ends { (start w : PlainWorld) (contents : ℕ) → Goes start (setting_of (listed costs.entry.now) counts.old.group source.entry.now) contents world.old w (ordered (action_of content.entry.now.action) ∷ []) (counts_of counts.old) → ContentAs (tree (setting_of (listed costs.entry.now) counts.old.group source.entry.now) w (ordered (action_of content.entry.now.action) ∷ []) gas (counts_of counts.old)) gas world.new counts.old counts.new result }
     ensures hosting { OnEnded result (IsHosting world.new) }
     ensures keeps { OnOk result (KeepsWorld world.old world.new) }
 {

@@ -1,6 +1,6 @@
 // The contents of a group in turn.
 ghost use Rattle.std.specs.Prelude.{◌≡◌, ◌∷◌, [], ◌++◌, ◌≤◌, ◌<◌, ◌-◌, ◌+◌, length, map, replicate, false, IfOk, OnOk, ℕ};
-ghost use Rattle.std.specs.List.{All};
+ghost use Rattle.std.specs.List.{All, list_any};
 ghost use Rattle.rules_world.specs.Forms.{IsContent};
 ghost use Rattle.rules_world.specs.Groups.{setting_of, in_turn, is_over_gas};
 ghost use Rattle.rules_world.specs.World.{World as PlainWorld};
@@ -54,17 +54,17 @@ pub(crate) fn apply_contents(
     alloc: Global,
     world: &mut World,
     costs: &Costs,
-    source: KeyHash,
+    source: &KeyHash,
     counts: &mut Counts,
     bodies: &mut Bodies,
     contents: &[Content],
 ) -> Result<Turn, Memory>
-    requires goes { (start w : PlainWorld) × Goes start (setting_of (listed costs.now) counts.old.group source) 0 world.old w [] (counts_of counts.old) }
+    requires goes { (start w : PlainWorld) × Goes start (setting_of (listed costs.now) counts.old.group source.now) 0 world.old w [] (counts_of counts.old) }
     requires few { length contents.now ≤ 1000 }
     requires forms { All IsContent (map content_of contents.now) }
-    requires gas { All (λ c. is_over_gas c ≡ false) (map content_of contents.now) }
+    requires gas { list_any is_over_gas (map content_of contents.now) ≡ false }
     requires hosting { IsHosting world.old }
-    ensures turns { (start w : PlainWorld) → Goes start (setting_of (listed costs.entry.now) counts.old.group source) 0 world.old w [] (counts_of counts.old) → TurnsAs (in_turn (setting_of (listed costs.entry.now) counts.old.group source) (map content_of contents.now) w (counts_of counts.old)) world.new result }
+    ensures turns { (start w : PlainWorld) → Goes start (setting_of (listed costs.entry.now) counts.old.group source.entry.now) 0 world.old w [] (counts_of counts.old) → TurnsAs (in_turn (setting_of (listed costs.entry.now) counts.old.group source.entry.now) (map content_of contents.now) w (counts_of counts.old)) world.new result }
     ensures hosting { OnApplied result (IsHosting world.new) }
     ensures keeps { OnOk result (KeepsWorld world.old world.new) }
 {

@@ -1,6 +1,6 @@
 // Groups.
 ghost use Rattle.std.specs.Prelude.{◌≡◌, ◌≢◌, ◌≤◌, [], length, false, None, IfOk, OnOk, Ok, ℕ};
-ghost use Rattle.std.specs.List.{All};
+ghost use Rattle.std.specs.List.{All, list_any};
 ghost use Rattle.rules_gas.specs.Prices.{Listed};
 ghost use Rattle.rules_world.specs.Forms.{IsContent};
 ghost use Rattle.rules_world.specs.Groups.{admitted, all_fees, fees_taken, group as settled_group, is_over_gas, refusal_of, setting_of};
@@ -51,7 +51,7 @@ fn apply_admitted(
     requires goes { (start w : PlainWorld) × Goes start (setting_of (listed costs.now) number group.now.source) 0 world.old w [] no_counts }
     requires few { length (contents_of group.now) ≤ 1000 }
     requires forms { All IsContent (contents_of group.now) }
-    requires gas { All (λ c. is_over_gas c ≡ false) (contents_of group.now) }
+    requires gas { list_any is_over_gas (contents_of group.now) ≡ false }
     requires hosting { IsHosting world.old }
     ensures settled { (start w : PlainWorld) → Goes start (setting_of (listed costs.entry.now) number group.entry.now.source) 0 world.old w [] no_counts → IfOk result (IsSettled (admitted (setting_of (listed costs.entry.now) number group.entry.now.source) w (contents_of group.entry.now)) world.new) }
     ensures done { (fault : GroupFault) → result ≢ Ok (receipt.Refused fault) }
@@ -68,7 +68,7 @@ fn apply_admitted(
         alloc,
         world,
         costs,
-        group.source,
+        &group.source,
         &mut counts,
         bodies,
         group.contents.as_slice(),

@@ -1,5 +1,5 @@
 // Why a group is refused.
-ghost use Rattle.std.specs.Prelude.{◌≡◌, true, map, IfOk, MatchResult, Some, None};
+ghost use Rattle.std.specs.Prelude.{◌≡◌, true, false, map, IfOk, MatchResult, Some, None};
 ghost use Rattle.rules_forms.specs.Spelling.{implicit_place};
 ghost use Rattle.std.specs.List.{list_any};
 ghost use Rattle.rules_typing.specs.Fits.{is_place};
@@ -41,6 +41,7 @@ fn is_over(contents: &[Content]) -> bool
 // The fees of a group together, or why it is refused: the first reason that holds.
 pub(crate) fn admit(world: &World, group: &Group) -> Result<u64, GroupFault>
     ensures fees { IfOk result (λ fees. fees ≡ all_fees (contents_of group.now)) }
+    ensures gas { IfOk result (λ _. list_any is_over_gas (contents_of group.now) ≡ false) }
     ensures refusal { (w : PlainWorld) → StandsFor world.now w → is_place (implicit_place group.now.source) ≡ true → MatchResult result (λ fees. refusal_of w group.now.source (contents_of group.now) ≡ None) (λ f. refusal_of w group.now.source (contents_of group.now) ≡ Some (fault_of f)) }
 {
     let Some(balance) = world.balance(Place::Implicit(group.source)) else {

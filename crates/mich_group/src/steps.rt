@@ -25,7 +25,7 @@ pub(crate) fn apply_first(
     alloc: Global,
     world: &mut World,
     costs: &Costs,
-    source: KeyHash,
+    source: &KeyHash,
     meter: &mut Meter,
     counts: &mut Counts,
     bodies: &mut Bodies,
@@ -34,9 +34,9 @@ pub(crate) fn apply_first(
     effects: &mut Rows<Effect>,
 ) -> Result<(), ApplyError>
     requires nothing { waiting.old ≡ [] }
-    requires goes { (start w : PlainWorld) × (contents : ℕ) × Goes start (setting_of (listed costs.now) counts.old.group source) contents world.old w (ordered (action_of action.now) ∷ []) (counts_of counts.old) }
+    requires goes { (start w : PlainWorld) × (contents : ℕ) × Goes start (setting_of (listed costs.now) counts.old.group source.now) contents world.old w (ordered (action_of action.now) ∷ []) (counts_of counts.old) }
     requires hosting { IsHosting world.old }
-    ensures steps { (start w : PlainWorld) (contents : ℕ) → Goes start (setting_of (listed costs.entry.now) counts.old.group source) contents world.old w (ordered (action_of action.entry.now) ∷ []) (counts_of counts.old) → StepsAs (setting_of (listed costs.entry.now) counts.old.group source) w (ordered (action_of action.entry.now) ∷ []) meter.old (counts_of counts.old) world.new meter.new (counts_of counts.new) waiting.new effects.old effects.new result }
+    ensures steps { (start w : PlainWorld) (contents : ℕ) → Goes start (setting_of (listed costs.entry.now) counts.old.group source.entry.now) contents world.old w (ordered (action_of action.entry.now) ∷ []) (counts_of counts.old) → StepsAs (setting_of (listed costs.entry.now) counts.old.group source.entry.now) w (ordered (action_of action.entry.now) ∷ []) meter.old (counts_of counts.old) world.new meter.new (counts_of counts.new) waiting.new effects.old effects.new result }
     ensures group { OnOk result (counts.new.group ≡ counts.old.group) }
     ensures hosting { IfOk result (λ _. IsHosting world.new) }
     ensures handed { IfOk result (λ _. AreHanded world.new waiting.new) }
@@ -53,18 +53,18 @@ pub(crate) fn apply_next(
     alloc: Global,
     world: &mut World,
     costs: &Costs,
-    source: KeyHash,
+    source: &KeyHash,
     meter: &mut Meter,
     counts: &mut Counts,
     bodies: &mut Bodies,
     waiting: &mut Rows<Sent>,
     effects: &mut Rows<Effect>,
 ) -> Result<bool, ApplyError>
-    requires goes { (start w : PlainWorld) × (contents : ℕ) × Goes start (setting_of (listed costs.now) counts.old.group source) contents world.old w (all_sent world.old.store.bases.present waiting.old) (counts_of counts.old) }
+    requires goes { (start w : PlainWorld) × (contents : ℕ) × Goes start (setting_of (listed costs.now) counts.old.group source.now) contents world.old w (all_sent world.old.store.bases.present waiting.old) (counts_of counts.old) }
     requires hosting { IsHosting world.old }
     requires handed { AreHanded world.old waiting.old }
     ensures none { result ≡ Ok false → (waiting.old ≡ []) × (waiting.new ≡ []) × (world.new ≡ world.old) × (meter.new ≡ meter.old) × (counts.new ≡ counts.old) × (effects.new ≡ effects.old) }
-    ensures steps { (start w : PlainWorld) (contents : ℕ) → Goes start (setting_of (listed costs.entry.now) counts.old.group source) contents world.old w (all_sent world.old.store.bases.present waiting.old) (counts_of counts.old) → StepsTo (setting_of (listed costs.entry.now) counts.old.group source) w (all_sent world.old.store.bases.present waiting.old) meter.old (counts_of counts.old) world.new meter.new (counts_of counts.new) waiting.new effects.old effects.new result }
+    ensures steps { (start w : PlainWorld) (contents : ℕ) → Goes start (setting_of (listed costs.entry.now) counts.old.group source.entry.now) contents world.old w (all_sent world.old.store.bases.present waiting.old) (counts_of counts.old) → StepsTo (setting_of (listed costs.entry.now) counts.old.group source.entry.now) w (all_sent world.old.store.bases.present waiting.old) meter.old (counts_of counts.old) world.new meter.new (counts_of counts.new) waiting.new effects.old effects.new result }
     ensures group { OnOk result (counts.new.group ≡ counts.old.group) }
     ensures hosting { IfOk result (λ _. IsHosting world.new) }
     ensures handed { IfOk result (λ _. AreHanded world.new waiting.new) }

@@ -45,7 +45,7 @@ fn apply_waiting(
     alloc: Global,
     world: &mut World,
     costs: &Costs,
-    source: KeyHash,
+    source: &KeyHash,
     meter: &mut Meter,
     counts: &mut Counts,
     bodies: &mut Bodies,
@@ -54,10 +54,10 @@ fn apply_waiting(
     effects: &mut Rows<Effect>,
 ) -> Result<(), TreeError>
     requires some { 0 < gas }
-    requires goes { (start w : PlainWorld) × (contents : ℕ) × Goes start (setting_of (listed costs.now) counts.old.group source) contents world.old w (all_sent world.old.store.bases.present waiting.old) (counts_of counts.old) }
+    requires goes { (start w : PlainWorld) × (contents : ℕ) × Goes start (setting_of (listed costs.now) counts.old.group source.now) contents world.old w (all_sent world.old.store.bases.present waiting.old) (counts_of counts.old) }
     requires hosting { IsHosting world.old }
     requires handed { AreHanded world.old waiting.old }
-    ensures walks { (start w : PlainWorld) (contents : ℕ) → Goes start (setting_of (listed costs.entry.now) counts.old.group source) contents world.old w (all_sent world.old.store.bases.present waiting.old) (counts_of counts.old) → WalksAs (behind_all (map effect effects.old) 1 (tree_within (gas - 1) (setting_of (listed costs.entry.now) counts.old.group source) w (all_sent world.old.store.bases.present waiting.old) meter.old (counts_of counts.old))) world.new meter.new counts.old counts.new effects.new result }
+    ensures walks { (start w : PlainWorld) (contents : ℕ) → Goes start (setting_of (listed costs.entry.now) counts.old.group source.entry.now) contents world.old w (all_sent world.old.store.bases.present waiting.old) (counts_of counts.old) → WalksAs (behind_all (map effect effects.old) 1 (tree_within (gas - 1) (setting_of (listed costs.entry.now) counts.old.group source.entry.now) w (all_sent world.old.store.bases.present waiting.old) meter.old (counts_of counts.old))) world.new meter.new counts.old counts.new effects.new result }
     ensures hosting { IfOk result (λ _. IsHosting world.new) }
     ensures keeps { WithMemory result (KeepsWorld world.old world.new) }
 {
@@ -86,7 +86,7 @@ pub fn apply_tree(
     alloc: Global,
     world: &mut World,
     costs: &Costs,
-    source: KeyHash,
+    source: &KeyHash,
     meter: &mut Meter,
     counts: &mut Counts,
     bodies: &mut Bodies,
@@ -94,9 +94,9 @@ pub fn apply_tree(
     effects: &mut Rows<Effect>,
 ) -> Result<(), TreeError>
     requires empty { effects.old ≡ [] }
-    requires goes { (start w : PlainWorld) × (contents : ℕ) × Goes start (setting_of (listed costs.now) counts.old.group source) contents world.old w (ordered (action_of action.now) ∷ []) (counts_of counts.old) }
+    requires goes { (start w : PlainWorld) × (contents : ℕ) × Goes start (setting_of (listed costs.now) counts.old.group source.now) contents world.old w (ordered (action_of action.now) ∷ []) (counts_of counts.old) }
     requires hosting { IsHosting world.old }
-    ensures walks { (start w : PlainWorld) (contents : ℕ) → Goes start (setting_of (listed costs.entry.now) counts.old.group source) contents world.old w (ordered (action_of action.entry.now) ∷ []) (counts_of counts.old) → WalksAs (tree (setting_of (listed costs.entry.now) counts.old.group source) w (ordered (action_of action.entry.now) ∷ []) meter.old (counts_of counts.old)) world.new meter.new counts.old counts.new effects.new result }
+    ensures walks { (start w : PlainWorld) (contents : ℕ) → Goes start (setting_of (listed costs.entry.now) counts.old.group source.entry.now) contents world.old w (ordered (action_of action.entry.now) ∷ []) (counts_of counts.old) → WalksAs (tree (setting_of (listed costs.entry.now) counts.old.group source.entry.now) w (ordered (action_of action.entry.now) ∷ []) meter.old (counts_of counts.old)) world.new meter.new counts.old counts.new effects.new result }
     ensures hosting { IfOk result (λ _. IsHosting world.new) }
     ensures keeps { WithMemory result (KeepsWorld world.old world.new) }
 {

@@ -18,21 +18,22 @@ use Rattle.rules_world.specs.Receipts.{Transfer}
 use Rattle.rules_world.specs.Outcomes.{Outcome, applied, failed, stuck, charged, charged_by, Counts as PlainCounts}
 use Rattle.rules_world.specs.Transfers.{Transaction, as_ticket, account_failure, account_outcome, with_taken, taken_by_account, to_account, received, with_ticket}
 use Rattle.rules_world.specs.World.{World as PlainWorld, key_hash_in}
+use Rattle.mich_base.specs.Counted.{IsNotEmpty}
 use Rattle.mich_base.specs.View.{tree}
 use Rattle.mich_base.specs.declared.node.Node.{Node}
 use Rattle.mich_forms.specs.declared.places.Place.{Place}
 use Rattle.mich_forms.specs.declared.places.Place.TheVariants as place
-use Rattle.mich_machine.specs.Calls.{counts_of}
+use Rattle.mich_machine.specs.Calls.{counts_of, IsHanded}
 use Rattle.mich_machine.specs.declared.state.Counts.{Counts}
 use Rattle.mich_ops.specs.Told.{told}
-use Rattle.mich_ops.specs.View.{failure}
+use Rattle.mich_ops.specs.View.{failure, effect as effect_of}
 use Rattle.mich_ops.specs.declared.failure.Failure.{Failure as Why}
 use Rattle.mich_ops.specs.declared.receipt.Effect.TheVariants as effect
 use Rattle.mich_world.specs.Holders.{may_receive, moved, balance_or_none as balance_in}
 use Rattle.mich_world.specs.Standing.{StandsFor}
 use Rattle.mich_world.specs.World.{World, with_funds}
 use Rattle.mich_world.proofs.Agreeing.{balance_or_none_is, moves_agree}
-use Rattle.mich_operations.specs.Going.{EndsAs, IsApplied}
+use Rattle.mich_operations.specs.Going.{EndsAs, IsApplied, issued_by}
 use Rattle.mich_operations.specs.Transfers.{AreBetween, transaction}
 use Rattle.mich_operations.specs.declared.applied.Applied.{Applied}
 use Rattle.mich_operations.specs.declared.applied.ApplyError.{ApplyError}
@@ -90,7 +91,7 @@ module _ (u : World) (w : PlainWorld) (from : Place) (to entry : List ℕ) (amou
   t = transaction from (place.Implicit to) entry amount argument
 
   balance_here : balance_in u.funds.present from ≡ balance_or_none w t.sender
-  balance_here = balance_or_none_is u.funds.present u.store.bases.present u.ledger.books.present w from b.stands.those b.from
+  balance_here = balance_or_none_is u.funds.present u.store.bases.present u.ledger.books.present w from b.stands.those b.sender
 
   pub pays_nothing : (v : World) (f : Why) → amount ≡ 0 → as_ticket x ≡ None → failure f ≡ told empty_transaction →
       EndsAs (with_taken (Some x) w t gas (counts_of counts)) v gas counts counts (Err (Failed f))
@@ -103,23 +104,23 @@ module _ (u : World) (w : PlainWorld) (from : Place) (to entry : List ℕ) (amou
       ends_failed _ v gas counts counts f balance_too_low
       (ap (λ o. account_outcome o w t x gas (counts_of counts)) (low_fails w t x some (subst (λ n. n < amount) balance_here low))) h
 
-  pub pays : (v : World) (node : Node) (by : List ℕ) → amount ≢ 0 → as_ticket x ≡ None → may_receive u.funds.present from ≡ true → amount ≤ balance_in u.funds.present from →
+  pub pays : (v : World) (node : Node) (a : Applied) → a.effect ≡ effect.Transfer from (record { place = place.Implicit to; entrypoint = entry }) amount node [] → a.emitted ≡ [] → amount ≢ 0 → as_ticket x ≡ None → may_receive u.funds.present from ≡ true → amount ≤ balance_in u.funds.present from →
       v ≡ with_funds u v.funds → v.funds.present ≡ moved u.funds.present from (place.Implicit to) amount → tree node ≡ canonical x →
       EndsAs (with_taken (Some x) w t gas (counts_of counts)) v gas counts counts
-      (Ok (record { effect = effect.Transfer from (record { place = place.Implicit to; entrypoint = entry }) amount node []; by = by; emitted = [] }))
-  pays v node by some plain there enough e m printed = record {
+      (Ok a)
+  pays v node a done nothing some plain there enough e m printed = record {
     world = received w t x;
     stands = subst (λ o. StandsFor v (with_ticket (rules.moved w t.sender t.destination amount) (key_hash_in t.destination) o)) (sym plain)
-        (moves_agree u v w from (place.Implicit to) amount b.stands b.form b.from b.to there refl e m);
+        (moves_agree u v w from (place.Implicit to) amount b.stands b.form b.sender b.receiver there refl e m);
     same = ap (λ o. account_outcome o w t x gas (counts_of counts)) (none_fails w t x some (subst (λ n. amount ≤ n) balance_here enough))
-        ∙ ap (λ n. applied (record {
+        ∙ (λ i. applied (record {
           world = received w t x;
-          emitted = [];
-          effects = Transfer t.sender (spelled_address t.destination entry) amount n [] ∷ [];
+          emitted = map (issued_by v.store.bases.present a.by) (sym nothing i);
+          effects = (ap (λ n. Transfer t.sender (spelled_address t.destination entry) amount n []) (sym printed) ∙ ap effect_of (sym done)) i ∷ [];
           gas = gas;
           counts = counts_of counts;
-        })) (sym printed);
+        }));
     group = refl;
-    handed = tt;
-    there = λ h. absurd h;
+    handed = subst (AllByRecursion (IsHanded v.store.bases.present)) (sym nothing) tt;
+    there = λ h. absurd (subst IsNotEmpty nothing h);
   }

@@ -1,2 +1,3 @@
+pub mod Foundings
 pub mod Going
 pub mod Transfers

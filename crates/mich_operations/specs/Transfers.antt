@@ -36,5 +36,5 @@ transaction from to entry amount argument = record {
 pub record AreBetween (v : World) (w : PlainWorld) (from to : Place) : Type 0 where
   pub stands : StandsFor v w
   pub form : IsWorld w
-  pub from : is_place (place_bytes from) ≡ true
-  pub to : is_place (place_bytes to) ≡ true
+  pub sender : is_place (place_bytes from) ≡ true
+  pub receiver : is_place (place_bytes to) ≡ true

@@ -1,5 +1,5 @@
 // Transfers to accounts.
-ghost use Rattle.std.specs.Prelude.{◌≡◌, ◌<◌, ◌^◌, ℕ, true, Some, None, IfOk};
+ghost use Rattle.std.specs.Prelude.{◌≡◌, ◌<◌, ◌^◌, [], ℕ, true, Some, None, IfOk};
 ghost use Rattle.rules_base.specs.Tree.{size};
 ghost use Rattle.rules_world.specs.Arguments.{Argument, node};
 ghost use Rattle.rules_world.specs.Transfers.{as_ticket, to_account, with_taken};
@@ -9,6 +9,7 @@ ghost use Rattle.mich_bigmap.specs.Standing.{val_in};
 ghost use Rattle.mich_forms.specs.declared.places.Place.TheVariants as place;
 ghost use Rattle.mich_machine.specs.Calls.{counts_of, IsHosting};
 ghost use Rattle.mich_machine.specs.declared.state.Counts.{Counts};
+ghost use Rattle.mich_ops.specs.declared.receipt.Effect.TheVariants as effect;
 ghost use Rattle.mich_world.specs.Holders.{may_receive};
 ghost use Rattle.mich_world.specs.Marks.{KeepsWorld};
 ghost use Rattle.mich_operations.specs.Going.{EndsAs, KeepsContracts};
@@ -27,15 +28,15 @@ use std::alloc::Global;
 pub(crate) fn pay_account(
     alloc: Global,
     world: &mut World,
-    from: Place,
-    to: KeyHash,
-    entry: Entrypoint,
+    from: &Place,
+    to: &KeyHash,
+    entry: &Entrypoint,
     amount: u64,
     value: &Value,
 ) -> Result<Applied, ApplyError>
-    requires there { may_receive world.old.funds.present from ≡ true }
+    requires there { may_receive world.old.funds.present from.now ≡ true }
     requires plain { as_ticket (val_in world.old.store.bases.present value.now) ≡ None }
-    ensures ends { (w : PlainWorld) (argument : Argument) (gas : ℕ) (counts : Counts) → AreBetween world.old w from (place.Implicit to) → EndsAs (with_taken (Some (val_in world.old.store.bases.present value.now)) w (transaction from (place.Implicit to) entry amount argument) gas (counts_of counts)) world.new gas counts counts result }
+    ensures ends { (w : PlainWorld) (argument : Argument) (gas : ℕ) (counts : Counts) → AreBetween world.old w from.now (place.Implicit to.now) → EndsAs (with_taken (Some (val_in world.old.store.bases.present value.now)) w (transaction from.now (place.Implicit to.now) entry.now amount argument) gas (counts_of counts)) world.new gas counts counts result }
     ensures hosting { IsHosting world.old → IfOk result (λ _. IsHosting world.new) }
     ensures contracts { KeepsContracts world.old world.new }
     ensures store { world.new.store ≡ world.old.store }
@@ -44,35 +45,50 @@ pub(crate) fn pay_account(
     if amount == 0 {
         return Err(ApplyError::Failed(Failure::EmptyTransaction));
     }
-    match world.move_mutez(from, Place::Implicit(to), amount) {
+    match world.move_mutez(*from, Place::Implicit(*to), amount) {
         Ok(()) => {}
         Err(MoveError::BalanceTooLow) => return Err(ApplyError::Failed(Failure::BalanceTooLow)),
         Err(_) => return Err(ApplyError::Memory),
     }
     let argument = printed(alloc, world.store(), value)?;
-    let to = Address {
-        place: Place::Implicit(to),
-        entrypoint: entry,
+    Ok(moved(alloc, from, to, entry, amount, argument))
+}
+
+// What a transfer did that moved mutez alone.
+fn moved(
+    alloc: Global,
+    from: &Place,
+    to: &KeyHash,
+    entry: &Entrypoint,
+    amount: u64,
+    argument: Node,
+) -> Applied
+    ensures effect { result.effect ≡ effect.Transfer from.now (record { place = place.Implicit to.now; entrypoint = entry.now }) amount argument [] }
+    ensures emitted { result.emitted ≡ [] }
+{
+    let address = Address {
+        place: Place::Implicit(*to),
+        entrypoint: *entry,
     };
-    Ok(Applied {
-        effect: Effect::Transfer(from, to, amount, argument, Rows::new(alloc)),
+    Applied {
+        effect: Effect::Transfer(*from, address, amount, argument, Rows::new(alloc)),
         by: [0; 20],
         emitted: Rows::new(alloc),
-    })
+    }
 }
 
 // Mutez go from a source to an account, which takes `Unit` alone.
 pub(crate) fn call_account(
     alloc: Global,
     world: &mut World,
-    source: KeyHash,
-    to: KeyHash,
-    entry: Entrypoint,
+    source: &KeyHash,
+    to: &KeyHash,
+    entry: &Entrypoint,
     amount: u64,
     argument: &Node,
 ) -> Result<Applied, ApplyError>
     requires { size (tree argument.now) < 2 ^ 32 }
-    ensures ends { (w : PlainWorld) (gas : ℕ) (counts : Counts) → AreBetween world.old w (place.Implicit source) (place.Implicit to) → EndsAs (to_account w (transaction (place.Implicit source) (place.Implicit to) entry amount (node (tree argument.now))) gas (counts_of counts)) world.new gas counts counts result }
+    ensures ends { (w : PlainWorld) (gas : ℕ) (counts : Counts) → AreBetween world.old w (place.Implicit source.now) (place.Implicit to.now) → EndsAs (to_account w (transaction (place.Implicit source.now) (place.Implicit to.now) entry.now amount (node (tree argument.now))) gas (counts_of counts)) world.new gas counts counts result }
     ensures hosting { IsHosting world.old → IfOk result (λ _. IsHosting world.new) }
     ensures contracts { KeepsContracts world.old world.new }
     ensures store { world.new.store ≡ world.old.store }
@@ -84,13 +100,6 @@ pub(crate) fn call_account(
     if !is_unit(alloc, argument)? {
         return Err(ApplyError::Failed(Failure::BadParameter(0)));
     }
-    pay_account(
-        alloc,
-        world,
-        Place::Implicit(source),
-        to,
-        entry,
-        amount,
-        &Value::Unit,
-    )
+    let from = Place::Implicit(*source);
+    pay_account(alloc, world, &from, to, entry, amount, &Value::Unit)
 }

@@ -27,15 +27,15 @@ pub fn apply_action(
     alloc: Global,
     world: &mut World,
     costs: &Costs,
-    source: KeyHash,
+    source: &KeyHash,
     meter: &mut Meter,
     counts: &mut Counts,
     bodies: &mut Bodies,
     action: &Action,
 ) -> Result<Applied, ApplyError>
-    requires next { (w : PlainWorld) × Begins world.old w (setting_of (listed costs.now) counts.old.group source) (ordered (action_of action.now)) (counts_of counts.old) }
+    requires next { (w : PlainWorld) × Begins world.old w (setting_of (listed costs.now) counts.old.group source.now) (ordered (action_of action.now)) (counts_of counts.old) }
     requires hosting { IsHosting world.old }
-    ensures ends { (w : PlainWorld) → Begins world.old w (setting_of (listed costs.entry.now) counts.old.group source) (ordered (action_of action.entry.now)) (counts_of counts.old) → EndsAs (apply (setting_of (listed costs.entry.now) counts.old.group source) w (ordered (action_of action.entry.now)) meter.old (counts_of counts.old)) world.new meter.new counts.old counts.new result }
+    ensures ends { (w : PlainWorld) → Begins world.old w (setting_of (listed costs.entry.now) counts.old.group source.entry.now) (ordered (action_of action.entry.now)) (counts_of counts.old) → EndsAs (apply (setting_of (listed costs.entry.now) counts.old.group source.entry.now) w (ordered (action_of action.entry.now)) meter.old (counts_of counts.old)) world.new meter.new counts.old counts.new result }
     ensures hosting { IfOk result (λ _. IsHosting world.new) }
     ensures bases { IfOk result (λ _. Extends world.old.store.bases.present world.new.store.bases.present) }
     ensures contracts { IfOk result (λ _. KeepsContracts world.old world.new) }
@@ -50,7 +50,7 @@ pub fn apply_action(
         } => {
             charge(costs, meter, Kind::Transfer)?;
             call(
-                alloc, world, costs, source, meter, counts, bodies, *amount, *to, *entry, argument,
+                alloc, world, costs, source, meter, counts, bodies, *amount, to, entry, argument,
             )
         }
         Action::Originate { .. } => Err(ApplyError::Memory),

@@ -29,18 +29,18 @@ pub(crate) fn call(
     alloc: Global,
     world: &mut World,
     costs: &Costs,
-    source: KeyHash,
+    source: &KeyHash,
     meter: &mut Meter,
     counts: &mut Counts,
     bodies: &mut Bodies,
     amount: u64,
-    to: Place,
-    entry: Entrypoint,
+    to: &Place,
+    entry: &Entrypoint,
     argument: &Node,
 ) -> Result<Applied, ApplyError>
-    requires next { (w : PlainWorld) × Begins world.old w (setting_of (listed costs.now) counts.old.group source) (ordered (Call amount (place_bytes to) entry (tree argument.now))) (counts_of counts.old) }
+    requires next { (w : PlainWorld) × Begins world.old w (setting_of (listed costs.now) counts.old.group source.now) (ordered (Call amount (place_bytes to.now) entry.now (tree argument.now))) (counts_of counts.old) }
     requires hosting { IsHosting world.old }
-    ensures ends { (w : PlainWorld) → Begins world.old w (setting_of (listed costs.entry.now) counts.old.group source) (ordered (Call amount (place_bytes to) entry (tree argument.entry.now))) (counts_of counts.old) → EndsAs (delivered (is_implicit (place_bytes to)) (setting_of (listed costs.entry.now) counts.old.group source) w (ordered_transaction (setting_of (listed costs.entry.now) counts.old.group source) amount (place_bytes to) entry (tree argument.entry.now)) meter.old (counts_of counts.old)) world.new meter.new counts.old counts.new result }
+    ensures ends { (w : PlainWorld) → Begins world.old w (setting_of (listed costs.entry.now) counts.old.group source.entry.now) (ordered (Call amount (place_bytes to.entry.now) entry.entry.now (tree argument.entry.now))) (counts_of counts.old) → EndsAs (delivered (is_implicit (place_bytes to.entry.now)) (setting_of (listed costs.entry.now) counts.old.group source.entry.now) w (ordered_transaction (setting_of (listed costs.entry.now) counts.old.group source.entry.now) amount (place_bytes to.entry.now) entry.entry.now (tree argument.entry.now)) meter.old (counts_of counts.old)) world.new meter.new counts.old counts.new result }
     ensures hosting { IfOk result (λ _. IsHosting world.new) }
     ensures bases { IfOk result (λ _. Extends world.old.store.bases.present world.new.store.bases.present) }
     ensures contracts { IfOk result (λ _. KeepsContracts world.old world.new) }

@@ -24,18 +24,18 @@ pub fn apply_issued(
     alloc: Global,
     world: &mut World,
     costs: &Costs,
-    source: KeyHash,
+    source: &KeyHash,
     meter: &mut Meter,
     counts: &mut Counts,
     bodies: &mut Bodies,
     by: [u8; 20],
     operation: Issued,
 ) -> Result<Applied, ApplyError>
-    requires next { (w : PlainWorld) × Begins world.old w (setting_of (listed costs.now) counts.old.group source) (issued_by world.old.store.bases.present by operation) (counts_of counts.old) }
+    requires next { (w : PlainWorld) × Begins world.old w (setting_of (listed costs.now) counts.old.group source.now) (issued_by world.old.store.bases.present by operation) (counts_of counts.old) }
     requires hosting { IsHosting world.old }
     requires there { is_some (contract_at world.old.funds.present by) ≡ true }
     requires handed { IsHanded world.old.store.bases.present operation }
-    ensures ends { (w : PlainWorld) → Begins world.old w (setting_of (listed costs.entry.now) counts.old.group source) (issued_by world.old.store.bases.present by operation) (counts_of counts.old) → EndsAs (apply (setting_of (listed costs.entry.now) counts.old.group source) w (issued_by world.old.store.bases.present by operation) meter.old (counts_of counts.old)) world.new meter.new counts.old counts.new result }
+    ensures ends { (w : PlainWorld) → Begins world.old w (setting_of (listed costs.entry.now) counts.old.group source.entry.now) (issued_by world.old.store.bases.present by operation) (counts_of counts.old) → EndsAs (apply (setting_of (listed costs.entry.now) counts.old.group source.entry.now) w (issued_by world.old.store.bases.present by operation) meter.old (counts_of counts.old)) world.new meter.new counts.old counts.new result }
     ensures hosting { IfOk result (λ _. IsHosting world.new) }
     ensures bases { IfOk result (λ _. Extends world.old.store.bases.present world.new.store.bases.present) }
     ensures contracts { IfOk result (λ _. KeepsContracts world.old world.new) }

@@ -6,8 +6,10 @@ mod action;
 mod applied;
 mod calls;
 mod charging;
+mod founding;
 mod issued;
 mod printing;
+mod telling;
 
 pub use action::apply_action;
 pub use applied::{Applied, ApplyError};
