@@ -2,7 +2,7 @@
 use Rattle.std.proofs.Common.{◌≡◌, ◌≤◌, ◌<◌, ◌+◌, ◌-◌, ℕ, zero, suc, List, [], ◌∷◌, ◌++◌, map, length, drop, refl, sym, ap, ◌∙◌, subst, arith, unsigned_abs, pos, int_lt, Bool, true, false, ℤ}
 use Rattle.std.specs.Prelude.{replicate, list_any}
 use Rattle.std.specs.List.{All}
-use Rattle.std.proofs.lemmas.List.{append_assoc, append-nil, map-append, length-map}
+use Rattle.std.proofs.lemmas.List.{append_assoc, append-nil, map-append, length-map, replicate-append-replicate}
 use Rattle.rules_steps.specs.Failure.{Failure}
 use Rattle.rules_world.specs.Contents.{Content, Action}
 use Rattle.rules_world.specs.Forms.{IsContent, IsAction}
@@ -37,6 +37,14 @@ behind_one_more done x (all_applied w statuses) = ap (all_applied w) (sym (appen
 behind_one_more done x (one_failed statuses) =
     ap one_failed (sym (ap (λ t. t ++ statuses) (map-append (λ _. Backtracked) done (x ∷ [])) ∙ append_assoc (map (λ _. Backtracked) done) (Backtracked ∷ []) statuses))
 behind_one_more done x stuck_turn = refl
+
+-- ---- rows of one status
+
+pub one_more : (n : ℕ) (x : Said) → replicate n x ++ x ∷ [] ≡ replicate (n + 1) x
+one_more n x = replicate-append-replicate n 1 x
+
+pub one_behind : (n : ℕ) (x y : Said) (xs : List Said) → (xs ++ y ∷ replicate n x) ++ x ∷ [] ≡ xs ++ y ∷ replicate (n + 1) x
+one_behind n x y xs = append_assoc xs (y ∷ replicate n x) (x ∷ []) ∙ ap (λ t. xs ++ y ∷ t) (one_more n x)
 
 -- ---- where a group has come to
 

@@ -28,6 +28,7 @@ pub(crate) enum Turn {
     Failed(Rows<Status>),
 }
 
+#[tactic(auto, using(crate::proofs::Turns::one_more, crate::proofs::Turns::one_behind))]
 // The statuses where a content failed behind some, and before others.
 fn broken(
     alloc: Global,
@@ -39,16 +40,19 @@ fn broken(
     ensures { IfOk result (λ ss. ss ≡ replicate before status.Backtracked ++ status.Failed count why ∷ replicate behind status.Skipped) }
 {
     let mut statuses = Rows::new(alloc);
-    for _ in 0..before {
+    for back in 0..before {
+        let _back = back;
         statuses.push(Status::Backtracked)?;
     }
     statuses.push(Status::Failed(count, why))?;
-    for _ in 0..behind {
+    for skip in 0..behind {
+        let _skip = skip;
         statuses.push(Status::Skipped)?;
     }
     Ok(statuses)
 }
 
+#[tactic(auto, using(crate::proofs::Turns::all_turned, mich_world::proofs::Marks::world_trans))]
 // Applies the contents of a group, each with gas of its own, until one fails.
 pub(crate) fn apply_contents(
     alloc: Global,

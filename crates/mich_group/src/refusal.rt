@@ -38,6 +38,7 @@ fn is_over(contents: &[Content]) -> bool
     false
 }
 
+#[tactic(auto, using(crate::proofs::Fees::unknown, crate::proofs::Fees::too_high, crate::proofs::Fees::too_poor, crate::proofs::Fees::not_refused))]
 // The fees of a group together, or why it is refused: the first reason that holds.
 pub(crate) fn admit(world: &World, group: &Group) -> Result<u64, GroupFault>
     ensures fees { IfOk result (λ fees. fees ≡ all_fees (contents_of group.now)) }

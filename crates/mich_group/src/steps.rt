@@ -20,6 +20,7 @@ use mich_ops::{Action, Effect};
 use mich_world::World;
 use std::alloc::Global;
 
+#[tactic(auto, using(crate::proofs::Steps::begins_with, crate::proofs::Sending::handed_each))]
 // Applies the action that a source orders, before which nothing waits.
 pub(crate) fn apply_first(
     alloc: Global,
@@ -48,6 +49,7 @@ pub(crate) fn apply_first(
     Ok(())
 }
 
+#[tactic(auto, using(crate::proofs::Sending::handed_last, crate::proofs::Sending::handed_front))]
 // Applies the operation that is next. False where none waits, and then nothing changes.
 pub(crate) fn apply_next(
     alloc: Global,

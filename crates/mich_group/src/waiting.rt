@@ -13,6 +13,7 @@ pub(crate) struct Sent {
     pub(crate) operation: Issued,
 }
 
+#[tactic(auto, using(crate::proofs::Sending::send_one))]
 // Puts operations that a contract issued in front of all that wait: the last is the next one.
 pub(crate) fn send(waiting: &mut Rows<Sent>, by: [u8; 20], emitted: Rows<Issued>) -> Result<(), Memory>
     ensures { IfOk result (λ _. waiting.new ≡ waiting.old ++ reverse (map (sent_by by) emitted)) }

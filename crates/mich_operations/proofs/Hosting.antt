@@ -1,5 +1,5 @@
 -- Worlds in which contracts run stay so.
-use Rattle.std.proofs.Common.{◌≡◌, ℕ, List, [], ◌∷◌, Bool, true, false, cond, refl, sym, ap, ◌∙◌, subst}
+use Rattle.std.proofs.Common.{◌≡◌, ℕ, List, [], ◌∷◌, Bool, true, false, cond, is_some, Err, refl, sym, ap, ◌∙◌, subst}
 use Rattle.std.specs.BTreeMap.{is_at}
 use Rattle.std.specs.List.{AllByRecursion}
 use Rattle.rules_world.specs.World.{World as PlainWorld}
@@ -10,11 +10,16 @@ use Rattle.mich_forms.specs.declared.places.Place.TheVariants as place
 use Rattle.mich_instr.specs.Scripts.{IsTypedScript}
 use Rattle.mich_machine.specs.Calls.{IsHosting}
 use Rattle.mich_undo.specs.Undone.{changed_at}
-use Rattle.mich_world.specs.Holders.{Holders, by_bytes, rebalanced, with_balance, moved, fee_taken}
-use Rattle.mich_world.specs.Marks.{IsSame}
+use Rattle.mich_world.specs.Holders.{Holders, by_bytes, contract_at, rebalanced, with_balance, moved, fee_taken}
+use Rattle.mich_world.specs.Marks.{IsSame, KeepsWorld}
 use Rattle.mich_world.specs.Standing.{AreThose, StandsFor}
 use Rattle.mich_world.specs.Storages.{IsStored}
 use Rattle.mich_world.specs.World.{World, with_funds}
+use Rattle.mich_world.proofs.Moves.{contracts_there}
+use Rattle.mich_world.proofs.Marks.{world_same}
+use Rattle.mich_operations.specs.Going.{KeepsContracts, WithMemory}
+use Rattle.mich_operations.specs.declared.applied.ApplyError.{ApplyError}
+use Rattle.mich_operations.specs.declared.applied.ApplyError.TheVariants.{Failed, Memory}
 use Rattle.mich_world.specs.declared.contract.Contract.{Contract}
 
 -- ---- holders with another balance
@@ -54,6 +59,20 @@ hosting_moved v w from to n e m h =
 -- after a fee
 pub hosting_fee : (v w : World) (who : List ℕ) (fee : ℕ) → w ≡ with_funds v w.funds → w.funds.present ≡ fee_taken v.funds.present who fee → IsHosting v → IsHosting w
 hosting_fee v w who fee e m h = hosting_funds v w e h (subst (AreHosts v.store.bases.present) (sym m) (h.typed, h.stored))
+
+-- the contracts that were there are there
+pub contracts_moved : (v w : World) (from to : Place) (n : ℕ) → w.funds.present ≡ moved v.funds.present from to n → KeepsContracts v w
+contracts_moved v w from to n m hash h =
+    ap (λ (f : Holders). is_some (contract_at f hash)) m
+    ∙ contracts_there _ to _ hash ∙ contracts_there v.funds.present from _ hash ∙ h
+
+pub contracts_same : (v : World) → KeepsContracts v v
+contracts_same v hash h = h
+
+-- a world that stays keeps its marks
+pub keeps_same : (e : ApplyError) (v : World) → WithMemory (Err e) (KeepsWorld v v)
+keeps_same (Failed why) v = world_same v
+keeps_same Memory v = tt
 
 -- ---- worlds that are one
 

@@ -1,23 +1,40 @@
 -- Transfers to accounts.
-use Rattle.std.proofs.Common.{◌≡◌, ◌≢◌, ◌≤◌, ◌<◌, ◌-◌, ◌==◌, ◌&&◌, ℕ, List, [], ◌∷◌, map, Bool, true, false, is_none, None, Some, refl, sym, ap, ◌∙◌, subst, arith, Ok, Err, Result}
+use Rattle.std.proofs.Common.{◌≡◌, ◌≢◌, ◌≤◌, ◌<◌, ◌-◌, ◌==◌, ◌&&◌, ◌||◌, ℕ, List, [], ◌∷◌, map, Bool, true, false, is_none, None, Some, refl, sym, ap, ◌∙◌, subst, arith, Ok, Err, Result}
 use Rattle.std.specs.Prelude.{nat_lt, if◌then◌else◌}
 use Rattle.std.specs.declared.option.Option.{Option}
 use Rattle.std.specs.List.{AllByRecursion}
 use Rattle.std.specs.Str.{bytes_eq}
 use Rattle.std.proofs.lemmas.Bool.Decides.{nat_tests}
-use Rattle.rules_forms.specs.Spelling.{default_name, spelled_address}
+use Rattle.rules_forms.specs.Spelling.{default_name, spelled_address, implicit_place}
 use Rattle.rules_gas.specs.declared.Kind.{Kind}
 use Rattle.rules_gas.specs.Prices.{Listed, cost}
 use Rattle.rules_steps.specs.Failure.{Failure, out_of_gas, empty_transaction, balance_too_low, no_entrypoint, bad_parameter}
 use Rattle.rules_values.specs.Canonical.{canonical}
-use Rattle.rules_values.specs.Val.{Val}
-use Rattle.rules_world.specs.Arguments.{Argument}
+use Rattle.rules_values.specs.Val.{Val, Pairs, unit}
+use Rattle.rules_base.specs.Tree.{Tree}
+use Rattle.rules_types.specs.declared.Simple.TheVariants as simple
+use Rattle.rules_typing.specs.Fits.{is_place}
+use Rattle.rules_values.specs.ByteForms.{is_implicit, is_key_hash}
+use Rattle.rules_values.specs.Literals.{simple_value}
+use Rattle.rules_world.specs.Application.{ordered_transaction}
+use Rattle.rules_world.specs.Arguments.{Argument, node}
+use Rattle.rules_world.specs.Contents.{Call}
+use Rattle.rules_world.specs.Good.{IsGoodWaiting}
+use Rattle.std.proofs.lemmas.List.Elements.{All-head}
+use Rattle.mich_bigmap.specs.Bases.{Bases}
+use Rattle.mich_bigmap.specs.Standing.{val_in, big_step_in}
+use Rattle.mich_term.specs.ValueView.{value_step}
+use Rattle.mich_term.specs.declared.value.Value.{fold-roll-Value}
+use Rattle.mich_term.specs.declared.value.Value.TheOpen.{Value-F}
+use Rattle.mich_term.specs.declared.value.Value.TheVariants as value
+use Rattle.mich_term.specs.declared.value.Value.TheVariants.{rolls-Unit}
 use Rattle.rules_world.specs.Balances.{balance_or_none}
 use Rattle.rules_world.specs.Balances as rules
 use Rattle.rules_world.specs.Receipts.{Transfer}
-use Rattle.rules_world.specs.Outcomes.{Outcome, applied, failed, stuck, charged, charged_by, Counts as PlainCounts}
-use Rattle.rules_world.specs.Transfers.{Transaction, as_ticket, account_failure, account_outcome, with_taken, taken_by_account, to_account, received, with_ticket}
+use Rattle.rules_world.specs.Outcomes.{Setting, ordered, Outcome, applied, failed, stuck, charged, charged_by, Counts as PlainCounts}
+use Rattle.rules_world.specs.Transfers.{Transaction, as_ticket, account_failure, account_outcome, with_taken, taken_by_account, to_account, received, with_ticket, delivered}
 use Rattle.rules_world.specs.World.{World as PlainWorld, key_hash_in}
+use Rattle.mich_forms.specs.Spelled.{place_bytes}
 use Rattle.mich_base.specs.Counted.{IsNotEmpty}
 use Rattle.mich_base.specs.View.{tree}
 use Rattle.mich_base.specs.declared.node.Node.{Node}
@@ -33,7 +50,7 @@ use Rattle.mich_world.specs.Holders.{may_receive, moved, balance_or_none as bala
 use Rattle.mich_world.specs.Standing.{StandsFor}
 use Rattle.mich_world.specs.World.{World, with_funds}
 use Rattle.mich_world.proofs.Agreeing.{balance_or_none_is, moves_agree}
-use Rattle.mich_operations.specs.Going.{EndsAs, IsApplied, issued_by}
+use Rattle.mich_operations.specs.Going.{Begins, EndsAs, IsApplied, issued_by}
 use Rattle.mich_operations.specs.Transfers.{AreBetween, transaction}
 use Rattle.mich_operations.specs.declared.applied.Applied.{Applied}
 use Rattle.mich_operations.specs.declared.applied.ApplyError.{ApplyError}
@@ -104,11 +121,11 @@ module _ (u : World) (w : PlainWorld) (from : Place) (to entry : List ℕ) (amou
       ends_failed _ v gas counts counts f balance_too_low
       (ap (λ o. account_outcome o w t x gas (counts_of counts)) (low_fails w t x some (subst (λ n. n < amount) balance_here low))) h
 
-  pub pays : (v : World) (node : Node) (a : Applied) → a.effect ≡ effect.Transfer from (record { place = place.Implicit to; entrypoint = entry }) amount node [] → a.emitted ≡ [] → amount ≢ 0 → as_ticket x ≡ None → may_receive u.funds.present from ≡ true → amount ≤ balance_in u.funds.present from →
-      v ≡ with_funds u v.funds → v.funds.present ≡ moved u.funds.present from (place.Implicit to) amount → tree node ≡ canonical x →
+  pub pays : (v : World) (literal : Node) (a : Applied) → a.effect ≡ effect.Transfer from (record { place = place.Implicit to; entrypoint = entry }) amount literal [] → a.emitted ≡ [] → amount ≢ 0 → as_ticket x ≡ None → may_receive u.funds.present from ≡ true → amount ≤ balance_in u.funds.present from →
+      v ≡ with_funds u v.funds → v.funds.present ≡ moved u.funds.present from (place.Implicit to) amount → tree literal ≡ canonical x →
       EndsAs (with_taken (Some x) w t gas (counts_of counts)) v gas counts counts
       (Ok a)
-  pays v node a done nothing some plain there enough e m printed = record {
+  pays v literal a done nothing some plain there enough e m printed = record {
     world = received w t x;
     stands = subst (λ o. StandsFor v (with_ticket (rules.moved w t.sender t.destination amount) (key_hash_in t.destination) o)) (sym plain)
         (moves_agree u v w from (place.Implicit to) amount b.stands b.form b.sender b.receiver there refl e m);
@@ -124,3 +141,51 @@ module _ (u : World) (w : PlainWorld) (from : Place) (to entry : List ℕ) (amou
     handed = subst (AllByRecursion (IsHanded v.store.bases.present)) (sym nothing) tt;
     there = λ h. absurd (subst IsNotEmpty nothing h);
   }
+
+-- ---- what a source orders
+
+pub unit_in : (bs : Bases) → val_in bs value.Unit ≡ unit
+unit_in bs = ap (val_in bs) (sym rolls-Unit) ∙ fold-roll-Value Val Pairs value_step (big_step_in bs) Value-F.Unit
+
+-- an account takes `Unit` at its one entrypoint
+pub to_default : (w : PlainWorld) (source to entry : List ℕ) (amount : ℕ) (argument : Tree) (bs : Bases) (gas : ℕ) (counts : Counts) (v : World) (r : Result Applied ApplyError) →
+    entry ≡ default_name → simple_value simple.Unit argument ≡ Some unit →
+    EndsAs (with_taken (Some (val_in bs value.Unit)) w (transaction (place.Implicit source) (place.Implicit to) entry amount (node argument)) gas (counts_of counts)) v gas counts counts r →
+    EndsAs (to_account w (transaction (place.Implicit source) (place.Implicit to) entry amount (node argument)) gas (counts_of counts)) v gas counts counts r
+to_default w source to entry amount argument bs gas counts v r named taken h =
+    let t = transaction (place.Implicit source) (place.Implicit to) entry amount (node argument) in
+    ends_along (to_account w t gas (counts_of counts)) (with_taken (Some (val_in bs value.Unit)) w t gas (counts_of counts)) v gas counts counts r
+    (ap (λ (n : List ℕ). if bytes_eq n default_name then with_taken (simple_value simple.Unit argument) w t gas (counts_of counts) else failed no_entrypoint) named
+    ∙ ap (λ (o : Option Val). with_taken o w t gas (counts_of counts)) (taken ∙ ap Some (sym (unit_in bs))))
+    h
+
+source_place : (source : List ℕ) → is_key_hash source ≡ true → is_place (implicit_place source) ≡ true
+source_place source h = rw h refl
+
+-- where a source calls an account
+pub between : (v : World) (w : PlainWorld) (s : Setting) (amount : ℕ) (entry : List ℕ) (argument : Tree) (to : Place) (who : List ℕ) (counts : PlainCounts) → to ≡ place.Implicit who →
+    Begins v w s (ordered (Call amount (place_bytes to) entry argument)) counts → AreBetween v w (place.Implicit s.source) (place.Implicit who)
+between v w s amount entry argument to who counts e b = record {
+  stands = b.stands;
+  form = b.next.going.good.sound.form;
+  sender = source_place s.source b.next.setting.source;
+  receiver = subst (λ (p : Place). is_place (place_bytes p) ≡ true) e
+      (All-head (IsGoodWaiting w) (ordered (Call amount (place_bytes to) entry argument)) b.next.behind b.next.going.good.waits).1.0;
+}
+
+or_false : (b : Bool) → (b || false) ≡ true → b ≡ true
+or_false true h = refl
+or_false false h = h
+
+pub delivers : (s : Setting) (w : PlainWorld) (amount : ℕ) (entry : List ℕ) (argument : Tree) (to : Place) (who : List ℕ) (gas : ℕ) (counts : Counts) (v : World) (r : Result Applied ApplyError) →
+    to ≡ place.Implicit who → is_place (place_bytes (place.Implicit who)) ≡ true →
+    EndsAs (to_account w (transaction (place.Implicit s.source) (place.Implicit who) entry amount (node argument)) gas (counts_of counts)) v gas counts counts r →
+    EndsAs (delivered (is_implicit (place_bytes to)) s w (ordered_transaction s amount (place_bytes to) entry argument) gas (counts_of counts)) v gas counts counts r
+delivers s w amount entry argument to who gas counts v r e p h =
+    let here : is_implicit (place_bytes (place.Implicit who)) ≡ true = or_false (is_implicit (place_bytes (place.Implicit who))) p in
+    ends_along
+    (delivered (is_implicit (place_bytes to)) s w (ordered_transaction s amount (place_bytes to) entry argument) gas (counts_of counts))
+    (to_account w (transaction (place.Implicit s.source) (place.Implicit who) entry amount (node argument)) gas (counts_of counts)) v gas counts counts r
+    (ap (λ (q : Place). delivered (is_implicit (place_bytes q)) s w (ordered_transaction s amount (place_bytes q) entry argument) gas (counts_of counts)) e
+    ∙ ap (λ (b : Bool). delivered b s w (ordered_transaction s amount (implicit_place who) entry argument) gas (counts_of counts)) here)
+    h

@@ -1,3 +1,2 @@
-pub mod Foundings
 pub mod Going
 pub mod Transfers

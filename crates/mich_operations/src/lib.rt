@@ -6,7 +6,6 @@ mod action;
 mod applied;
 mod calls;
 mod charging;
-mod founding;
 mod issued;
 mod printing;
 mod telling;
