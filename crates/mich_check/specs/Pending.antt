@@ -1,12 +1,59 @@
 -- What is still to be tried of literals.
-use Rattle.std.specs.Prelude.{◌≡◌, Result, Ok, Err}
+use Rattle.std.specs.Prelude.{◌≡◌, ℕ, ◌+◌, max, option_map, Bool, List, [], ◌∷◌, Option, Some, None, Result, Ok, Err}
+use Rattle.rules_base.specs.Tree.{Tree, size}
+use Rattle.rules_types.specs.Kind.{Kind}
+use Rattle.rules_values.specs.Val.{Val}
+use Rattle.rules_values.specs.Literals.{Pending, body, claim, Literal, good, bad}
 use Rattle.rules_instructions.specs.Arguments.{Found, found, fault}
+use Rattle.rules_instructions.specs.Context.{lambda}
+use Rattle.rules_instructions.specs.Control.{call_kinds}
+use Rattle.rules_typing.specs.Typing.{shift}
+use Rattle.rules_typing.specs.Bodies.{body_fault}
+use Rattle.rules_typing.specs.Nodes.{tree_type}
 use Rattle.rules_typing.specs.Literals.{Checked}
 use Rattle.mich_term.specs.ValueView.{val}
 use Rattle.mich_data.specs.View.{all_pending}
-use Rattle.mich_control.specs.declared.error.CheckError.{CheckError}
-use Rattle.mich_control.specs.declared.error.CheckError.TheVariants as error
+use Rattle.mich_data.specs.declared.pending.Read.{Read}
+use Rattle.mich_check.specs.declared.error.CheckError.{CheckError}
+use Rattle.mich_check.specs.declared.error.CheckError.TheVariants as error
 use Rattle.mich_check.specs.declared.literals.Checked.{Checked as CodeChecked}
+
+-- the greatest location behind a body
+abbrev pub reach : List Pending → ℕ
+reach [] = 0
+reach (body l a r recursive t ∷ ps) = max (l + size t) (reach ps)
+reach (claim l b a ∷ ps) = reach ps
+
+-- the size of the largest body
+abbrev pub largest : List Pending → ℕ
+largest [] = 0
+largest (body l a r recursive t ∷ ps) = max (size t) (largest ps)
+largest (claim l b a ∷ ps) = largest ps
+
+-- a fault counted from a location
+abbrev pub moved : ℕ → Option ℕ → Option ℕ
+moved at o = option_map (λ m. at + m) o
+
+-- a fault is the answer, if there is one
+abbrev pub IsFaulty : {T : Type 0} → Option ℕ → Result T CheckError → Type 0
+IsFaulty o (Ok u) = o ≡ None
+IsFaulty o (Err (error.IllTyped l)) = o ≡ Some l
+IsFaulty o (Err error.Memory) = Unit {0}
+
+-- the fault of a node at a location as the body of a lambda
+abbrev pub called_fault : ℕ → Kind → Kind → Bool → Tree → Option ℕ
+called_fault at a r recursive t = body_fault at (shift at (tree_type t lambda (call_kinds a r recursive))) r
+
+-- the fault of what is pending, if it is a body
+abbrev pub item_fault : Pending → Option ℕ
+item_fault (body l a r recursive t) = called_fault l a r recursive t
+item_fault (claim l b a) = None
+
+-- a literal of a type at a location, read from one node, counted from another at which it stands
+abbrev pub IsRead : ℕ → Literal Val → Result Read CheckError → Type 0
+IsRead at r (Ok x) = r ≡ good (val x.value) (all_pending x.pending)
+IsRead at r (Err (error.IllTyped l)) = (m : ℕ) × (r ≡ bad m) × (l ≡ at + m)
+IsRead at r (Err error.Memory) = Unit {0}
 
 abbrev pub checked : CodeChecked → Checked
 checked c = record { value = val c.value; claims = all_pending c.claims }

@@ -1,17 +1,17 @@
 // Literals, with the bodies of their lambdas.
-ghost use Rattle.std.specs.Prelude.{◌≡◌, ◌<◌, ◌^◌, IfOk};
-ghost use Rattle.laws_types.specs.Laws.{IsWellFormed};
+ghost use Rattle.std.specs.Prelude.{◌≡◌, ◌+◌, ◌<◌, ◌≤◌, ◌^◌, IfOk};
 ghost use Rattle.rules_base.specs.Tree.{size};
-ghost use Rattle.rules_typing.specs.Literals.{literal};
+ghost use Rattle.rules_values.specs.Literals.{claims, read};
+ghost use Rattle.rules_typing.specs.Literals.{literal, of_reading};
 ghost use Rattle.mich_base.specs.TypeView.{kind};
 ghost use Rattle.mich_base.specs.View.{tree};
-ghost use Rattle.mich_data.specs.Whole.{IsWhole};
-ghost use Rattle.mich_term.specs.Layers.{AreFormed};
-ghost use Rattle.mich_check.specs.Pending.{IsChecked};
+ghost use Rattle.mich_data.specs.View.{all_pending};
+ghost use Rattle.mich_check.specs.Pending.{IsChecked, IsRead, largest, reach};
 
-use mich_base::{Node, Rows, Ty};
-use mich_control::CheckError;
-use mich_data::Pending;
+use crate::error::CheckError;
+use crate::nodes::check_pending;
+use mich_base::{Memory, Node, Rows, Ty};
+use mich_data::{Pending, Read, ValueError, read_value_at};
 use mich_term::Value;
 use std::alloc::Global;
 
@@ -22,12 +22,69 @@ pub struct Checked {
     pub claims: Rows<Pending>,
 }
 
-/// STAND-IN
+// What the node spells whose location is counted from another, which stands at one itself.
+pub(crate) fn read_literal(
+    alloc: Global,
+    ty: &Ty,
+    node: &Node,
+    place: u32,
+    at: u32,
+) -> Result<Read, CheckError>
+    requires { at + (place + size (tree node.now)) < 2 ^ 32 }
+    ensures read { IsRead at (read (kind ty.now) place (tree node.now)) result }
+    ensures reach { IfOk result (λ x. reach (all_pending x.pending) ≤ place + size (tree node.now)) }
+    ensures largest { IfOk result (λ x. largest (all_pending x.pending) ≤ size (tree node.now)) }
+{
+    match read_value_at(alloc, ty, node, place) {
+        Ok(read) => Ok(read),
+        Err(ValueError::NotOfType(location)) => Err(CheckError::IllTyped(at + location)),
+        Err(ValueError::Memory) => Err(CheckError::Memory),
+    }
+}
+
+// What is pending but bodies.
+#[tactic(auto, using(crate::proofs::LiteralTyping::claim_step, crate::proofs::LiteralTyping::body_step, crate::proofs::LiteralTyping::claims_end))]
+fn claims_of(alloc: Global, pending: Rows<Pending>) -> Result<Rows<Pending>, Memory>
+    ensures { IfOk result (λ ps. all_pending ps ≡ claims (all_pending pending)) }
+{
+    let mut kept = Rows::new(alloc);
+    for item in pending.into_vec() {
+        match item {
+            Pending::Claim {
+                location,
+                address,
+                ty,
+            } => kept.push(Pending::Claim {
+                location,
+                address,
+                ty,
+            })?,
+            Pending::Body { .. } => {}
+        }
+    }
+    Ok(kept)
+}
+
+/// The value of a type that a node spells, where each body of a lambda in it goes from its argument's type to its result's,
+/// with the contracts that it names (Michelson reference, "Types", the literals of each). IllTyped has the location of the
+/// first node that doesn't fit, else that of the first fault of the first body that has one; Memory where there is no room.
 pub fn check_literal(alloc: Global, ty: &Ty, node: &Node) -> Result<Checked, CheckError>
     requires { size (tree node.now) < 2 ^ 32 }
-    ensures checked { IsChecked (literal (kind ty.now) (tree node.now)) result }
-    ensures whole { IfOk result (λ c. IsWhole (kind ty.now) c.value) }
-    ensures formed { IfOk result (λ c. IsWellFormed (kind ty.now) → AreFormed c.value) }
+    ensures { IsChecked (literal (kind ty.now) (tree node.now)) result }
 {
-    Err(CheckError::Memory)
+    check_literal_at(alloc, ty, node, 0)
+}
+
+/// The same of the node at a location, from which its locations are counted.
+pub fn check_literal_at(alloc: Global, ty: &Ty, node: &Node, at: u32) -> Result<Checked, CheckError>
+    requires { at + size (tree node.now) < 2 ^ 32 }
+    ensures { IsChecked (of_reading (read (kind ty.now) at (tree node.now))) result }
+{
+    let read = read_literal(alloc, ty, node, at, 0)?;
+    check_pending(alloc, &read.pending, 0)?;
+    let claims = claims_of(alloc, read.pending)?;
+    Ok(Checked {
+        value: read.value,
+        claims,
+    })
 }

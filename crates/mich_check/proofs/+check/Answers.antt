@@ -1,0 +1,318 @@
+use Rattle.std.proofs.Common.{rules, arith, ◌≡◌, ◌+◌, subst, ap, sym, ◌∙◌}
+use Rattle.std.specs.Prelude.{Err}
+use Rattle.rules_base.specs.Tree.{prim, size, sizes}
+use Rattle.rules_typing.specs.Typing.{shift}
+use Rattle.rules_typing.specs.Nodes.{tree_type, trees_type}
+use Rattle.mich_base.specs.TypeView.{kind}
+use Rattle.mich_base.specs.View.{tree, trees}
+use Rattle.mich_data.proofs.Places.{sizes_at}
+use Rattle.mich_overload.specs.View.{kinds}
+use Rattle.mich_check.specs.View.{context}
+use Rattle.rules_typing.specs.Literals.{fault_of_bodies}
+use Rattle.mich_data.specs.View.{pending, all_pending}
+use Rattle.mich_data.specs.declared.pending.Pending.{Pending as Item}
+use Rattle.mich_check.specs.Pending.{IsFaulty, item_fault, moved}
+use Rattle.mich_check.specs.Answers.{IsFault}
+use Rattle.mich_check.proofs.Shifts.{fault_is, seq_at}
+use Rattle.mich_check.proofs.Blocks.{left_size, block_fault, block_step, block_code, block_end, block_whole, seq_made}
+use Rattle.mich_check.proofs.Branches.{branch_one, branch_other, branch_join, branch_made}
+use Rattle.mich_check.proofs.Loops.{loop_arguments, loop_stack, loop_body, loop_other, loop_made}
+use Rattle.mich_check.proofs.DipTyping.{dip_read, dip_few, dip_body, dip_made}
+use Rattle.mich_check.proofs.MapTyping.{map_arguments, map_stack, map_body, map_made}
+use Rattle.mich_check.proofs.LambdaTyping.{lambda_arguments, lambda_types, lambda_begun, lambda_body, lambda_is}
+use Rattle.mich_check.proofs.PushTyping.{push_arguments, push_type, push_literal, push_body, push_made, items_room, items_size, items_fault, items_step, items_end, called_item, called_bad, called_other, called_well}
+use Rattle.mich_check.proofs.Views.{tree_seq, code_seq}
+use Rattle.std.specs.Prelude.{map}
+use Rattle.std.proofs.Common.{◌<◌, ◌≤◌, refl, subst}
+use Rattle.rules_typing.specs.Scripts.{with_views}
+use Rattle.mich_base.specs.TypeView.{kind}
+use Rattle.mich_sections.specs.View.{outline_of, view_of}
+use Rattle.mich_instr.specs.declared.instr.Script.{Script, out-Script}
+use Rattle.mich_check.specs.Scripts.{AreTypedViews, largest_of}
+use Rattle.mich_check.proofs.CreateTyping.{created, moved_typed, storage_other}
+use Rattle.mich_check.proofs.ScriptTyping.{Reached, code_size, reached_none, script_typed, views_end, views_fault, views_largest, views_size, views_step, whole_good}
+use Rattle.mich_check.proofs.Views.{code_create, storage_kind}
+use Rattle.mich_check.proofs.+check.Goals as goal
+
+pub nodes::check_block-check_node-requires : goal.nodes::check_block-check_node-requires
+nodes::check_block-check_node-requires t c =
+    let v = c.loop-node.invariant in
+    let s = left_size _ _ _ c.loop-node-test.true c.node-item.is in
+    (omega (arith, s, v.room, v.forward, c.decreases, c.requires), omega (arith, s, v.room, v.forward, c.requires))
+
+pub nodes::check_block-returns-in_err-made : goal.nodes::check_block-returns-in_err-made
+nodes::check_block-returns-in_err-made t c =
+    let v = c.loop-node.invariant in
+    let fault : IsFault (shift c.args.at (trees_type (trees c.args.nodes.now) (context c.args.place) (kinds c.args.types))) c.in_err-made.field-0.0 =
+    block_fault _ _ _ c.loop-node-test.true c.node-item.is _ _ _ c.in-Some.is _ _ _ v.same _ c.in_err-made.ensures in
+    search (rules, fault)
+
+pub nodes::check_block-loop-node-preserved : goal.nodes::check_block-loop-node-preserved
+nodes::check_block-loop-node-preserved t c =
+    let v = c.loop-node.invariant in
+    record {
+      same = block_step _ _ _ c.loop-node-test.true c.node-item.is _ _ _ c.in-Some.is _ _ _ v.same _ _ c.behind-next.ensures c.in_ok-made.ensures.0;
+      completes = block_code _ _ _ c.loop-node-test.true c.node-item.is _ _ _ c.in-Some.is _ _ _ _ _ _ c.in_ok-push.ensures.pushed v.completes c.in_ok-made.ensures.1;
+      forward = omega (arith, v.forward, c.behind-next.ensures);
+      room = sizes_at _ _ _ _ _ _ c.loop-node-test.true c.node-item.is v.room c.behind-next.ensures;
+    }
+
+pub nodes::check_block-returns : goal.nodes::check_block-returns
+nodes::check_block-returns t c =
+    let v = c.loop-node.invariant in (
+      block_end _ _ c.loop-node-test.false _ _ _ _ _ v.same,
+      block_whole _ _ c.loop-node-test.false _ _ _ _ _ _ c.in_ok-code.ensures v.completes,
+    )
+
+pub nodes::check_branch-returns-in_err-one_body : goal.nodes::check_branch-returns-in_err-one_body
+nodes::check_branch-returns-in_err-one_body t c =
+    let st = rw (c.in-Some-2.is, c.as_slice.ensures) at c.in_ok-first.ensures in
+    let fault : IsFault (shift c.args.at (tree_type (prim c.args.app.now.name c.args.app.now.annots (trees c.args.app.now.args)) (context c.args.place) (kinds c.args.types))) c.in_err-one_body.field-0.0 =
+    branch_one _ _ _ _ _ _ _ c.requires.form _ _ _ _ c.in-Some.ensures st _ c.in_err-one_body.ensures in
+    search (rules, fault)
+
+pub nodes::check_branch-returns-in_err-other_body : goal.nodes::check_branch-returns-in_err-other_body
+nodes::check_branch-returns-in_err-other_body t c =
+    let st = rw (c.in-Some-2.is, c.as_slice.ensures) at c.in_ok-first.ensures in
+    let fault : IsFault (shift c.args.at (tree_type (prim c.args.app.now.name c.args.app.now.annots (trees c.args.app.now.args)) (context c.args.place) (kinds c.args.types))) c.in_err-other_body.field-0.0 =
+    branch_other _ _ _ _ _ _ _ c.requires.form _ _ _ _ c.in-Some.ensures st _ _ c.behind.ensures c.in_ok-one_body.ensures.1 _ c.in_err-other_body.ensures in
+    search (rules, fault)
+
+pub nodes::check_branch-returns-in_err-after : goal.nodes::check_branch-returns-in_err-after
+nodes::check_branch-returns-in_err-after t c =
+    let st = rw (c.in-Some-2.is, c.as_slice.ensures) at c.in_ok-first.ensures in
+    let fault : IsFault (shift c.args.at (tree_type (prim c.args.app.now.name c.args.app.now.annots (trees c.args.app.now.args)) (context c.args.place) (kinds c.args.types))) c.in_err-after.field-0.0 =
+    branch_join _ _ _ _ _ _ _ c.requires.form _ _ _ _ c.in-Some.ensures st _ _ c.behind.ensures c.in_ok-one_body.ensures.1 _ c.in_ok-other_body.ensures.1 _ c.in_err-after.ensures in
+    search (rules, fault)
+
+pub nodes::check_branch-returns : goal.nodes::check_branch-returns
+nodes::check_branch-returns t c =
+    let st = rw (c.in-Some-2.is, c.as_slice.ensures) at c.in_ok-first.ensures in
+    let one = c.in_ok-one_body.ensures in
+    let other = c.in_ok-other_body.ensures in
+    branch_made _ _ _ _ _ _ _ c.requires.form _ _ _ _ c.in-Some.ensures st _ _ c.behind.ensures one.1 _ other.1 _ _ _ _ c.in_ok-after.ensures c.branch_instr.ensures one.0 one.2 other.0 other.2
+
+pub nodes::check_node-returns-in_err-body-in-Seq : goal.nodes::check_node-returns-in_err-body-in-Seq
+nodes::check_node-returns-in_err-body-in-Seq t c =
+    let fault : IsFault (shift c.args.at (tree_type (tree c.args.node.now) (context c.args.place) (kinds c.args.types))) c.in_err-body-in-Seq.field-0.0 =
+    fault_is _ _ _ (seq_at _ _ _ _ _ (ap tree c.in-Seq.is ∙ tree_seq _)) c.in_err-body-in-Seq.ensures in
+    search (rules, fault)
+
+pub nodes::check_node-returns-in_ok-body-in-Seq : goal.nodes::check_node-returns-in_ok-body-in-Seq
+nodes::check_node-returns-in_ok-body-in-Seq t c =
+    let h = c.in_ok-body-in-Seq.ensures in
+    (seq_at _ _ _ _ _ h.0 ∙ h.1, seq_made _ _ _ _ _ _ h.0 (code_seq _) h.2)
+
+pub nodes::check_loop-returns-in_err-body : goal.nodes::check_loop-returns-in_err-body
+nodes::check_loop-returns-in_err-body t c =
+    let st = rw (c.in-Some-2.is, c.as_slice.ensures) at c.in_ok-turning.ensures in
+    let fault : IsFault (shift c.args.at (tree_type (prim c.args.app.now.name c.args.app.now.annots (trees c.args.app.now.args)) (context c.args.place) (kinds c.args.types))) c.in_err-body.field-0.0 =
+    loop_body _ _ _ _ _ _ _ c.requires.form _ _ c.in-Some.ensures st _ c.in_err-body.ensures in
+    search (rules, fault)
+
+pub nodes::check_loop-returns : goal.nodes::check_loop-returns
+nodes::check_loop-returns t c =
+    let st = rw (c.in-Some-2.is, c.as_slice.ensures) at c.in_ok-turning.ensures in
+    let b = c.in_ok-body.ensures in
+    loop_made _ _ _ _ _ _ _ c.requires.form _ _ c.in-Some.ensures st _ b.1 _ _ (sym c.if-not-ends_in.false ∙ c.ends_in.ensures) c.loop_instr.ensures b.0 b.2
+
+-- ---- DIP
+
+pub nodes::check_dip-check_body-requires : goal.nodes::check_dip-check_body-requires
+nodes::check_dip-check_body-requires t c =
+    let w = c.in_ok-dip.ensures.within in
+    let b = c.in_ok-dip.ensures.behind in
+    (omega (arith, w, b, c.decreases, c.requires.fits), omega (arith, w, b, c.requires.fits))
+
+pub nodes::check_dip-returns-in_err-dip : goal.nodes::check_dip-returns-in_err-dip
+nodes::check_dip-returns-in_err-dip t c =
+    let fault : IsFault (shift c.args.at (tree_type (prim c.args.app.now.name c.args.app.now.annots (trees c.args.app.now.args)) (context c.args.place) (kinds c.args.types))) c.in_err-dip.field-0.0 =
+    dip_read _ _ _ _ _ _ c.requires.form _ c.in_err-dip.ensures.read in
+    search (rules, fault)
+
+pub nodes::check_dip-returns-in_err-body : goal.nodes::check_dip-returns-in_err-body
+nodes::check_dip-returns-in_err-body t c =
+    let s = rw c.in-Some.is at c.in_ok-upper.ensures in
+    let fault : IsFault (shift c.args.at (tree_type (prim c.args.app.now.name c.args.app.now.annots (trees c.args.app.now.args)) (context c.args.place) (kinds c.args.types))) c.in_err-body.field-0.0 =
+    dip_body _ _ _ _ _ _ c.requires.form _ _ _ _ c.in_ok-dip.ensures.read c.counted.ensures _ _ s.0 s.1 s.2 _ c.in_err-body.ensures in
+    search (rules, fault)
+
+pub nodes::check_dip-returns : goal.nodes::check_dip-returns
+nodes::check_dip-returns t c =
+    let s = rw c.in-Some.is at c.in_ok-upper.ensures in
+    let b = c.in_ok-body.ensures in
+    dip_made _ _ _ _ _ _ c.requires.form _ _ _ _ c.in_ok-dip.ensures.read c.counted.ensures _ _ s.0 s.1 s.2 _ b.0 b.1 b.2 _ c.dipped.ensures
+
+-- ---- MAP
+
+pub nodes::check_map-returns-in_err-body : goal.nodes::check_map-returns-in_err-body
+nodes::check_map-returns-in_err-body t c =
+    let st = rw c.in-Some-2.is at c.in_ok-mapping.ensures in
+    let fault : IsFault (shift c.args.at (tree_type (prim c.args.app.now.name c.args.app.now.annots (trees c.args.app.now.args)) (context c.args.place) (kinds c.args.types))) c.in_err-body.field-0.0 =
+    map_body _ _ _ _ _ _ c.requires.form _ _ c.in-Some.ensures st _ c.in_err-body.ensures in
+    search (rules, fault)
+
+pub nodes::check_map-returns : goal.nodes::check_map-returns
+nodes::check_map-returns t c =
+    let st = rw c.in-Some-2.is at c.in_ok-mapping.ensures in
+    let b = c.in_ok-body.ensures in
+    map_made _ _ _ _ _ _ c.requires.form _ _ c.in-Some.ensures st _ b.0 b.1 b.2 _ c.mapped.ensures
+
+-- ---- LAMBDA
+
+pub nodes::check_lambda-returns-in_err-arrow : goal.nodes::check_lambda-returns-in_err-arrow
+nodes::check_lambda-returns-in_err-arrow t c =
+    let fault : IsFault (shift c.args.at (tree_type (prim c.args.app.now.name c.args.app.now.annots (trees c.args.app.now.args)) (context c.args._place) (kinds c.args.types))) c.in_err-arrow.field-0.0 =
+    lambda_types _ _ _ _ _ _ _ c.requires.form _ _ _ c.in-Some.ensures _ c.in_err-arrow.ensures in
+    search (rules, fault)
+
+pub nodes::check_lambda-returns-in_err-begins : goal.nodes::check_lambda-returns-in_err-begins
+nodes::check_lambda-returns-in_err-begins t c =
+    let fault : IsFault (shift c.args.at (tree_type (prim c.args.app.now.name c.args.app.now.annots (trees c.args.app.now.args)) (context c.args._place) (kinds c.args.types))) c.in_err-begins.field-0.0 =
+    lambda_begun _ _ _ _ _ _ _ c.requires.form _ _ _ c.in-Some.ensures _ _ c.in_ok-arrow.ensures _ c.in_err-begins.ensures in
+    search (rules, fault)
+
+pub nodes::check_lambda-returns-in_err-body : goal.nodes::check_lambda-returns-in_err-body
+nodes::check_lambda-returns-in_err-body t c =
+    let g = c.in_ok-begins.ensures in
+    let fault : IsFault (shift c.args.at (tree_type (prim c.args.app.now.name c.args.app.now.annots (trees c.args.app.now.args)) (context c.args._place) (kinds c.args.types))) c.in_err-body.field-0.0 =
+    lambda_body _ _ _ _ _ _ _ c.requires.form _ _ _ c.in-Some.ensures _ _ c.in_ok-arrow.ensures _ _ _ g.0 g.1 c.behind.ensures c.behind-place.ensures _ c.in_err-body.ensures in
+    search (rules, fault)
+
+pub nodes::check_lambda-returns : goal.nodes::check_lambda-returns
+nodes::check_lambda-returns t c =
+    let g = c.in_ok-begins.ensures in
+    let b = c.in_ok-body.ensures in
+    lambda_is _ _ _ _ _ _ _ c.requires.form _ _ _ c.in-Some.ensures _ _ c.in_ok-arrow.ensures _ _ _ g.0 g.1 c.behind.ensures c.behind-place.ensures _ b.0 b.1 b.2 _ c.lambda_made.ensures
+
+-- ---- PUSH
+
+pub nodes::check_push-returns-in_err-ty : goal.nodes::check_push-returns-in_err-ty
+nodes::check_push-returns-in_err-ty t c =
+    let fault : IsFault (shift c.args.at (tree_type (prim c.args.app.now.name c.args.app.now.annots (trees c.args.app.now.args)) (context c.args._place) (kinds c.args.types))) c.in_err-ty.field-0.0 =
+    push_type _ _ _ _ _ _ c.requires.form _ _ c.in-Some.ensures _ c.in_err-ty.ensures in
+    search (rules, fault)
+
+pub nodes::check_push-returns-in_err-read : goal.nodes::check_push-returns-in_err-read
+nodes::check_push-returns-in_err-read t c =
+    let fault : IsFault (shift c.args.at (tree_type (prim c.args.app.now.name c.args.app.now.annots (trees c.args.app.now.args)) (context c.args._place) (kinds c.args.types))) c.in_err-read.field-0.0 =
+    push_literal _ _ _ _ _ _ c.requires.form _ _ c.in-Some.ensures _ _ c.in_ok-ty.ensures c.behind.ensures _ c.in_err-read.ensures.read in
+    search (rules, fault)
+
+pub nodes::check_push-returns-in_err-check_pending : goal.nodes::check_push-returns-in_err-check_pending
+nodes::check_push-returns-in_err-check_pending t c =
+    let fault : IsFault (shift c.args.at (tree_type (prim c.args.app.now.name c.args.app.now.annots (trees c.args.app.now.args)) (context c.args._place) (kinds c.args.types))) c.in_err-check_pending.field-0.0 =
+    push_body _ _ _ _ _ _ c.requires.form _ _ c.in-Some.ensures _ _ c.in_ok-ty.ensures c.behind.ensures _ _ c.in_ok-read.ensures.read _ c.in_err-check_pending.ensures in
+    search (rules, fault)
+
+pub nodes::check_push-returns : goal.nodes::check_push-returns
+nodes::check_push-returns t c =
+    let m = c.in_ok-made.ensures in
+    push_made _ _ _ _ _ _ c.requires.form _ _ c.in-Some.ensures _ _ c.in_ok-ty.ensures c.behind.ensures _ _ c.in_ok-read.ensures.read _ _ c.in_ok-check_pending.ensures m.after m.code
+
+pub nodes::check_pending-check_item-requires : goal.nodes::check_pending-check_item-requires
+nodes::check_pending-check_item-requires t c =
+    let v = c.loop-item.invariant in
+    let r = items_room _ _ _ c.loop-item-test.true c.item-item.is _ v.room in
+    let s = items_size _ _ _ c.loop-item-test.true c.item-item.is _ v.sizes in
+    let r0 = r.0 in
+    let s0 = s.0 in
+    (omega (arith, s0, c.decreases), omega (arith, r0, c.requires))
+
+pub nodes::check_pending-returns-in_err-check_item : goal.nodes::check_pending-returns-in_err-check_item
+nodes::check_pending-returns-in_err-check_item t c =
+    let v = c.loop-item.invariant in
+    let fault : IsFaulty {T = Unit {0}} (moved c.args.at (fault_of_bodies (all_pending c.args.pending.now))) (Err c.in_err-check_item.field-0.0) =
+    items_fault _ _ _ c.loop-item-test.true c.item-item.is _ _ _ v.tried c.in_err-check_item.ensures in
+    search (rules, fault)
+
+pub nodes::check_pending-loop-item-preserved : goal.nodes::check_pending-loop-item-preserved
+nodes::check_pending-loop-item-preserved t c =
+    let v = c.loop-item.invariant in
+    record {
+      tried = items_step _ _ _ c.loop-item-test.true c.item-item.is _ _ v.tried c.in_ok-check_item.ensures;
+      room = (items_room _ _ _ c.loop-item-test.true c.item-item.is _ v.room).1;
+      sizes = (items_size _ _ _ c.loop-item-test.true c.item-item.is _ v.sizes).1;
+    }
+
+pub nodes::check_pending-returns : goal.nodes::check_pending-returns
+nodes::check_pending-returns t c = items_end _ _ _ _ c.loop-item-test.false c.loop-item.invariant.tried
+
+pub nodes::check_item-returns-in-Body : goal.nodes::check_item-returns-in-Body
+nodes::check_item-returns-in-Body t c =
+    subst (λ (x : Item). IsFaulty (moved c.args.at (item_fault (pending x))) c.check_called.result) (sym c.in-Body.is)
+    (called_item c.args.at c.in-Body.location (kind c.in-Body.arg) (kind c.in-Body.ret) c.in-Body.recursive (tree c.in-Body.node) c.check_called.result c.check_called.ensures)
+
+-- ---- scripts
+
+pub scripts::check_create-returns-in_err-after : goal.scripts::check_create-returns-in_err-after
+scripts::check_create-returns-in_err-after t c =
+    let v = sym c.is_view.ensures ∙ c.if-is_view.false in
+    let typed = moved_typed c.args.at (context c.args.place) c.args.app.now.name c.args.app.now.annots c.args.app.now.args (kinds c.args.types) c.requires.form v _ c.in-Some.ensures _ c.in-Some-origination.ensures _ _ c.check_script-answer.ensures c.in_ok-script.ensures in
+    let storage = ap (λ (s : Script). kind (out-Script s).storage) c.get.ensures ∙ storage_kind c.in_ok-script.script in
+    let fault : IsFault (shift c.args.at (tree_type (prim c.args.app.now.name c.args.app.now.annots (trees c.args.app.now.args)) (context c.args.place) (kinds c.args.types))) c.in_err-after.field-0.0 =
+    storage_other c.args.at (context c.args.place) c.args.app.now.name c.args.app.now.annots c.args.app.now.args (kinds c.args.types) c.requires.form v _ c.in-Some.ensures _ c.in-Some-origination.ensures _ typed _ _ storage c.in_err-after.ensures in
+    search (rules, fault)
+
+pub scripts::check_create-returns : goal.scripts::check_create-returns
+scripts::check_create-returns t c =
+    let v = sym c.is_view.ensures ∙ c.if-is_view.false in
+    let typed = moved_typed c.args.at (context c.args.place) c.args.app.now.name c.args.app.now.annots c.args.app.now.args (kinds c.args.types) c.requires.form v _ c.in-Some.ensures _ c.in-Some-origination.ensures _ _ c.check_script-answer.ensures c.in_ok-script.ensures in
+    let storage = ap (λ (s : Script). kind (out-Script s).storage) c.get.ensures ∙ storage_kind c.in_ok-script.script in
+    created c.args.at (context c.args.place) c.args.app.now.name c.args.app.now.annots c.args.app.now.args (kinds c.args.types) c.requires.form v _ c.in-Some.ensures _ c.in-Some-origination.ensures _ typed _ c.in_ok-after.after _ storage c.in_ok-after.ensures (code_create c.in_ok-script.script)
+
+pub scripts::check_script-check_code-requires : goal.scripts::check_script-check_code-requires
+scripts::check_script-check_code-requires t c =
+    let h : size (tree c.in_ok-outline.outline.code.node.now) < size (tree c.args.node.now) = code_size (tree c.args.node.now) (outline_of c.in_ok-outline.outline) c.in_ok-outline.ensures in
+    (omega (arith, h, c.decreases), tt)
+
+pub scripts::check_script-check_views-requires : goal.scripts::check_script-check_views-requires
+scripts::check_script-check_views-requires t c =
+    let h : largest_of c.in_ok-outline.outline.views < size (tree c.args.node.now) = views_largest (tree c.args.node.now) c.in_ok-outline.outline c.in_ok-outline.ensures in
+    (omega (arith, h, c.decreases), tt)
+
+pub scripts::check_script-returns : goal.scripts::check_script-returns
+scripts::check_script-returns t c =
+    script_typed (tree c.args.node.now) (outline_of c.in_ok-outline.outline) c.in_ok-outline.ensures _ c.in_ok-code.ensures _ _ c.in_ok-views.ensures c.in_ok-script.ensures
+
+pub scripts::check_views-loop-view-init : goal.scripts::check_views-loop-view-init
+scripts::check_views-loop-view-init t c =
+    let s = kind c.args.storage.now in
+    let whole = with_views s (map view_of c.args.views.now) in
+    record {
+      reached = subst (λ xs. Reached s whole (map view_of xs) c.new-typed.result) (sym c.as_slice-view-items.ensures) (reached_none s (map view_of c.args.views.now) c.new-typed.result c.new-typed.ensures);
+      sizes = subst (λ xs. largest_of xs ≤ largest_of c.args.views.now) (sym c.as_slice-view-items.ensures) (omega arith);
+    }
+
+pub scripts::check_views-check_view-requires : goal.scripts::check_views-check_view-requires
+scripts::check_views-check_view-requires t c =
+    let s = kind c.args.storage.now in
+    let whole = with_views s (map view_of c.args.views.now) in
+    let r : size (tree c.view-item.result.body.node.now) ≤ largest_of c.args.views.now =
+    (views_size s whole c.as_slice-view-items.result.now c.loop-view.view-index c.view-item.result c.loop-view.typed c.loop-view-test.true c.view-item.is (largest_of c.args.views.now) c.loop-view.invariant.sizes).0 in
+    (omega (arith, r, c.decreases), tt)
+
+pub scripts::check_views-returns-in_err-code : goal.scripts::check_views-returns-in_err-code
+scripts::check_views-returns-in_err-code t c =
+    let s = kind c.args.storage.now in
+    let whole = with_views s (map view_of c.args.views.now) in
+    let fault : AreTypedViews s (map view_of c.args.views.now) (Err c.in_err-code.field-0.0) =
+    views_fault s whole c.as_slice-view-items.result.now c.loop-view.view-index c.view-item.result c.loop-view.typed c.loop-view-test.true c.view-item.is _ (map view_of c.args.views.now) refl c.loop-view.invariant.reached c.in_err-code.ensures in
+    search (rules, fault)
+
+pub scripts::check_views-loop-view-preserved : goal.scripts::check_views-loop-view-preserved
+scripts::check_views-loop-view-preserved t c =
+    let s = kind c.args.storage.now in
+    let whole = with_views s (map view_of c.args.views.now) in
+    record {
+      reached = views_step s whole c.as_slice-view-items.result.now c.loop-view.view-index c.view-item.result c.loop-view.typed c.loop-view-test.true c.view-item.is c.in_ok-code.code c.push.new.self c.loop-view.invariant.reached c.in_ok-code.ensures c.in_ok-push.ensures.pushed;
+      sizes = (views_size s whole c.as_slice-view-items.result.now c.loop-view.view-index c.view-item.result c.loop-view.typed c.loop-view-test.true c.view-item.is (largest_of c.args.views.now) c.loop-view.invariant.sizes).1;
+    }
+
+pub scripts::check_views-returns : goal.scripts::check_views-returns
+scripts::check_views-returns t c = views_end _ _ c.as_slice-view-items.result.now c.loop-view.view-index c.loop-view.typed c.loop-view-test.false c.loop-view.invariant.reached
+
+pub scripts::check_whole-returns-then-ends_in : goal.scripts::check_whole-returns-then-ends_in
+scripts::check_whole-returns-then-ends_in t c =
+    let b = c.in_ok-made.ensures in
+    whole_good c.args.body.at (tree c.args.body.node.now) (context c.args.place) (kind c.args.ends.begins) (kind c.args.ends.ends) _ c.in_ok-begins.ensures _ _ b.1 c.in_ok-last.ensures _ b.0 (sym c.ends_in.ensures ∙ c.if-ends_in.true) b.2

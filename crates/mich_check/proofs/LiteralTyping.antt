@@ -1,0 +1,63 @@
+-- Literals with the bodies of their lambdas.
+use Rattle.std.proofs.Common.{◌≡◌, ℕ, ◌+◌, Bool, List, [], ◌∷◌, ◌++◌, Option, Some, None, sym, ap, ◌∙◌, subst, arith, append_assoc}
+use Rattle.std.specs.Prelude.{Result, Ok, Err}
+use Rattle.std.proofs.lemmas.List.{map-append, append-nil}
+use Rattle.rules_base.specs.Tree.{Tree}
+use Rattle.rules_types.specs.Kind.{Kind}
+use Rattle.rules_values.specs.Val.{Val}
+use Rattle.rules_values.specs.Literals.{Pending, Literal, good, bad, read, claims}
+use Rattle.rules_instructions.specs.Arguments.{Found, found, fault}
+use Rattle.rules_typing.specs.Literals.{Checked, fault_of_bodies, checked, of_reading, literal}
+use Rattle.mich_base.specs.declared.node.Node.{Node}
+use Rattle.mich_base.specs.declared.ty.Ty.{Ty}
+use Rattle.mich_data.specs.View.{pending, all_pending}
+use Rattle.mich_data.specs.declared.pending.Pending.{Pending as Item}
+use Rattle.mich_data.specs.declared.pending.Pending.TheVariants as item
+use Rattle.mich_forms.specs.declared.addresses.Address.{Address}
+use Rattle.mich_check.specs.declared.error.CheckError.{CheckError}
+use Rattle.mich_check.specs.declared.error.CheckError.TheVariants as error
+use Rattle.mich_check.specs.Pending.{moved, IsFaulty, IsRead, IsChecked}
+use Rattle.mich_check.proofs.PushTyping.{no_move}
+
+pub literal_misread : (a : Kind) (t : Tree) (e : CheckError) → IsRead 0 (read a 0 t) (Err e) → IsChecked (literal a t) (Err e)
+literal_misread a t (error.IllTyped l) h =
+    let e = h.2 in
+    let k : h.0 ≡ l = omega (arith, e) in
+    ap of_reading h.1 ∙ ap fault k
+literal_misread a t error.Memory h = tt
+
+tried : (x : Val) (o : Option ℕ) (ps : List Pending) (e : CheckError) → IsFaulty {T = Unit {0}} (moved 0 o) (Err e) → IsChecked (checked x ps o) (Err e)
+tried x (Some m) ps (error.IllTyped l) h =
+    let e : 0 + m ≡ l = cc in
+    let k : m ≡ l = omega (arith, e) in
+    ap fault k
+tried x None ps (error.IllTyped l) h = absurd cc
+tried x o ps error.Memory h = tt
+
+pub literal_untried : (a : Kind) (t : Tree) (x : Val) (ps : List Pending) (e : CheckError) → read a 0 t ≡ good x ps →
+    IsFaulty {T = Unit {0}} (moved 0 (fault_of_bodies ps)) (Err e) → IsChecked (literal a t) (Err e)
+literal_untried a t x ps e r h =
+    subst (λ (f : Found Checked). IsChecked f (Err e)) (sym (ap of_reading r)) (tried x (fault_of_bodies ps) ps e h)
+
+pub literal_is : (a : Kind) (t : Tree) (x : Val) (ps qs : List Pending) → read a 0 t ≡ good x ps → moved 0 (fault_of_bodies ps) ≡ None → qs ≡ claims ps →
+    literal a t ≡ found record { value = x; claims = qs }
+literal_is a t x ps qs r h c =
+    ap of_reading r ∙ ap (checked x ps) (no_move 0 (fault_of_bodies ps) h) ∙ ap (λ cs. found record { value = x; claims = cs }) (sym c)
+
+-- ---- the claims
+
+pub claim_step : (ks us items rest : List Item) (l : ℕ) (a : Address) (ty : Ty) (whole : List Pending) → us ≡ ks ++ item.Claim l a ty ∷ [] → items ≡ item.Claim l a ty ∷ rest →
+    all_pending ks ++ claims (all_pending items) ≡ whole → all_pending us ++ claims (all_pending rest) ≡ whole
+claim_step ks us items rest l a ty whole e g h =
+    ap (λ x. all_pending x ++ claims (all_pending rest)) e
+    ∙ ap (λ xs. xs ++ claims (all_pending rest)) (map-append pending ks (item.Claim l a ty ∷ []))
+    ∙ append_assoc (all_pending ks) (pending (item.Claim l a ty) ∷ []) (claims (all_pending rest))
+    ∙ sym (ap (λ x. all_pending ks ++ claims (all_pending x)) g) ∙ h
+
+pub body_step : (ks items rest : List Item) (l : ℕ) (a r : Ty) (recursive : Bool) (n : Node) (whole : List Pending) → items ≡ item.Body l a r recursive n ∷ rest →
+    all_pending ks ++ claims (all_pending items) ≡ whole → all_pending ks ++ claims (all_pending rest) ≡ whole
+body_step ks items rest l a r recursive n whole g h = sym (ap (λ x. all_pending ks ++ claims (all_pending x)) g) ∙ h
+
+pub claims_end : (ks items : List Item) (whole : List Pending) → items ≡ [] → all_pending ks ++ claims (all_pending items) ≡ whole → all_pending ks ≡ whole
+claims_end ks items whole g h =
+    sym (append-nil (all_pending ks)) ∙ sym (ap (λ x. all_pending ks ++ claims (all_pending x)) g) ∙ h

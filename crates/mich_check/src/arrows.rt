@@ -1,0 +1,127 @@
+// LAMBDA and LAMBDA_REC.
+ghost use Rattle.std.specs.Prelude.{◌≡◌, ◌+◌, ◌<◌, ◌^◌, IfOk};
+ghost use Rattle.rules_base.specs.Tree.{more, none, size};
+ghost use Rattle.mich_base.specs.TypeView.{kind};
+ghost use Rattle.mich_base.specs.View.{tree, trees};
+ghost use Rattle.mich_overload.specs.View.{kinds};
+ghost use Rattle.mich_stackrules.specs.Answers.{found_from};
+ghost use Rattle.mich_instr.specs.Code as made;
+ghost use Rattle.mich_instr.specs.Plain.{bare};
+ghost use Rattle.mich_instr.specs.View.{code, codes};
+ghost use Rattle.mich_check.specs.Answers.{IsFound};
+ghost use Rattle.mich_check.specs.Arrows.{IsBegun, IsLambdaMade, arrow_in, arrow_of};
+
+use crate::bodiless::lambda_of;
+use crate::error::CheckError;
+use crate::joining::ends_in;
+use crate::lambdas::{call_types, only};
+use crate::made::{Body, Made};
+use crate::plain::bare_node;
+use crate::reading::type_with;
+use crate::stacks::with_made;
+use mich_base::{Memory, Node, Nodes, Rows, Shared, Ty, copy_node};
+use mich_instr::{Block, Instr};
+use mich_stackrules::{Attribute, is_within_limit};
+use mich_types::behind;
+use std::alloc::Global;
+
+// The types of a lambda's argument and of its result.
+#[derive(Drop)]
+pub(crate) struct Arrow {
+    pub(crate) arg: Ty,
+    pub(crate) ret: Ty,
+}
+
+// The arguments of LAMBDA: its two types and its body.
+pub(crate) type Written<'a> = (&'a Node, &'a Node, &'a Node);
+
+// The types that the instruction at a location spells.
+#[tactic(auto, using(crate::proofs::LambdaTyping::arrow_is))]
+pub(crate) fn read_arrow(
+    alloc: Global,
+    first: &Node,
+    second: &Node,
+    at: u32,
+) -> Result<Arrow, CheckError>
+    requires { at + 1 + size (tree first.now) + size (tree second.now) < 2 ^ 32 }
+    ensures { IsFound arrow_of (found_from at (arrow_in (tree first.now) (tree second.now))) result }
+{
+    let arg = type_with(alloc, Attribute::Any, first, at + 1)?;
+    let ret = type_with(alloc, Attribute::Any, second, behind(first, at + 1))?;
+    Ok(Arrow { arg, ret })
+}
+
+// The stack that the body begins with. A recursive lambda stands on it itself, so that its type is tried first.
+pub(crate) fn begun(
+    alloc: Global,
+    recursive: bool,
+    arrow: &Arrow,
+    at: u32,
+) -> Result<Rows<Ty>, CheckError>
+    ensures { IsBegun at recursive (kind arrow.now.arg) (kind arrow.now.ret) result }
+{
+    if recursive {
+        let lambda = lambda_of(alloc, &arrow.arg, &arrow.ret)?;
+        if !is_within_limit(&lambda) {
+            return Err(CheckError::IllTyped(at));
+        }
+    }
+    Ok(call_types(alloc, &arrow.arg, &arrow.ret, recursive)?)
+}
+
+// The types as they are written, without annotations.
+fn types_written(alloc: Global, first: &Node, second: &Node) -> Result<Nodes, Memory>
+    ensures { IfOk result (λ ns. trees ns ≡ more (bare (tree first.now)) (more (bare (tree second.now)) none)) }
+{
+    let mut nodes = Rows::new(alloc);
+    nodes.push(bare_node(alloc, first)?)?;
+    nodes.push(bare_node(alloc, second)?)?;
+    Ok(nodes)
+}
+
+fn lambda_instr(
+    alloc: Global,
+    recursive: bool,
+    written: Written<'_>,
+    arrow: Arrow,
+    block: Block,
+) -> Result<Instr, Memory>
+    ensures { IfOk result (λ i. code i ≡ made.lambda recursive (kind arrow.arg) (kind arrow.ret) (more (bare (tree written.entry.0.now)) (more (bare (tree written.entry.1.now)) none)) (tree written.entry.2.now) (codes block)) }
+{
+    let types = types_written(alloc, written.0, written.1)?;
+    let body = Shared::new(alloc, copy_node(alloc, written.2)?)?;
+    Ok(Instr::Lambda {
+        recursive,
+        arg: arrow.arg,
+        ret: arrow.ret,
+        written: types,
+        body,
+        code: block,
+    })
+}
+
+// LAMBDA or LAMBDA_REC with its typed body, at a location.
+#[tactic(auto, using(crate::proofs::LambdaTyping::ends_otherwise, crate::proofs::LambdaTyping::ends_large, crate::proofs::LambdaTyping::ends_well))]
+pub(crate) fn lambda_made(
+    alloc: Global,
+    recursive: bool,
+    written: Written<'_>,
+    arrow: Arrow,
+    body: Body,
+    types: Rows<Ty>,
+    at: u32,
+) -> Result<Made, CheckError>
+    ensures { IsLambdaMade at recursive (tree written.entry.0.now) (tree written.entry.1.now) (tree written.entry.2.now) (kind arrow.arg) (kind arrow.ret) (kinds types) body result }
+{
+    let ends = only(alloc, &arrow.ret)?;
+    if !ends_in(&body.after, &ends) {
+        return Err(CheckError::IllTyped(at));
+    }
+    let lambda = lambda_of(alloc, &arrow.arg, &arrow.ret)?;
+    let after = with_made(lambda, types, at)?;
+    let instr = lambda_instr(alloc, recursive, written, arrow, body.code)?;
+    Ok(Made {
+        instr,
+        after: Some(after),
+    })
+}

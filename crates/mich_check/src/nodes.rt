@@ -1,0 +1,349 @@
+// The check of instructions and blocks.
+ghost use Rattle.std.specs.Prelude.{◌≡◌, ◌+◌, ◌<◌, ◌^◌, [], ◌∷◌};
+ghost use Rattle.rules_base.specs.Tree.{prim, size, sizes};
+ghost use Rattle.rules_base.specs.Primitives.{primitive_of_name};
+ghost use Rattle.rules_instructions.specs.Forms as f;
+ghost use Rattle.rules_instructions.specs.Forms.{form_of};
+ghost use Rattle.rules_typing.specs.Typing.{shift};
+ghost use Rattle.rules_typing.specs.Nodes.{body, tree_type, trees_type};
+ghost use Rattle.rules_typing.specs.Literals.{fault_of_bodies};
+ghost use Rattle.mich_base.specs.TypeView.{kind};
+ghost use Rattle.mich_base.specs.View.{tree, trees};
+ghost use Rattle.mich_data.specs.View.{all_pending, pending};
+ghost use Rattle.mich_overload.specs.View.{kinds};
+ghost use Rattle.mich_instr.specs.Typed.{lambda_form};
+ghost use Rattle.mich_check.specs.Pending.{IsFaulty, called_fault, item_fault, moved, reach};
+ghost use Rattle.mich_check.specs.View.{branch_form, context, loop_form};
+ghost use Rattle.mich_check.specs.Answers.{IsBlock, IsBody, IsInstr};
+
+use crate::arrows::{begun, lambda_made, read_arrow};
+use crate::dips::{counted, dip_parts, dipped, split_stack};
+use crate::error::CheckError;
+use crate::form::{Branch, Form, Loop, form_of_name};
+use crate::joining::{ends_in, joined};
+use crate::lambdas::{call_types, only};
+use crate::leaves::{check_bodiless, check_straight, check_transfer};
+use crate::literals::read_literal;
+use crate::made::{Body, Made};
+use crate::maps::{map_stacks, mapped};
+use crate::place::Place;
+use crate::pushes::push_made;
+use crate::reading::type_with;
+use crate::scripts::check_create;
+use crate::selves::check_self;
+use crate::shapes::{branch_instr, branch_stacks, loop_instr, loop_stacks};
+use mich_base::{App, Node, Nodes, Rows, Shared, Ty};
+use mich_data::Pending;
+use mich_instr::Instr;
+use mich_stackrules::Attribute;
+use mich_types::behind;
+use std::alloc::Global;
+
+// The typed code of a block, whose first instruction is at a location.
+#[cycle(check)]
+pub(crate) fn check_block(
+    alloc: Global,
+    nodes: &Nodes,
+    at: u32,
+    place: Place<'_>,
+    types: Rows<Ty>,
+) -> Result<Body, CheckError>
+    requires { at + sizes (trees nodes.now) < 2 ^ 32 }
+    ensures { IsBlock (context place.entry) (trees nodes.now) (kinds types) (shift at (trees_type (trees nodes.now) (context place.entry) (kinds types))) result }
+{
+    let mut code = Rows::new(alloc);
+    let mut after = Some(types);
+    let mut last = at;
+    let mut next = at;
+    for node in nodes.as_slice() {
+        let Some(before) = after else {
+            return Err(CheckError::IllTyped(last));
+        };
+        let made = check_node(alloc, node, next, place, before)?;
+        code.push(made.instr)?;
+        after = made.after;
+        last = next;
+        next = behind(node, next);
+    }
+    let code = Shared::new(alloc, code)?;
+    Ok(Body { code, after })
+}
+
+// The typed code of the node at a location as a body.
+#[cycle(check)]
+pub(crate) fn check_body(
+    alloc: Global,
+    node: &Node,
+    at: u32,
+    place: Place<'_>,
+    types: Rows<Ty>,
+) -> Result<Body, CheckError>
+    requires { at + size (tree node.now) < 2 ^ 32 }
+    ensures { IsBody (context place.entry) (tree node.now) (kinds types) (body (tree node.now) at (context place.entry) (kinds types)) result }
+{
+    match node {
+        Node::Seq(nodes) => check_block(alloc, nodes, at + 1, place, types),
+        _ => Err(CheckError::IllTyped(at)),
+    }
+}
+
+// The typed instruction of the node at a location.
+#[cycle(check)]
+pub(crate) fn check_node(
+    alloc: Global,
+    node: &Node,
+    at: u32,
+    place: Place<'_>,
+    types: Rows<Ty>,
+) -> Result<Made, CheckError>
+    requires { at + size (tree node.now) < 2 ^ 32 }
+    ensures { IsInstr (context place.entry) (tree node.now) (kinds types) (shift at (tree_type (tree node.now) (context place.entry) (kinds types))) result }
+{
+    match node {
+        Node::Prim(app) => check_app(alloc, app, at, place, types),
+        Node::Seq(_) => {
+            let body = check_body(alloc, node, at, place, types)?;
+            Ok(Made {
+                instr: Instr::Seq(body.code),
+                after: body.after,
+            })
+        }
+        _ => Err(CheckError::IllTyped(at)),
+    }
+}
+
+#[cycle(check)]
+fn check_app(
+    alloc: Global,
+    app: &App,
+    at: u32,
+    place: Place<'_>,
+    types: Rows<Ty>,
+) -> Result<Made, CheckError>
+    requires { at + sizes (trees app.now.args) + 1 < 2 ^ 32 }
+    ensures { IsInstr (context place.entry) (prim app.now.name app.now.annots (trees app.now.args)) (kinds types) (shift at (tree_type (prim app.now.name app.now.annots (trees app.now.args)) (context place.entry) (kinds types))) result }
+{
+    match form_of_name(&app.name) {
+        Form::Straight => check_straight(alloc, app, at, place, types),
+        Form::Transfer => check_transfer(alloc, app, at, place, types),
+        Form::Bodiless(bodiless) => check_bodiless(alloc, bodiless, app, at, place, &types),
+        Form::Branch(branch) => check_branch(alloc, branch, app, at, place, types),
+        Form::Loop(turns) => check_loop(alloc, turns, app, at, place, types),
+        Form::SelfContract => check_self(alloc, app, at, place, types),
+        Form::Dip => check_dip(alloc, app, at, place, types),
+        Form::Map => check_map(alloc, app, at, place, types),
+        Form::Lambda => check_lambda(alloc, false, app, at, place, types),
+        Form::LambdaRec => check_lambda(alloc, true, app, at, place, types),
+        Form::Push => check_push(alloc, app, at, place, types),
+        Form::CreateContract => check_create(alloc, app, at, place, types),
+    }
+}
+
+#[cycle(check)]
+fn check_branch(
+    alloc: Global,
+    branch: Branch,
+    app: &App,
+    at: u32,
+    place: Place<'_>,
+    types: Rows<Ty>,
+) -> Result<Made, CheckError>
+    requires fits { at + sizes (trees app.now.args) + 1 < 2 ^ 32 }
+    requires form { form_of (primitive_of_name app.now.name) ≡ branch_form branch }
+    ensures { IsInstr (context place.entry) (prim app.now.name app.now.annots (trees app.now.args)) (kinds types) (shift at (tree_type (prim app.now.name app.now.annots (trees app.now.args)) (context place.entry) (kinds types))) result }
+{
+    let Some((one, other)) = app.args.both() else {
+        return Err(CheckError::IllTyped(at));
+    };
+    let Some((first, second)) = branch_stacks(alloc, branch, types.as_slice())? else {
+        return Err(CheckError::IllTyped(at));
+    };
+    let one_body = check_body(alloc, one, at + 1, place, first)?;
+    let other_body = check_body(alloc, other, behind(one, at + 1), place, second)?;
+    let after = joined(one_body.after, other_body.after, at)?;
+    Ok(Made {
+        instr: branch_instr(branch, one_body.code, other_body.code),
+        after,
+    })
+}
+
+#[cycle(check)]
+fn check_loop(
+    alloc: Global,
+    turns: Loop,
+    app: &App,
+    at: u32,
+    place: Place<'_>,
+    types: Rows<Ty>,
+) -> Result<Made, CheckError>
+    requires fits { at + sizes (trees app.now.args) + 1 < 2 ^ 32 }
+    requires form { form_of (primitive_of_name app.now.name) ≡ loop_form turns }
+    ensures { IsInstr (context place.entry) (prim app.now.name app.now.annots (trees app.now.args)) (kinds types) (shift at (tree_type (prim app.now.name app.now.annots (trees app.now.args)) (context place.entry) (kinds types))) result }
+{
+    let Some(node) = app.args.only() else {
+        return Err(CheckError::IllTyped(at));
+    };
+    let Some(turning) = loop_stacks(alloc, turns, types.as_slice())? else {
+        return Err(CheckError::IllTyped(at));
+    };
+    let body = check_body(alloc, node, at + 1, place, turning.begins)?;
+    if !ends_in(&body.after, &turning.ends) {
+        return Err(CheckError::IllTyped(at));
+    }
+    Ok(Made {
+        instr: loop_instr(turns, body.code),
+        after: Some(turning.leaves),
+    })
+}
+
+#[cycle(check)]
+fn check_dip(
+    alloc: Global,
+    app: &App,
+    at: u32,
+    place: Place<'_>,
+    types: Rows<Ty>,
+) -> Result<Made, CheckError>
+    requires fits { at + sizes (trees app.now.args) + 1 < 2 ^ 32 }
+    requires form { form_of (primitive_of_name app.now.name) ≡ f.dip }
+    ensures { IsInstr (context place.entry) (prim app.now.name app.now.annots (trees app.now.args)) (kinds types) (shift at (tree_type (prim app.now.name app.now.annots (trees app.now.args)) (context place.entry) (kinds types))) result }
+{
+    let dip = dip_parts(&app.args, at)?;
+    let Some((upper, lower)) = split_stack(types, counted(dip.count))? else {
+        return Err(CheckError::IllTyped(at));
+    };
+    let body = check_body(alloc, dip.body, dip.place, place, lower)?;
+    dipped(alloc, dip.count, upper, body, at)
+}
+
+#[cycle(check)]
+fn check_map(
+    alloc: Global,
+    app: &App,
+    at: u32,
+    place: Place<'_>,
+    types: Rows<Ty>,
+) -> Result<Made, CheckError>
+    requires fits { at + sizes (trees app.now.args) + 1 < 2 ^ 32 }
+    requires form { form_of (primitive_of_name app.now.name) ≡ f.map }
+    ensures { IsInstr (context place.entry) (prim app.now.name app.now.annots (trees app.now.args)) (kinds types) (shift at (tree_type (prim app.now.name app.now.annots (trees app.now.args)) (context place.entry) (kinds types))) result }
+{
+    let Some(node) = app.args.only() else {
+        return Err(CheckError::IllTyped(at));
+    };
+    let Some(mapping) = map_stacks(alloc, types)? else {
+        return Err(CheckError::IllTyped(at));
+    };
+    let body = check_body(alloc, node, at + 1, place, mapping.begins)?;
+    mapped(alloc, mapping.target, mapping.rest, body, at)
+}
+
+// LAMBDA, or LAMBDA_REC.
+#[cycle(check)]
+fn check_lambda(
+    alloc: Global,
+    recursive: bool,
+    app: &App,
+    at: u32,
+    _place: Place<'_>,
+    types: Rows<Ty>,
+) -> Result<Made, CheckError>
+    requires fits { at + sizes (trees app.now.args) + 1 < 2 ^ 32 }
+    requires form { form_of (primitive_of_name app.now.name) ≡ lambda_form recursive }
+    ensures { IsInstr (context _place.entry) (prim app.now.name app.now.annots (trees app.now.args)) (kinds types) (shift at (tree_type (prim app.now.name app.now.annots (trees app.now.args)) (context _place.entry) (kinds types))) result }
+{
+    let Some((first, second, node)) = app.args.three() else {
+        return Err(CheckError::IllTyped(at));
+    };
+    let arrow = read_arrow(alloc, first, second, at)?;
+    let begins = begun(alloc, recursive, &arrow, at)?;
+    let place = behind(second, behind(first, at + 1));
+    let body = check_body(alloc, node, place, Place::Lambda, begins)?;
+    lambda_made(
+        alloc,
+        recursive,
+        (first, second, node),
+        arrow,
+        body,
+        types,
+        at,
+    )
+}
+
+#[cycle(check)]
+fn check_push(
+    alloc: Global,
+    app: &App,
+    at: u32,
+    _place: Place<'_>,
+    types: Rows<Ty>,
+) -> Result<Made, CheckError>
+    requires fits { at + sizes (trees app.now.args) + 1 < 2 ^ 32 }
+    requires form { form_of (primitive_of_name app.now.name) ≡ f.push }
+    ensures { IsInstr (context _place.entry) (prim app.now.name app.now.annots (trees app.now.args)) (kinds types) (shift at (tree_type (prim app.now.name app.now.annots (trees app.now.args)) (context _place.entry) (kinds types))) result }
+{
+    let Some((written, literal)) = app.args.both() else {
+        return Err(CheckError::IllTyped(at));
+    };
+    let ty = type_with(alloc, Attribute::Pushable, written, at + 1)?;
+    let read = read_literal(alloc, &ty, literal, behind(written, 1), at)?;
+    check_pending(alloc, &read.pending, at)?;
+    let made = push_made(alloc, ty, written, literal, types)?;
+    Ok(made)
+}
+
+// Whether the bodies that are pending have no fault, whose locations are counted from one.
+#[cycle(check)]
+pub(crate) fn check_pending(
+    alloc: Global,
+    pending: &Rows<Pending>,
+    at: u32,
+) -> Result<(), CheckError>
+    requires { at + reach (all_pending pending.now) < 2 ^ 32 }
+    ensures { IsFaulty (moved at (fault_of_bodies (all_pending pending.now))) result }
+{
+    for item in pending.as_slice() {
+        check_item(alloc, item, at)?;
+    }
+    Ok(())
+}
+
+#[cycle(check)]
+fn check_item(alloc: Global, item: &Pending, at: u32) -> Result<(), CheckError>
+    requires { at + reach (pending item.now ∷ []) < 2 ^ 32 }
+    ensures { IsFaulty (moved at (item_fault (pending item.now))) result }
+{
+    match item {
+        Pending::Body {
+            location,
+            arg,
+            ret,
+            recursive,
+            node,
+        } => check_called(alloc, arg, ret, *recursive, node, at + *location),
+        Pending::Claim { .. } => Ok(()),
+    }
+}
+
+// Whether the node at a location has no fault as the body of a lambda of these types.
+#[cycle(check)]
+fn check_called(
+    alloc: Global,
+    arg: &Ty,
+    ret: &Ty,
+    recursive: bool,
+    node: &Node,
+    at: u32,
+) -> Result<(), CheckError>
+    requires { at + size (tree node.now) < 2 ^ 32 }
+    ensures { IsFaulty (called_fault at (kind arg.now) (kind ret.now) recursive (tree node.now)) result }
+{
+    let types = call_types(alloc, arg, ret, recursive)?;
+    let made = check_node(alloc, node, at, Place::Lambda, types)?;
+    let ends = only(alloc, ret)?;
+    if ends_in(&made.after, &ends) {
+        Ok(())
+    } else {
+        Err(CheckError::IllTyped(at))
+    }
+}

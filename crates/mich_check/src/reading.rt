@@ -1,0 +1,57 @@
+// The arguments of instructions that have bodies.
+ghost use Rattle.std.specs.Prelude.{◌≡◌, ◌+◌, ◌<◌, ◌^◌};
+ghost use Rattle.rules_base.specs.Tree.{size};
+ghost use Rattle.rules_forms.specs.Spelling.{default_name};
+ghost use Rattle.rules_instructions.specs.Arguments.{annotated, count_argument, count_limit, type_argument};
+ghost use Rattle.mich_base.specs.TypeView.{kind};
+ghost use Rattle.mich_base.specs.View.{tree};
+ghost use Rattle.mich_stackrules.specs.Answers.{found_from};
+ghost use Rattle.mich_stackrules.specs.View.{asked};
+ghost use Rattle.mich_check.specs.Answers.{IsFound};
+
+use crate::error::CheckError;
+use mich_base::{Node, Texts, Ty};
+use mich_forms::Entrypoint;
+use mich_stackrules::{
+    Attribute, OfCount, RuleError, count_argument, named_entrypoint, type_argument,
+};
+use std::alloc::Global;
+
+// The argument at a location as a type with an attribute.
+pub(crate) fn type_with(
+    alloc: Global,
+    attribute: Attribute,
+    node: &Node,
+    place: u32,
+) -> Result<Ty, CheckError>
+    requires { place + size (tree node.now) < 2 ^ 32 }
+    ensures { IsFound kind (type_argument (asked attribute) place (tree node.now)) result }
+{
+    match type_argument(alloc, attribute, node, place) {
+        Ok(ty) => Ok(ty),
+        Err(RuleError::Fault(location)) => Err(CheckError::IllTyped(location)),
+        Err(RuleError::Memory) => Err(CheckError::Memory),
+    }
+}
+
+// The argument at a location as a count of values.
+pub(crate) fn count_of_values(node: &Node, place: u32) -> Result<u32, CheckError>
+    ensures { IsFound (λ n. n) (count_argument 0 count_limit place (tree node.now)) result }
+{
+    match count_argument(OfCount::Drop, node, place) {
+        Ok(count) => Ok(count),
+        Err(RuleError::Fault(location)) => Err(CheckError::IllTyped(location)),
+        Err(RuleError::Memory) => Err(CheckError::Memory),
+    }
+}
+
+// The name of an entrypoint that the annotations of the instruction at a location give.
+pub(crate) fn entrypoint_name(annots: &Texts, at: u32) -> Result<Entrypoint, CheckError>
+    ensures { IsFound (λ name. name) (found_from at (annotated default_name annots.now)) result }
+{
+    match named_entrypoint(annots, at) {
+        Ok(name) => Ok(name),
+        Err(RuleError::Fault(location)) => Err(CheckError::IllTyped(location)),
+        Err(RuleError::Memory) => Err(CheckError::Memory),
+    }
+}

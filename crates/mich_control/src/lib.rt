@@ -1,6 +1,0 @@
-//! Why a node is ill typed.
-#![tactic(auto)]
-
-mod error;
-
-pub use error::CheckError;
