@@ -1,1 +1,6 @@
+pub mod Ends
+pub mod Parts
+pub mod Rule
+pub mod Shown
+pub mod Tells
 pub mod Views

@@ -1,6 +1,24 @@
 //! What instructions without bodies do to the values of the stack.
 #![tactic(auto)]
 
+mod burning;
+mod dispatching;
 mod environment;
+mod logic;
+mod numbers;
+mod operations;
+mod order;
+mod pairs;
+mod tickets;
+mod unions;
 
-pub use environment::Env;
+pub use dispatching::step;
+pub use environment::{Env, environment_step};
+pub use logic::logic_step;
+pub use numbers::number_step;
+pub use order::stack_step;
+pub use pairs::pair_step;
+pub use unions::union_step;
+
+#[cfg(test)]
+mod tests;

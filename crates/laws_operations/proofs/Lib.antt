@@ -1,0 +1,6 @@
+pub mod Advances
+pub mod AdvancingForms
+pub mod AdvancingLevels
+pub mod AdvancingStacks
+pub mod NewContracts
+pub mod Picks

@@ -1,0 +1,10 @@
+pub mod Codes
+pub mod Moves
+pub mod RunStacks
+pub mod Runs
+pub mod Scripts
+pub mod Steps
+pub mod Surrounded
+pub mod Unissued
+pub mod Waiting
+pub mod Worlds

@@ -1,0 +1,76 @@
+-- Parts of combs.
+use Rattle.std.proofs.Common.{arith, ◌≡◌, ℕ, suc, ◌+◌, true, is_some, Option, Some, None, option_map, refl, ap, sym, ◌∙◌, subst}
+use Rattle.std.proofs.lemmas.List.{append-nil}
+use Rattle.std.specs.Prelude.{◌++◌, ◌∷◌, [], List}
+use Rattle.rules_instructions.specs.Straight as i
+use Rattle.rules_steps.specs.Changes.{burns}
+use Rattle.rules_steps.specs.Step.{done, discarding, on_some}
+use Rattle.rules_values.specs.Val.{Val, both}
+use Rattle.rules_values.specs.Tickets.{Held, tickets}
+use Rattle.rules_steps.specs.Stack.{Part, Replaced, behind, comb, pair_step, passing, part_at, replaced}
+use Rattle.mich_step.specs.Parts.{IsPart, IsReplaced}
+
+some_there : {A B : Type 0} (f : A → B) (o : Option A) → is_some (option_map f o) ≡ true → is_some o ≡ true
+some_there f (Some r) h = refl
+some_there f None h = h
+
+-- ---- a part that is replaced
+
+-- what is replaced in the second part
+replaced_behind : (n m : ℕ) (x c v w : Val) → n ≡ m + 1 + 1 → c ≡ both v w → replaced n x c ≡ option_map (behind v) (replaced m x w)
+replaced_behind n m x c v w e f =
+    let next : n ≡ suc (suc m) = omega (arith, e) in
+    ap (λ k. replaced k x c) next ∙ ap (replaced (suc (suc m)) x) f
+
+pub replaced_there : (n m : ℕ) (x c v w : Val) → n ≡ m + 1 + 1 → c ≡ both v w → is_some (replaced n x c) ≡ true → is_some (replaced m x w) ≡ true
+replaced_there n m x c v w e f h = some_there (behind v) (replaced m x w) (subst (λ o. is_some o ≡ true) (replaced_behind n m x c v w e f) h)
+
+replaced_in : (v : Val) (o : Option Replaced) (c d : Val) → IsReplaced o c d → IsReplaced (option_map (behind v) o) (both v c) d
+replaced_in v (Some r) c d h = (ap (both v) h.0, h.1)
+replaced_in v None c d h = h
+
+pub replaced_is : (n m : ℕ) (x c v w r d : Val) → n ≡ m + 1 + 1 → c ≡ both v w → IsReplaced (replaced m x w) r d → IsReplaced (replaced n x c) (both v r) d
+replaced_is n m x c v w r d e f h = subst (λ o. IsReplaced o (both v r) d) (sym (replaced_behind n m x c v w e f)) (replaced_in v (replaced m x w) r d h)
+
+-- ---- a part that is found
+
+part_behind : (n m : ℕ) (c v w : Val) → n ≡ m + 1 + 1 → c ≡ both v w → part_at n c ≡ option_map (passing v) (part_at m w)
+part_behind n m c v w e f =
+    let next : n ≡ suc (suc m) = omega (arith, e) in
+    ap (λ k. part_at k c) next ∙ ap (part_at (suc (suc m))) f
+
+pub part_there : (n m : ℕ) (c v w : Val) → n ≡ m + 1 + 1 → c ≡ both v w → is_some (part_at n c) ≡ true → is_some (part_at m w) ≡ true
+part_there n m c v w e f h = some_there (passing v) (part_at m w) (subst (λ o. is_some o ≡ true) (part_behind n m c v w e f) h)
+
+part_in : (v : Val) (o : Option Part) (x : Val) (ts : List Held) → IsPart o x ts → IsPart (option_map (passing v) o) x (tickets v ++ ts)
+part_in v (Some p) x ts h = (h.0, ap (λ l. tickets v ++ l) h.1)
+part_in v None x ts h = h
+
+pub part_is : (n m : ℕ) (c v w x : Val) (ts : List Held) → n ≡ m + 1 + 1 → c ≡ both v w → IsPart (part_at m w) x ts → IsPart (part_at n c) x (tickets v ++ ts)
+part_is n m c v w x ts e f h = subst (λ o. IsPart o x (tickets v ++ ts)) (sym (part_behind n m c v w e f)) (part_in v (part_at m w) x ts h)
+
+-- the first part, and the whole
+pub part_first : (n : ℕ) (c v w : Val) → n ≡ 1 → c ≡ both v w → IsPart (part_at n c) v (tickets w)
+part_first n c v w e f = subst (λ k. IsPart (part_at k c) v (tickets w)) (sym e) (subst (λ d. IsPart (part_at 1 d) v (tickets w)) (sym f) (refl, append-nil (tickets w)))
+
+-- ---- UPDATE
+
+replacing : (o : Option Replaced) (c d : Val) (W : List Val) → IsReplaced o c d → on_some o (λ r. discarding (r.old ∷ []) (r.comb ∷ W)) ≡ done (c ∷ W) (burns (tickets d))
+replacing (Some r) c d W h = λ i. done (h.0 i ∷ W) (burns ((append-nil (tickets r.old) ∙ ap tickets h.1) i))
+replacing None c d W h = absurd h
+
+pub update_is : (n : ℕ) (V : List Val) (x v : Val) (W : List Val) (c d : Val) (new : List Val) → V ≡ x ∷ v ∷ W → IsReplaced (replaced n x v) c d → new ≡ c ∷ W →
+    pair_step (i.update_part n) V ≡ done new (burns (tickets d))
+update_is n V x v W c d new e h f = ap (pair_step (i.update_part n)) e ∙ replacing (replaced n x v) c d W h ∙ ap (λ X. done X (burns (tickets d))) (sym f)
+
+-- ---- PAIR
+
+pub comb_there : (n m : ℕ) (v : Val) (V : List Val) (w : Val) (W : List Val) → n ≡ m + 1 → V ≡ w ∷ W → is_some (comb n v V) ≡ true → is_some (comb m w W) ≡ true
+comb_there n m v V w W e f h =
+    let next : n ≡ suc m = omega (arith, e) in
+    some_there (both v) (comb m w W) (subst (λ o. is_some o ≡ true) (ap (λ k. comb k v V) next ∙ ap (comb (suc m) v) f) h)
+
+pub comb_is : (n m : ℕ) (v : Val) (V : List Val) (w : Val) (W : List Val) (r : Val) → n ≡ m + 1 → V ≡ w ∷ W → comb m w W ≡ Some r → comb n v V ≡ Some (both v r)
+comb_is n m v V w W r e f h =
+    let next : n ≡ suc m = omega (arith, e) in
+    ap (λ k. comb k v V) next ∙ ap (comb (suc m) v) f ∙ ap (option_map (both v)) h

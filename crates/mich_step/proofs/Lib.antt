@@ -1,0 +1,10 @@
+pub mod Combs
+pub mod Ended
+pub mod Gone
+pub mod Ledgers
+pub mod Minting
+pub mod Rules
+pub mod Showing
+pub mod Splitting
+pub mod Suiting
+pub mod Taken

@@ -1,0 +1,35 @@
+-- A ticket is split as the rule of SPLIT_TICKET says.
+use Rattle.std.specs.Int.{w128}
+use Rattle.std.proofs.lemmas.Int.{to_z-of_z}
+use Rattle.std.proofs.Common.{rules, SFits, ◌≡◌, [], ◌∷◌, ap, ◌∙◌}
+use Rattle.rules_values.specs.Val.{number, both}
+use Rattle.rules_steps.specs.TicketSteps.{as_value}
+use Rattle.mich_term.specs.TicketView.{held}
+use Rattle.mich_term.specs.ValueView.{big_step}
+use Rattle.mich_stack.specs.Views.{values, plain}
+use Rattle.mich_tickets.proofs.Readiness.{ready_first}
+use Rattle.mich_step.proofs.Splitting.{split_ready, split_by}
+use Rattle.mich_step.proofs.tickets.split_ticket.Goals as goal
+
+pub split-requires-clause-within : goal.split-requires-clause-within
+split-requires-clause-within c =
+    let t = c.ticket_in-ticket.result in
+    let b = c.args.ledger.now.books.present in
+    ready_first b (held t) [] (split_ready b (plain c.args.stack.now) t (plain c.pop.new.stack)
+    (c.in-Some.ensures big_step ∙ ap (λ v. v ∷ plain c.pop.new.stack) (c.ticket_in-ticket.ensures big_step)) c.requires.ready)
+
+pub returns-clause-tells : goal.returns-clause-tells
+returns-clause-tells c = λ e total big.
+    let t = c.ticket_in-ticket.result in
+    let a = c.take_amounts-a.result.0 in
+    let b = c.take_amounts-a.result.1 in
+    let V = values big c.args.stack.now in
+    let W = values big c.take_amounts-a.new.stack in
+    let parts = c.in_ok-parts.parts in
+    let old = c.args.ledger.now in
+    let new = c.split.new.self in
+    let operands : V ≡ as_value (held t) ∷ both (number a) (number b) ∷ W =
+    c.in-Some.ensures big ∙ (λ i. c.ticket_in-ticket.ensures big i ∷ c.take_amounts-a.ensures big i) in
+    let fits_a : SFits w128 a = search rules in
+    let fits_b : SFits w128 b = search rules in
+    split_by e total W V t a b _ _ parts old new (to_z-of_z w128 a fits_a) (to_z-of_z w128 b fits_b) operands c.in_ok-parts.ensures.answer

@@ -1,0 +1,36 @@
+-- Parts of pairs and combs.
+use Rattle.std.specs.Prelude.{◌≡◌, List, ◌∷◌, ◌++◌, Option, Some, None, flat_map}
+use Rattle.rules_values.specs.Val.{Val, number, both, ticket}
+use Rattle.rules_values.specs.Tickets.{Held, tickets}
+use Rattle.rules_steps.specs.Stack.{Part, Replaced}
+
+abbrev pub IsPair : Val → Type 0
+IsPair (both v w) = Unit {0}
+IsPair _ = ⊥
+
+-- the part that was found, and the tickets in what was passed and what stands behind it
+abbrev pub IsPart : Option Part → Val → List Held → Type 0
+IsPart (Some p) found ts = (p.found ≡ found) × (flat_map tickets (p.before ++ p.behind) ≡ ts)
+IsPart None found ts = ⊥
+
+-- a comb with another part in a place, and the part that stood there
+abbrev pub IsReplaced : Option Replaced → Val → Val → Type 0
+IsReplaced (Some r) comb old = (r.comb ≡ comb) × (r.old ≡ old)
+IsReplaced None comb old = ⊥
+
+abbrev pub IsNumber : Val → Type 0
+IsNumber (number n) = Unit {0}
+IsNumber _ = ⊥
+
+abbrev pub IsTicket : Val → Type 0
+IsTicket (ticket issuer k content n) = Unit {0}
+IsTicket _ = ⊥
+
+-- two numbers stand in a pair on top, or two tickets
+abbrev pub IsAmountsOnTop : List Val → Type 0
+IsAmountsOnTop (both (number a) (number b) ∷ V) = Unit {0}
+IsAmountsOnTop _ = ⊥
+
+abbrev pub IsTicketsOnTop : List Val → Type 0
+IsTicketsOnTop (both (ticket issuer k content n) (ticket issuer' k' content' n') ∷ V) = Unit {0}
+IsTicketsOnTop _ = ⊥

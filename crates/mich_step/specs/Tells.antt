@@ -1,0 +1,45 @@
+-- How instructions that may change what a ledger tells end.
+use Rattle.std.specs.Prelude.{◌≡◌, List, [], ◌∷◌, Option, Some, None, option_map, Result, Ok, Err}
+use Rattle.rules_values.specs.Val.{Val}
+use Rattle.rules_steps.specs.Changes.{Change, burnt}
+use Rattle.rules_steps.specs.Step.{Step, done, fails, wrong, optional}
+use Rattle.rules_steps.specs.TicketSteps.{as_value}
+use Rattle.mich_term.specs.TicketView.{held}
+use Rattle.mich_term.specs.declared.ticket.Ticket.{Ticket}
+use Rattle.mich_tickets.specs.Books.{State}
+use Rattle.mich_tickets.specs.Effects.{Tells}
+use Rattle.mich_term.specs.declared.value.Value.{Value}
+use Rattle.mich_stack.specs.declared.error.StepError.{StepError}
+use Rattle.mich_stack.specs.declared.error.StepError.TheVariants.{Failed, Memory}
+use Rattle.mich_stack.specs.Views.{Sight, values, failure}
+
+-- the tickets that an instruction makes and discards
+abbrev pub changes_of : Step → List Change
+changes_of (done V changes) = changes
+changes_of (fails f) = []
+changes_of wrong = []
+
+-- It ends with these values, or with its failure. After want of memory nothing is said.
+abbrev pub IsDone : Step → List Val → Result (Unit {0}) StepError → Type 0
+IsDone s V (Ok _) = s ≡ done V (changes_of s)
+IsDone s V (Err (Failed f)) = s ≡ fails (failure f)
+IsDone s V (Err Memory) = Unit {0}
+
+-- it ends so, however big maps are seen
+abbrev pub Steps : (List Val → Step) → List Value → List Value → Result (Unit {0}) StepError → Type 0
+Steps step old new r = (big : Sight) → IsDone (step (values big old)) (values big new) r
+
+-- tickets are minted, or none; or too many would be
+abbrev pub IsMinted : Step → List Val → State → State → Result (Option Ticket) StepError → Type 0
+IsMinted s V old new (Ok o) = (s ≡ done (optional (option_map (λ t. as_value (held t)) o) ∷ V) (changes_of s)) × Tells (changes_of s) old new
+IsMinted s V old new (Err (Failed f)) = s ≡ fails (failure f)
+IsMinted s V old new (Err Memory) = Unit {0}
+
+-- what splitting, and joining, burns
+abbrev pub split_changes : Ticket → Option (Ticket × Ticket) → List Change
+split_changes t None = burnt (held t) ∷ []
+split_changes t (Some p) = []
+
+abbrev pub join_changes : Ticket → Ticket → Option Ticket → List Change
+join_changes t u None = burnt (held t) ∷ burnt (held u) ∷ []
+join_changes t u (Some x) = []
