@@ -1,0 +1,41 @@
+-- Unions, options and lists on top of a stack.
+use Rattle.std.specs.Prelude.{pos, Bool, true, false, List, ◌∷◌}
+use Rattle.rules_base.specs.Tree.{seq}
+use Rattle.rules_values.specs.Val.{Val, no_val, more_vals}
+use Rattle.rules_values.specs.Val as v
+
+abbrev pub is_left_top : List Val → Bool
+is_left_top (v.left x ∷ V) = true
+is_left_top V = false
+
+abbrev pub is_none_top : List Val → Bool
+is_none_top (v.nothing ∷ V) = true
+is_none_top V = false
+
+abbrev pub is_cons_top : List Val → Bool
+is_cons_top (v.list (more_vals x xs) ∷ V) = true
+is_cons_top V = false
+
+-- with what a union or an option on top holds in its place, or with the first element of a list above the others
+abbrev pub opened : List Val → List Val
+opened (v.left x ∷ V) = x ∷ V
+opened (v.right x ∷ V) = x ∷ V
+opened (v.some x ∷ V) = x ∷ V
+opened (v.nothing ∷ V) = V
+opened (v.list (more_vals x xs) ∷ V) = x ∷ v.list xs ∷ V
+opened (v.list no_val ∷ V) = V
+opened V = V
+
+-- a lambda on top, whose body is a sequence
+abbrev pub HasLambda : List Val → Type 0
+HasLambda (v.lambda (seq body) recursive ∷ V) = Unit {0}
+HasLambda _ = ⊥
+
+-- an amount, and an address
+abbrev pub HasAmount : List Val → Type 0
+HasAmount (v.number (pos amount) ∷ V) = Unit {0}
+HasAmount _ = ⊥
+
+abbrev pub HasAddress : List Val → Type 0
+HasAddress (v.bytes b ∷ V) = Unit {0}
+HasAddress _ = ⊥
