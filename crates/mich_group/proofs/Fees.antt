@@ -16,7 +16,7 @@ use Rattle.rules_world.specs.Outcomes.{no_counts, Setting}
 use Rattle.rules_world.specs.Receipts.{GroupFault, UnknownSource, GasTooHigh, FeeTooHigh, Refused, Done}
 use Rattle.rules_world.specs.World.{World as PlainWorld, account_at, Account}
 use Rattle.mich_forms.specs.declared.places.Place.TheVariants as place
-use Rattle.mich_group.proofs.Laws.{setting, fees_going, fees_there}
+use Rattle.laws_world.proofs.Groups.{setting, fees_going, fees_there}
 use Rattle.mich_group.specs.Settled.{IsSettled}
 use Rattle.mich_group.specs.Trees.{Goes}
 use Rattle.mich_group.specs.Turns.{AreApplied, AreBroken}

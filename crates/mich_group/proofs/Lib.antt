@@ -1,6 +1,5 @@
-pub mod Laws
 pub mod Sending
-pub mod Steps
+pub mod Stepping
 pub mod Turns
 pub mod Walks
 pub mod Fees

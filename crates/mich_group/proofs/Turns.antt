@@ -12,7 +12,7 @@ use Rattle.rules_world.specs.Receipts.{Status, Applied, Backtracked, Failed, Ski
 use Rattle.rules_world.specs.Trees.{Walk, completed, broken_off, tree}
 use Rattle.rules_world.specs.World.{World as PlainWorld}
 use Rattle.laws_runs.specs.Going.{IsGoing}
-use Rattle.mich_group.proofs.Laws.{KeepsWalk, tree_keeps, begins}
+use Rattle.laws_world.proofs.Walks.{KeepsWalk, tree_keeps, begins}
 use Rattle.mich_machine.specs.Calls.{counts_of}
 use Rattle.mich_machine.specs.declared.state.Counts.{Counts}
 use Rattle.mich_ops.specs.Told.{told, told_status}

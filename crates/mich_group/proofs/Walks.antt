@@ -10,7 +10,7 @@ use Rattle.rules_world.specs.Application.{apply}
 use Rattle.rules_world.specs.Trees.{Walk, Last, completed, broken_off, stuck_walk, behind_one, with_emitted, tree_within, tree}
 use Rattle.rules_steps.specs.Failure.{Failure, out_of_gas}
 use Rattle.laws_runs.specs.Going.{IsSetting, IsGoing, KeepsGoing}
-use Rattle.mich_group.proofs.Laws.{apply_keeps}
+use Rattle.laws_world.proofs.Walks.{apply_keeps}
 use Rattle.mich_machine.specs.Calls.{counts_of}
 use Rattle.mich_machine.specs.declared.state.Counts.{Counts}
 use Rattle.mich_ops.specs.Told.{told}

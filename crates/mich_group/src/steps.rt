@@ -20,7 +20,7 @@ use mich_ops::{Action, Effect};
 use mich_world::World;
 use std::alloc::Global;
 
-#[tactic(auto, using(crate::proofs::Steps::begins_with, crate::proofs::Sending::handed_each))]
+#[tactic(auto, using(crate::proofs::Stepping::begins_with, crate::proofs::Sending::handed_each))]
 // Applies the action that a source orders, before which nothing waits.
 pub(crate) fn apply_first(
     alloc: Global,
