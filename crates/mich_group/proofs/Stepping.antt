@@ -77,16 +77,16 @@ failed_first s w waiting others op gas left counts v old new f e h =
     let b = fails_by (apply s w op gas counts) v left old new f h in
     record { op = op; others = others; first = e; why = b.0; same = b.1; told = b.2 }
 
-pub failed_step : {U : Type 0} (s : Setting) (w : PlainWorld) (waiting others : List Waiting) (op : Waiting) (gas left : ℕ) (counts now : PlainCounts) (v : World) (old new : Counts) (ss : List Sent) (before after : List Done) (e : ApplyError) →
+pub failed_step : (U : Type 0) (s : Setting) (w : PlainWorld) (waiting others : List Waiting) (op : Waiting) (gas left : ℕ) (counts now : PlainCounts) (v : World) (old new : Counts) (ss : List Sent) (before after : List Done) (e : ApplyError) →
     waiting ≡ op ∷ others → EndsAs (apply s w op gas counts) v left old new (Err e) → StepsAs {U = U} s w waiting gas counts v left now ss before after (Err e)
-failed_step s w waiting others op gas left counts now v old new ss before after (one.Failed f) e h = failed_first s w waiting others op gas left counts v old new f e h
-failed_step s w waiting others op gas left counts now v old new ss before after one.Memory e h = tt
+failed_step U s w waiting others op gas left counts now v old new ss before after (one.Failed f) e h = failed_first s w waiting others op gas left counts v old new f e h
+failed_step U s w waiting others op gas left counts now v old new ss before after one.Memory e h = tt
 
 pub failed_to : (s : Setting) (w : PlainWorld) (waiting others : List Waiting) (op : Waiting) (gas left : ℕ) (counts now : PlainCounts) (v : World) (old new : Counts) (ss : List Sent) (before after : List Done) (e : ApplyError) →
     waiting ≡ op ∷ others → EndsAs (apply s w op gas counts) v left old new (Err e) → StepsTo s w waiting gas counts v left now ss before after (Err e)
 failed_to s w waiting others op gas left counts now v old new ss before after (one.Failed f) e h = failed_first s w waiting others op gas left counts v old new f e h
 failed_to s w waiting others op gas left counts now v old new ss before after one.Memory e h = tt
 
-pub step_keeps : {U : Type 0} (e : ApplyError) (K : Type 0) → WithMemory (Err e) K → OnStep {U = U} (Err e) K
-step_keeps (one.Failed f) K h = h
-step_keeps one.Memory K h = tt
+pub step_keeps : (U : Type 0) (e : ApplyError) (K : Type 0) → WithMemory (Err e) K → OnStep {U = U} (Err e) K
+step_keeps U (one.Failed f) K h = h
+step_keeps U one.Memory K h = tt

@@ -1,6 +1,6 @@
 -- The contents of a group on their way.
 use Rattle.std.proofs.Common.{◌≡◌, ◌≤◌, ◌<◌, ◌+◌, ◌-◌, ℕ, zero, suc, List, [], ◌∷◌, ◌++◌, map, length, drop, refl, sym, ap, ◌∙◌, subst, arith, unsigned_abs, pos, int_lt, Bool, true, false, ℤ}
-use Rattle.std.specs.Prelude.{replicate, list_any}
+use Rattle.std.specs.Prelude.{replicate}
 use Rattle.std.specs.List.{All}
 use Rattle.std.proofs.lemmas.List.{append_assoc, append-nil, map-append, length-map, replicate-append-replicate}
 use Rattle.rules_steps.specs.Failure.{Failure}
@@ -97,14 +97,14 @@ module _ (start : PlainWorld) (s : Setting) (t : Turn) (v : World) (counts : Pla
   -- or failed
   backs : (done : List Status) (n : ℕ) → length done ≡ n → map status (replicate n said.Backtracked) ≡ map told_status (map (λ _. Backtracked) done)
   backs [] zero e = refl
-  backs [] (suc n) e = Rattle.std.proofs.Common.absurd cc
-  backs (x ∷ done) zero e = Rattle.std.proofs.Common.absurd cc
+  backs [] (suc n) e = absurd cc
+  backs (x ∷ done) zero e = absurd cc
   backs (x ∷ done) (suc n) e = ap (λ t. status said.Backtracked ∷ t) (backs done n (omega arith))
 
   skips : (left : List Content) (n : ℕ) → length left ≡ n → map status (replicate n said.Skipped) ≡ map told_status (map skipped left)
   skips [] zero e = refl
-  skips [] (suc n) e = Rattle.std.proofs.Common.absurd cc
-  skips (x ∷ left) zero e = Rattle.std.proofs.Common.absurd cc
+  skips [] (suc n) e = absurd cc
+  skips (x ∷ left) zero e = absurd cc
   skips (x ∷ left) (suc n) e = ap (λ t. status said.Skipped ∷ t) (skips left n (omega arith))
 
   pub content_broke : (count : ℕ) (f : Why) (behind : ℕ) → length left ≡ behind →

@@ -3,6 +3,8 @@ use Rattle.std.proofs.Common.{◌≡◌, ◌≤◌, ◌<◌, ◌+◌, ◌-◌, �
 use Rattle.std.proofs.lemmas.List.{append_assoc, append-nil, length-map, length-reverse}
 use Rattle.std.specs.Prelude.{reverse}
 use Rattle.mich_base.specs.Counted.{IsNotEmpty}
+use Rattle.rules_gas.specs.Prices.{Listed}
+use Rattle.rules_world.specs.Groups.{setting_of}
 use Rattle.rules_world.specs.Receipts.{Effect}
 use Rattle.rules_world.specs.World.{World as PlainWorld}
 use Rattle.rules_world.specs.Outcomes.{Setting, Waiting, Counts as PlainCounts, Outcome, applied, failed, stuck}
@@ -132,7 +134,11 @@ module _ (start : PlainWorld) (s : Setting) (contents : ℕ) (t : Walk) (limit n
       ∙ within_zero s h.0 (all_sent v.store.bases.present ss) gas counts (sent_not_empty v ss some))
       ∙ ap (λ k. broken_off k out_of_gas) (omega arith)
 
-pub failed_walk : {U : Type 0} (t : Walk) (v : World) (gas : ℕ) (old new : Counts) (effects : List Done) (n : ℕ) (why : Failure) (f : Failed) →
+pub failed_walk : (U : Type 0) (t : Walk) (v : World) (gas : ℕ) (old new : Counts) (effects : List Done) (n : ℕ) (why : Failure) (f : Failed) →
     t ≡ broken_off n why → failure f ≡ told why → WalksAs {U = U} t v gas old new effects (Err (tree.Failed n f))
-failed_walk {U = U} t v gas old new effects n why f e h =
+failed_walk U t v gas old new effects n why f e h =
     subst (λ t. WalksAs {U = U} t v gas old new effects (Err (tree.Failed n f))) (sym e) (refl, h)
+
+pub goes_group : (prices : Listed) (source : List ℕ) (n m : ℕ) (start : PlainWorld) (contents : ℕ) (v : World) (w : PlainWorld) (waiting : List Waiting) (counts : PlainCounts) → n ≡ m →
+    Goes start (setting_of prices n source) contents v w waiting counts → Goes start (setting_of prices m source) contents v w waiting counts
+goes_group prices source n m start contents v w waiting counts e g = subst (λ (k : ℕ). Goes start (setting_of prices k source) contents v w waiting counts) e g
