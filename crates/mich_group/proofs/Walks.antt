@@ -1,5 +1,5 @@
 -- Trees on their way.
-use Rattle.std.proofs.Common.{◌≡◌, ◌≤◌, ◌<◌, ◌+◌, ◌-◌, ℕ, zero, suc, List, [], ◌∷◌, ◌++◌, map, length, refl, sym, ap, ◌∙◌, subst, arith, Ok, Err, Result}
+use Rattle.std.proofs.Common.{◌≡◌, ◌≤◌, ◌<◌, ◌+◌, ◌-◌, ℕ, zero, suc, List, [], ◌∷◌, ◌++◌, map, length, refl, sym, ap, ◌∙◌, subst, arith, Bool, Ok, Err, Result}
 use Rattle.std.proofs.lemmas.List.{append_assoc, append-nil, length-map, length-reverse}
 use Rattle.std.specs.Prelude.{reverse}
 use Rattle.mich_base.specs.Counted.{IsNotEmpty}
@@ -15,12 +15,13 @@ use Rattle.laws_runs.specs.Going.{IsSetting, IsGoing, KeepsGoing}
 use Rattle.laws_world.proofs.Walks.{apply_keeps}
 use Rattle.mich_machine.specs.Calls.{counts_of}
 use Rattle.mich_machine.specs.declared.state.Counts.{Counts}
+use Rattle.mich_operations.specs.declared.applied.ApplyError.{ApplyError}
 use Rattle.mich_ops.specs.Told.{told}
 use Rattle.mich_ops.specs.View.{effect, failure}
 use Rattle.mich_ops.specs.declared.failure.Failure.{Failure as Failed}
 use Rattle.mich_ops.specs.declared.receipt.Effect.{Effect as Done}
 use Rattle.mich_world.specs.World.{World}
-use Rattle.mich_group.specs.Trees.{Goes, IsStep, IsFailed, IsWalked, WalksAs, behind_all}
+use Rattle.mich_group.specs.Trees.{Goes, IsStep, StepsTo, IsFailed, IsWalked, WalksAs, behind_all}
 use Rattle.mich_group.specs.Waiting.{sent, all_sent}
 use Rattle.mich_group.specs.declared.tree.TreeError.{TreeError}
 use Rattle.mich_group.specs.declared.tree.TreeError.TheVariants as tree
@@ -142,3 +143,8 @@ failed_walk U t v gas old new effects n why f e h =
 pub goes_group : (prices : Listed) (source : List ℕ) (n m : ℕ) (start : PlainWorld) (contents : ℕ) (v : World) (w : PlainWorld) (waiting : List Waiting) (counts : PlainCounts) → n ≡ m →
     Goes start (setting_of prices n source) contents v w waiting counts → Goes start (setting_of prices m source) contents v w waiting counts
 goes_group prices source n m start contents v w waiting counts e g = subst (λ (k : ℕ). Goes start (setting_of prices k source) contents v w waiting counts) e g
+
+pub steps_group : (prices : Listed) (source : List ℕ) (n m : ℕ) (w : PlainWorld) (waiting : List Waiting) (gas : ℕ) (counts : PlainCounts) (v : World) (left : ℕ) (now : PlainCounts) (ss : List Sent) (before after : List Done) (r : Result Bool ApplyError) →
+    n ≡ m → StepsTo (setting_of prices n source) w waiting gas counts v left now ss before after r → StepsTo (setting_of prices m source) w waiting gas counts v left now ss before after r
+steps_group prices source n m w waiting gas counts v left now ss before after r e h =
+    subst (λ (k : ℕ). StepsTo (setting_of prices k source) w waiting gas counts v left now ss before after r) e h

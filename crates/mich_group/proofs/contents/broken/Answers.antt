@@ -8,4 +8,4 @@ pub loop-skip-init : goal.loop-skip-init
 loop-skip-init c =
     let all : c.loop-back.back ≡ c.args.before = omega arith in
     c.in_ok-push-2.ensures.pushed
-    ∙ ap (λ (ss : List Status). ss ++ status.Failed c.args.count c.args.why ∷ []) (c.loop-back.invariant ∙ ap (λ (n : ℕ). replicate n status.Backtracked) all)
+    ∙ (λ i. (c.loop-back.invariant.row ∙ ap (λ (n : ℕ). replicate n status.Backtracked) all) i ++ status.Failed c.args.count (c.loop-back.invariant.same i) ∷ [])
