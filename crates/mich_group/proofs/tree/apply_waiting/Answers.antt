@@ -1,4 +1,4 @@
-use Rattle.std.proofs.Common.{◌≡◌, ◌∙◌, ◌<◌, ◌-◌, ℕ, List, [], Ok, true, ap, map, refl, sym, subst, arith}
+use Rattle.std.proofs.Common.{◌≡◌, ◌∙◌, ◌<◌, ◌-◌, ℕ, Bool, List, [], Ok, true, ap, map, refl, sym, subst, arith}
 use Rattle.rules_world.specs.Groups.{setting_of}
 use Rattle.rules_world.specs.Trees.{broken_off, tree_within}
 use Rattle.rules_steps.specs.Failure.{out_of_gas}
@@ -9,7 +9,7 @@ use Rattle.mich_gas.specs.View.{listed}
 use Rattle.mich_machine.specs.Calls.{counts_of}
 use Rattle.mich_ops.specs.View.{effect}
 use Rattle.mich_world.proofs.Marks.{world_same, world_trans}
-use Rattle.mich_group.specs.Trees.{behind_all}
+use Rattle.mich_group.specs.Trees.{StepsTo, behind_all}
 use Rattle.mich_group.specs.Waiting.{all_sent}
 use Rattle.mich_group.proofs.Walks.{HasCome, comes_to_end, comes_too_late, failed_walk, goes_group, step_comes, steps_group}
 use Rattle.mich_group.proofs.tree.apply_waiting.Goals as goal
@@ -57,7 +57,9 @@ loop-count-preserved c =
       come = λ start w contents g.
           let h = l.invariant.come start w contents g in
           let here = goes_group prices c.args.source.now c.args.counts.now.group l.counts.group start contents l.world h.0 waiting (counts_of l.counts) (sym l.invariant.group) h.1 in
-          let step = rw c.in-Ok-true.field-0-is at (c.in-Ok-true.ensures.steps start h.0 contents here) in
+          let step = subst (λ (b : Bool). StepsTo (setting_of prices l.counts.group c.args.source.now) h.0 waiting l.meter (counts_of l.counts) v c.apply_next.new.meter
+          (counts_of c.apply_next.new.counts) c.apply_next.new.waiting l.effects c.apply_next.new.effects (Ok b)) c.in-Ok-true.field-0-test
+          (c.in-Ok-true.ensures.steps start h.0 contents here) in
           let less : l.count < c.args.gas = omega arith in
           step_comes start s contents
           (behind_all (map effect c.args.effects.now) 1 (tree_within (c.args.gas - 1) s w first c.args.meter.now (counts_of c.args.counts.now)))
