@@ -1,0 +1,14 @@
+//! The course of a file: its world, its prices and its groups, which each statement takes on.
+//!
+//! A contract sees by `Follows` of specs/Following how a course follows one of the rules.
+#![tactic(auto)]
+
+mod begun;
+mod course;
+mod error;
+mod laws;
+
+pub use begun::begin;
+pub use course::Course;
+pub use error::CourseError;
+pub use laws::statements_have_ranges;

@@ -1,0 +1,6 @@
+//! STAND-IN
+#![tactic(auto)]
+
+mod group;
+
+pub use group::apply_group;

@@ -1,0 +1,2 @@
+//! STAND-IN
+#![tactic(auto)]
