@@ -30,7 +30,8 @@ use Rattle.mich_machine.specs.Calls.{IsHosting}
 use Rattle.mich_ops.specs.declared.receipt.GroupReceipt.{GroupReceipt}
 use Rattle.mich_ops.specs.Told.{told_receipt}
 use Rattle.mich_ops.specs.View.{receipt}
-use Rattle.mich_standing.specs.Laws.{NewWorldsAgree, ClocksAgree, GrantsAgree, Grants}
+use Rattle.mich_standing.specs.Laws.{Grants}
+use Rattle.mich_standing.proofs.Agreement.{new_worlds_agree, clocks_agree, grants_agree}
 use Rattle.mich_world.specs.Answers.{IsGrant}
 use Rattle.mich_world.specs.Standing.{StandsFor}
 use Rattle.mich_world.specs.Storages.{IsStored}
@@ -44,17 +45,6 @@ use Rattle.mich_course.specs.declared.error.CourseError.TheVariants as error
 use Rattle.mich_course.specs.Following.{Follows, Goes, told}
 use Rattle.mich_course.proofs.Charged.{nothing_charged, table_charged}
 
--- ---- laws of worlds below
-
-new_agrees : NewWorldsAgree
-new_agrees = ?
-
-clock_agrees : ClocksAgree
-clock_agrees = ?
-
-grant_agrees : GrantsAgree
-grant_agrees = ?
-
 -- ---- the beginning
 
 pub begun : {c : Course} (id : List ℕ) (level : ℕ) (moment : ℤ) → is_chain_id id ≡ true → level < 2 ^ 32 → is_moment moment ≡ true →
@@ -62,7 +52,7 @@ pub begun : {c : Course} (id : List ℕ) (level : ℕ) (moment : ℤ) → is_cha
 begun id level moment i l m w p g o =
     let whole = new_worlds_are_good id level moment i l m in
     record {
-      stands = subst (λ v. StandsFor v (new_world id level moment)) (sym w) (new_agrees id level moment);
+      stands = subst (λ v. StandsFor v (new_world id level moment)) (sym w) (new_worlds_agree id level moment);
       prices = p;
       groups = g;
       only_chain = o;
@@ -110,7 +100,7 @@ pub granted : {p : PlainCourse} (old new : Course) (who : List ℕ) (mutez : ℕ
 granted {p} old new who mutez r f key others answer ok c g o = by (granted_to p.world who mutez) refl (subst (Grants new.world (granted_to p.world who mutez)) ok agrees)
   where
     agrees : Grants new.world (granted_to p.world who mutez) r
-    agrees = grant_agrees old.world new.world p.world who mutez r f.stands key others answer
+    agrees = grants_agree old.world new.world p.world who mutez r f.stands key others answer
 
     made : IsGrant who mutez old.world.funds new.world.funds (Ok tt)
     made = subst (IsGrant who mutez old.world.funds new.world.funds) ok answer
@@ -133,7 +123,7 @@ pub repeated : {p : PlainCourse} (old new : Course) (who : List ℕ) (mutez : �
     new.world ≡ with_funds old.world new.world.funds → IsGrant who mutez old.world.funds new.world.funds r → r ≡ Err grant.RepeatedAccount →
     Goes (granting p (granted_to p.world who mutez)) new (Err error.RepeatedAccount)
 repeated {p} old new who mutez r f key others answer e =
-    by (granted_to p.world who mutez) (subst (Grants new.world (granted_to p.world who mutez)) e (grant_agrees old.world new.world p.world who mutez r f.stands key others answer))
+    by (granted_to p.world who mutez) (subst (Grants new.world (granted_to p.world who mutez)) e (grants_agree old.world new.world p.world who mutez r f.stands key others answer))
   where
     by : (x : Grant) → Grants new.world x (Err grant.RepeatedAccount) → Goes (granting p x) new (Err error.RepeatedAccount)
     by (Granted w) s = absurd s
@@ -144,7 +134,7 @@ pub too_much : {p : PlainCourse} (old new : Course) (who : List ℕ) (mutez : �
     new.world ≡ with_funds old.world new.world.funds → IsGrant who mutez old.world.funds new.world.funds r → r ≡ Err grant.SupplyLimit →
     Goes (granting p (granted_to p.world who mutez)) new (Err error.SupplyLimit)
 too_much {p} old new who mutez r f key others answer e =
-    by (granted_to p.world who mutez) (subst (Grants new.world (granted_to p.world who mutez)) e (grant_agrees old.world new.world p.world who mutez r f.stands key others answer))
+    by (granted_to p.world who mutez) (subst (Grants new.world (granted_to p.world who mutez)) e (grants_agree old.world new.world p.world who mutez r f.stands key others answer))
   where
     by : (x : Grant) → Grants new.world x (Err grant.SupplyLimit) → Goes (granting p x) new (Err error.SupplyLimit)
     by (Granted w) s = absurd s
@@ -182,7 +172,7 @@ pub advanced : {p : PlainCourse} (old new : Course) (level : ℕ) (moment : ℤ)
     Goes (block_step p level moment) new (Ok None)
 advanced {p} old new level moment f l m later w c g o =
     rw later (record {
-      stands = subst (λ v. StandsFor v (record (p.world) { level = level; moment = moment })) (sym w) (clock_agrees old.world p.world level moment f.stands);
+      stands = subst (λ v. StandsFor v (record (p.world) { level = level; moment = moment })) (sym w) (clocks_agree old.world p.world level moment f.stands);
       prices = ap listed c ∙ f.prices;
       groups = g ∙ f.groups;
       only_chain = o;

@@ -12,3 +12,6 @@ pub use begun::begin;
 pub use course::Course;
 pub use error::CourseError;
 pub use laws::statements_have_ranges;
+
+#[cfg(test)]
+mod tests;

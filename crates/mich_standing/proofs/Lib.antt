@@ -1,0 +1,5 @@
+pub mod Accounts
+pub mod Agreement
+pub mod Contracts
+pub mod Opening
+pub mod Owners
