@@ -234,6 +234,7 @@ enum Write {
 }
 
 // So many tickets.
+#[tactic(auto, using(crate::proofs::Marks::world_same, crate::proofs::Marks::world_trans, crate::proofs::Marks::ledger_lent, crate::proofs::Marks::store_lent))]
 fn minted(alloc: Global, world: &mut World, n: i128) -> Result<Option<Ticket>, Memory>
     requires { pos 0 ≤ℤ n }
     ensures { KeepsWorld world.old world.new }
@@ -245,6 +246,7 @@ fn minted(alloc: Global, world: &mut World, n: i128) -> Result<Option<Ticket>, M
 }
 
 // A ticket is burnt, where no more would be burnt than was minted.
+#[tactic(auto, using(crate::proofs::Marks::world_same, crate::proofs::Marks::world_trans, crate::proofs::Marks::ledger_lent, crate::proofs::Marks::store_lent))]
 fn burn(alloc: Global, world: &mut World, ticket: Ticket) -> Result<(), Memory>
     ensures { KeepsWorld world.old world.new }
 {
@@ -259,6 +261,7 @@ fn burn(alloc: Global, world: &mut World, ticket: Ticket) -> Result<(), Memory>
 }
 
 // A ticket comes to the first account, where there is room for it.
+#[tactic(auto, using(crate::proofs::Marks::world_same, crate::proofs::Marks::world_trans, crate::proofs::Marks::ledger_lent, crate::proofs::Marks::store_lent))]
 fn credit(alloc: Global, world: &mut World, ticket: Ticket) -> Result<(), Memory>
     ensures { KeepsWorld world.old world.new }
 {
@@ -271,6 +274,7 @@ fn credit(alloc: Global, world: &mut World, ticket: Ticket) -> Result<(), Memory
 }
 
 // A big map of one entry is settled.
+#[tactic(auto, using(crate::proofs::Marks::world_same, crate::proofs::Marks::world_trans, crate::proofs::Marks::ledger_lent, crate::proofs::Marks::store_lent))]
 fn settle_one(alloc: Global, world: &mut World) -> Result<(), Memory>
     ensures { KeepsWorld world.old world.new }
 {
@@ -286,6 +290,7 @@ fn settle_one(alloc: Global, world: &mut World) -> Result<(), Memory>
     Ok(())
 }
 
+#[tactic(auto, using(crate::proofs::Marks::world_same, crate::proofs::Marks::world_trans, crate::proofs::Marks::ledger_lent, crate::proofs::Marks::store_lent))]
 fn apply(alloc: Global, world: &mut World, write: Write) -> Result<(), Fail>
     ensures { KeepsWorld world.old world.new }
 {
