@@ -54,6 +54,9 @@ all_positive (t ∷ ts) h = (amount_positive t.amount (All-head IsTicket t ts h)
 held_within : (v s i b m v' : ℤ) → v' ≡ v → pos 0 ≤ℤ s → pos 0 ≤ℤ i → (v +ℤ s +ℤ i +ℤ b) ≤ℤ m → (b +ℤ v') ≤ℤ m
 held_within v s i b m v' e h g l = omega (arith, ints, e, h, g, l)
 
+all_within : (v s i b m v' : ℤ) → v' ≡ v → pos 0 ≤ℤ s → (v +ℤ s +ℤ i +ℤ b) ≤ℤ m → (b +ℤ i +ℤ v') ≤ℤ m
+all_within v s i b m v' e h l = omega (arith, ints, e, h, l)
+
 module _ {u : Around} {c : Context} {ps : List Pending} {A : List Kind} {V : List Val} {is : List Issued} {cs : List Change} (h : IsFine u c ps A V is cs) where
   pub tickets_positive : AllByRecursion IsPositive (flat_map tickets V)
   tickets_positive = all_positive (flat_map tickets V) (stack_good (known u.contract_at is) A V h.fits)
@@ -63,6 +66,12 @@ module _ {u : Around} {c : Context} {ps : List Pending} {A : List Kind} {V : Lis
   tickets_within id =
       held_within (amount_on id V) (stock id ps) (amount_issued id is) (burnt_by u cs id) (minted_by u cs id) (ticket.amount_on id V) (on_same id V)
       (stock_positive id (known u.contract_at is) ps h.pending) (issued_positive id u.contract_at is h.well.0) (h.within id)
+
+  -- the same with those that issued operations have
+  pub tickets_handed : (id : Identity) → (burnt_by u cs id +ℤ amount_issued id is +ℤ amount_among id (flat_map tickets V)) ≤ℤ minted_by u cs id
+  tickets_handed id =
+      all_within (amount_on id V) (stock id ps) (amount_issued id is) (burnt_by u cs id) (minted_by u cs id) (ticket.amount_on id V) (on_same id V)
+      (stock_positive id (known u.contract_at is) ps h.pending) (h.within id)
 
   -- in books of what was minted and burnt
   pub tickets_ready : (b : Books) → ((id : Identity) → minted_of b id ≡ minted_by u cs id) → ((id : Identity) → burnt_of b id ≡ burnt_by u cs id) → IsReady b (flat_map tickets V)
