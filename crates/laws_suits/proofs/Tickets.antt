@@ -30,7 +30,7 @@ use Rattle.mich_frames.proofs.Fine.{stock_positive}
 
 -- ---- operations
 
-operation_positive : (id : Identity) (l : Lookup) (op : Operation) → IsSoundIssue l op → pos 0 ≤ℤ amount_among id (operation_tickets op)
+pub operation_positive : (id : Identity) (l : Lookup) (op : Operation) → IsSoundIssue l op → pos 0 ≤ℤ amount_among id (operation_tickets op)
 operation_positive id l (transfer argument amount destination) h = positive id (known l h.1) h.0 argument h.4
 operation_positive id l (origination delegate amount t storage hash) h = positive id (known l h.1) h.0.storage storage h.4
 operation_positive id l (event tag a x) h = positive id (known l h.0) a x h.2
@@ -47,7 +47,7 @@ issued_positive id l (i ∷ is) h =
 amount_positive : (n : ℤ) → is_ticket_amount n ≡ true → pos 0 <ℤ n
 amount_positive n h = let low : int_le (pos 1) n ≡ true = (and_parts (int_le (pos 1) n) (int_le n (pos (2 ^ 127 - 1))) h).0 in grind (arith, ints)
 
-all_positive : (ts : List Held) → All IsTicket ts → AllByRecursion IsPositive ts
+pub all_positive : (ts : List Held) → All IsTicket ts → AllByRecursion IsPositive ts
 all_positive [] h = tt
 all_positive (t ∷ ts) h = (amount_positive t.amount (All-head IsTicket t ts h).1, all_positive ts (All-tail IsTicket t ts h))
 

@@ -165,6 +165,13 @@ all_done {u = u} {V = V} {m = m} {Z = Z} {o = o} h = by h.pending h.context h.ty
     by : (ps : List Pending) (c : Context) (A : List Kind) → Rests [] ps u c A Z → resume ps (at u c) A V m ≡ o → o ≡ stack Z V m
     by _ c _ fr.rests_end same = sym same
 
+-- and values and tickets are as they were left
+pub done_holds : {u : Around} {V : List Val} {m : Tally} {d : ℕ} {Z : List Kind} {o : Outcome} → StandsAt [] u V m d Z o → (c : Context) × IsFine u c [] Z V m.issued m.changes
+done_holds {u = u} {V = V} {m = m} {Z = Z} h = by h.pending h.context h.types h.rests h.holds
+  where
+    by : (ps : List Pending) (c : Context) (A : List Kind) → Rests [] ps u c A Z → IsFine u c ps A V m.issued m.changes → (c : Context) × IsFine u c [] Z V m.issued m.changes
+    by _ c _ fr.rests_end holds = (c, holds)
+
 -- where a run begins
 pub starts : (u : Around) (c : Context) (ts : Trees) (is : Codes) (A Z : List Kind) (V : List Val) (m : Tally) → IsCharged u.prices → IsBlock c ts is A Z →
     IsFine u c [] A V m.issued m.changes → OpensAt is [] u V m 0 Z (eval (seq ts) (at u c) 0 A V m)
