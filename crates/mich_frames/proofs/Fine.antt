@@ -32,13 +32,14 @@ use Rattle.laws_stacks.proofs.Grow.{Knows, fits_grow, fits_packed, all_grow}
 use Rattle.laws_stacks.proofs.Kept.{fit-append, knows_grow}
 use Rattle.laws_stacks.proofs.Nothing.{no_amount, no_amount_compared, packable_duplicable}
 use Rattle.laws_stacks.proofs.Parts.{type_list, type_element, type_entry, type_option}
+use Rattle.laws_control.proofs.Branches.{fit_drop, types_drop}
 use Rattle.laws_control.proofs.Calls.{good_in_lambda}
 use Rattle.laws_control.proofs.Items.{element_amount, entry_amount}
 use Rattle.laws_typed.proofs.Typings.{Types, both_types}
 use Rattle.laws_typed.proofs.Outlines.{contexts}
 use Rattle.laws_control.proofs.Typed.{tree_types}
 use Rattle.laws_stock.proofs.Nodes.{Leaves, node_leaves}
-use Rattle.laws_stock.proofs.Values.{take_fit, drop_fit, take_types, drop_types, split_amount, all_one_grow, all_one_last, one_kind_positive}
+use Rattle.laws_stock.proofs.Values.{take_fit, take_types, split_amount, all_one_grow, all_one_last, one_kind_positive}
 use Rattle.laws_stock.proofs.Collections.{elements_fit, entries_fit, IsMade, list_made, table_made, some_made, none_made}
 use Rattle.mich_instr.specs.Typed.{HasParts, of_list, of_set, of_map, IsMapped, to_list, to_option, to_map}
 use Rattle.rules_evaluation.specs.Contracts.{Viewed, is_contract_of}
@@ -209,7 +210,7 @@ module _ {u : Around} {is : List Issued} {cs : List Change} where
     -- so many values, which are laid aside, and come back
     pub aside : {ps : List Pending} {A : List Kind} {V : List Val} (n : ℕ) → IsFine u c ps A V is cs → IsFine u c (p.under (take n A) (take n V) ∷ ps) (drop n A) (drop n V) is cs
     aside {ps = ps} {A = A} {V = V} n h =
-        moved h c (p.under (take n A) (take n V) ∷ ps) (drop n A) (drop n V) h.good (drop_types n A h.types) (drop_fit (kn u is) n A V h.fits) (take_types n A h.types, take_fit (kn u is) n A V h.fits, h.pending)
+        moved h c (p.under (take n A) (take n V) ∷ ps) (drop n A) (drop n V) h.good (types_drop n A h.types) (fit_drop (kn u is) n A V h.fits) (take_types n A h.types, take_fit (kn u is) n A V h.fits, h.pending)
         (λ id. let i = split_amount id n V in omega (arith, ints, i))
 
     pub back : {ps : List Pending} {A B : List Kind} {W V : List Val} → IsFine u c (p.under A W ∷ ps) B V is cs → IsFine u c ps (A ++ B) (W ++ V) is cs
