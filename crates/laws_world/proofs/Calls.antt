@@ -143,43 +143,47 @@ module _ (start : World) (s : Setting) (contents : ℕ) (few : contents ≤ 1000
 
 module _ (start : World) (s : Setting) (setting : IsSetting s) (contents : ℕ) (few : contents ≤ 1000) where
   -- the call of an entrypoint of a contract on an argument of its type, while the other operations wait
+  pub run_called : (w : World) (c : Call) (waiting : List Waiting) (counts : Counts) →
+      IsTaken start s.group contents w (λ id. amount_in id c.argument) waiting counts →
+      IsMet w c.target → FitsIn w c.target.entry.kind c.argument → is_place c.sender ≡ true → c.amount ≤ most_mutez →
+      IsCall (environment_of s w c) s w c.target c.argument counts
+  run_called w c waiting counts taken is_met fits sender amount = record {
+    costs = setting.costs;
+    small = setting.small;
+    environment = record {
+      chain = taken.sound.form.chain;
+      level = taken.sound.form.level;
+      moment = taken.sound.form.moment;
+      source = setting.source;
+      sender = sender;
+      amount = amount;
+      balance = let within = balance_within w (contract_place c.target.hash) (in_order w (orderly_of w taken.sound)) in
+          let most = taken.sound.mutez in omega (arith, within, most);
+    };
+    own = refl;
+    found = met_again w c.target is_met;
+    fits = fits;
+    may = record {
+      sound = taken.sound;
+      tickets = λ id. handed (held w id) (amount_in id c.argument) (amount_waiting id waiting) _ (taken.tickets id)
+          (waiting_positive id w waiting taken.waits);
+    };
+    operations = taken.operations;
+    originations = let a = taken.originations in omega arith;
+  }
+    where
+      handed : (h a r b : ℤ) → h +ℤ (a +ℤ r) ≡ b → pos 0 ≤ℤ r → (h +ℤ a) ≤ℤ b
+      handed h a r b e p = omega (arith, ints, e, p)
+
   pub run_keeps : (w : World) (c : Call) (gas : ℕ) (waiting : List Waiting) (counts : Counts) (effect : List Change → Effect) →
       IsTaken start s.group contents w (λ id. amount_in id c.argument) waiting counts →
       IsMet w c.target → FitsIn w c.target.entry.kind c.argument → is_place c.sender ≡ true → c.amount ≤ most_mutez →
       KeepsGoing start s contents waiting (run s w c gas counts effect)
   run_keeps w c gas waiting counts effect taken is_met fits sender amount =
       by (run_in (environment_of s w c) s w c.target c.argument gas counts)
-      (runs_end_well (environment_of s w c) s w c.target c.argument gas counts call)
+      (runs_end_well (environment_of s w c) s w c.target c.argument gas counts
+      (run_called w c waiting counts taken is_met fits sender amount))
     where
-      handed : (h a r b : ℤ) → h +ℤ (a +ℤ r) ≡ b → pos 0 ≤ℤ r → (h +ℤ a) ≤ℤ b
-      handed h a r b e p = omega (arith, ints, e, p)
-
-      call : IsCall (environment_of s w c) s w c.target c.argument counts
-      call = record {
-        costs = setting.costs;
-        small = setting.small;
-        environment = record {
-          chain = taken.sound.form.chain;
-          level = taken.sound.form.level;
-          moment = taken.sound.form.moment;
-          source = setting.source;
-          sender = sender;
-          amount = amount;
-          balance = let within = balance_within w (contract_place c.target.hash) (in_order w (orderly_of w taken.sound)) in
-              let most = taken.sound.mutez in omega (arith, within, most);
-        };
-        own = refl;
-        found = met_again w c.target is_met;
-        fits = fits;
-        may = record {
-          sound = taken.sound;
-          tickets = λ id. handed (held w id) (amount_in id c.argument) (amount_waiting id waiting) _ (taken.tickets id)
-              (waiting_positive id w waiting taken.waits);
-        };
-        operations = taken.operations;
-        originations = let a = taken.originations in omega arith;
-      }
-
       by : (e : Ended) → EndsWell s w c.target c.argument counts e →
           KeepsGoing start s contents waiting (with_effect c.target.hash effect e)
       by (finished f) h = finished_keeps start s contents few w c.target c.argument waiting counts taken is_met f h
@@ -191,22 +195,37 @@ module _ (start : World) (s : Setting) (setting : IsSetting s) (contents : ℕ) 
   module _ (w : World) (t : Transaction) (waiting : List Waiting) (counts : Counts) (over : Identity → ℤ)
       (taken : IsTaken start s.group contents w over waiting counts) (implicit : is_implicit t.destination ≡ false)
       (sender : is_place t.sender ≡ true) (small : t.amount ≤ most_mutez) where
-    called_keeps : (target : Target) (x : Val) (gas : ℕ) → IsMet w target → target.hash ≡ hash_in t.destination →
-        FitsIn w target.entry.kind x → ((id : Identity) → over id ≡ amount_in id x) →
-        t.amount ≤ balance_or_none w t.sender → KeepsGoing start s contents waiting (called s w t target x gas counts)
-    called_keeps target x gas m hash fits e enough =
-        let o = orderly_of w taken.sound in
-        let y = moved w t.sender t.destination t.amount in
-        let moves = moved_moves w t.sender t.destination t.amount o in
-        let owner : IsOwner w t.destination (is_implicit t.destination) = rw implicit
-        (m.contract, ap (contract_at w) (sym hash) ∙ m.there) in
-        let mutez = moved_supply w t.sender t.destination t.amount o enough owner in
-        let on = taken_on start s.group contents w waiting counts over
-        (λ id. amount_in id x) y taken moves.orderly moves.more moves.none moves.log moves.granted mutez
-        (λ id. ap (λ z. z +ℤ amount_in id x) (moves.held id) ∙ ap (λ z. held w id +ℤ z) (sym (e id))) in
-        run_keeps y (record { target = target; sender = t.sender; amount = t.amount; argument = x }) gas waiting counts
-        (transfer_effect t x) on (met_more w y target moves.more m)
-        (fits_in_more w y moves.more target.entry.kind x fits) sender small
+    module _ (target : Target) (x : Val) (m : IsMet w target) (hash : target.hash ≡ hash_in t.destination)
+        (fits : FitsIn w target.entry.kind x) (e : (id : Identity) → over id ≡ amount_in id x)
+        (enough : t.amount ≤ balance_or_none w t.sender) where
+      -- the world with the mutez at the contract, and the call there
+      abbrev y : World
+      y = moved w t.sender t.destination t.amount
+
+      abbrev c : Call
+      c = record { target = target; sender = t.sender; amount = t.amount; argument = x }
+
+      moves_taken : IsTaken start s.group contents y (λ id. amount_in id x) waiting counts
+      moves_taken =
+          let o = orderly_of w taken.sound in
+          let moves = moved_moves w t.sender t.destination t.amount o in
+          let owner : IsOwner w t.destination (is_implicit t.destination) = rw implicit
+          (m.contract, ap (contract_at w) (sym hash) ∙ m.there) in
+          let mutez = moved_supply w t.sender t.destination t.amount o enough owner in
+          taken_on start s.group contents w waiting counts over
+          (λ id. amount_in id x) y taken moves.orderly moves.more moves.none moves.log moves.granted mutez
+          (λ id. ap (λ z. z +ℤ amount_in id x) (moves.held id) ∙ ap (λ z. held w id +ℤ z) (sym (e id)))
+
+      abbrev more : Extends (contract_at w) (contract_at y)
+      more = (moved_moves w t.sender t.destination t.amount (orderly_of w taken.sound)).more
+
+      pub called_call : IsCall (environment_of s y c) s y target x counts
+      called_call = run_called y c waiting counts moves_taken (met_more w y target more m)
+          (fits_in_more w y more target.entry.kind x fits) sender small
+
+      pub called_keeps : (gas : ℕ) → KeepsGoing start s contents waiting (called s w t target x gas counts)
+      called_keeps gas = run_keeps y c gas waiting counts (transfer_effect t x) moves_taken (met_more w y target more m)
+          (fits_in_more w y more target.entry.kind x fits) sender small
 
     abbrev pub IsArgument : Target → Found Val → Type 0
     IsArgument target (found x) = FitsIn w target.entry.kind x × ((id : Identity) → over id ≡ amount_in id x)
@@ -218,7 +237,7 @@ module _ (start : World) (s : Setting) (setting : IsSetting s) (contents : ℕ) 
       where
         by : (b : Bool) → nat_le t.amount (balance_or_none w t.sender) ≡ b →
             KeepsGoing start s contents waiting (if_covered b s w t target x gas counts)
-        by true e = called_keeps target x gas m hash h.0 h.1 (leb-true t.amount (balance_or_none w t.sender) e)
+        by true e = called_keeps target x m hash h.0 h.1 (leb-true t.amount (balance_or_none w t.sender) e) gas
         by false e = tt
     argument_keeps target gas (fault l) m hash h = tt
 

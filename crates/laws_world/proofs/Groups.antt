@@ -50,7 +50,7 @@ KeepsSettled number start (Some settled) = IsGood settled.world [] × IsKept num
 KeepsSettled number start None = ⊥
 
 -- the fees are there, where the group isn't refused
-fees_there : (w : World) (source : List ℕ) (contents : List Content) → refusal_of w source contents ≡ None →
+pub fees_there : (w : World) (source : List ℕ) (contents : List Content) → refusal_of w source contents ≡ None →
     all_fees contents ≤ balance_or_none w (implicit_place source)
 fees_there w source contents h =
     by (not (is_some (account_at w source))) (list_any is_over_gas contents)
@@ -66,7 +66,7 @@ fees_there w source contents h =
 
 module _ (prices : Listed) (number : ℕ) (source : List ℕ) (contents : List Content) (w : World)
     (g : IsGroup prices number source contents w) where
-  setting : IsSetting (setting_of prices number source)
+  pub setting : IsSetting (setting_of prices number source)
   setting = record { costs = g.costs; small = g.small; source = g.key_hash }
 
   module _ (enough : all_fees contents ≤ balance_or_none w (implicit_place source)) where
@@ -92,7 +92,7 @@ module _ (prices : Listed) (number : ℕ) (source : List ℕ) (contents : List C
           tickets = λ id. rw m.log (ap (λ z. z +ℤ pos 0) (m.held id) ∙ g.good.tickets id);
         }
 
-    fees_going : IsGoing w number 0 (fees_taken w source contents) [] no_counts
+    pub fees_going : IsGoing w number 0 (fees_taken w source contents) [] no_counts
     fees_going = record {
       good = fees_good;
       operations = omega arith;

@@ -89,7 +89,7 @@ module _ (start : World) (s : Setting) (setting : IsSetting s) where
   applied_keeps status stuck_turn h = h
 
   -- the next content begins where the ones before left
-  begins : (contents : ℕ) (w : World) (action : Action) (counts : Counts) → IsAction action →
+  pub begins : (contents : ℕ) (w : World) (action : Action) (counts : Counts) → IsAction action →
       IsGoing start s.group contents w [] counts → IsGoing start s.group (suc contents) w (ordered action ∷ []) counts
   begins contents w action counts a g = record {
     good = record {

@@ -1,5 +1,6 @@
 pub mod Below
 pub mod BigMaps
+pub mod Distinct
 pub mod Extending
 pub mod Journal
 pub mod Kept
@@ -10,6 +11,7 @@ pub mod Noted
 pub mod Places
 pub mod Plain
 pub mod Putting
+pub mod Reaching
 pub mod Remaining
 pub mod Settled
 pub mod Standing

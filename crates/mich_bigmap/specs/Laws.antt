@@ -1,5 +1,5 @@
 -- Laws of what big maps stand for.
-use Rattle.std.specs.Prelude.{◌≡◌, ℕ, true, Some, List}
+use Rattle.std.specs.Prelude.{◌≡◌, ◌↔◌, ℕ, true, Some, List}
 use Rattle.rules_values.specs.Tickets.{tickets}
 use Rattle.mich_term.specs.ValueView.{val}
 use Rattle.mich_term.specs.declared.value.BigMap.{BigMap}
@@ -10,6 +10,7 @@ use Rattle.mich_bigmap.specs.Formed.{HasBase, is_there}
 use Rattle.mich_bigmap.specs.Kept.{has, kept_of, names}
 use Rattle.mich_term.specs.Layers.{AnyLayer, NoBigMap, AreFormed}
 use Rattle.mich_bigmap.specs.Layers.{HasBases}
+use Rattle.mich_bigmap.specs.Reached.{Reached, AreDistinct}
 use Rattle.mich_bigmap.specs.Standing.{val_in}
 use Rattle.mich_bigmap.specs.Ticketless.{HoldNoTickets}
 
@@ -38,3 +39,8 @@ TicketsLieInValues = (bs : Bases) (v : Value) → HoldNoTickets bs → AreFormed
 abbrev pub KeptValuesStand : Type 0
 KeptValuesStand = (bs : Bases) (ns : List ℕ) (v : Value) → HasBases bs v → ((k : ℕ) → has k (names v) ≡ true → is_there bs (Some k) ≡ true → has k ns ≡ true)
     → HasBases (kept_of ns bs) v × (val_in (kept_of ns bs) v ≡ val_in bs v)
+
+-- the bases that are kept are those that are reached from the numbers
+abbrev pub KeptAreReached : Type 0
+KeptAreReached = (ns : List ℕ) (bs : Bases) (k : ℕ) → AreDistinct bs
+    → (is_there (kept_of ns bs) (Some k) ≡ true) ↔ ((is_there bs (Some k) ≡ true) × Reached ns bs k)

@@ -7,6 +7,7 @@ pub mod Marked
 pub mod Notes
 pub mod Places
 pub mod Puts
+pub mod Reached
 pub mod Settled
 pub mod Settling
 pub mod Layers

@@ -1,5 +1,5 @@
 // Laws of what big maps stand for.
-ghost use Rattle.mich_bigmap.specs.Laws.{BigMapsStay, KeptBasesStand, ValuesStay, PlainValuesStand, TicketsLieInValues, KeptValuesStand};
+ghost use Rattle.mich_bigmap.specs.Laws.{BigMapsStay, KeptBasesStand, ValuesStay, PlainValuesStand, TicketsLieInValues, KeptValuesStand, KeptAreReached};
 
 /// A big map whose base was in the store is so, and stands for what it stood for, when bases were added.
 #[tactic(auto, using(crate::proofs::Remaining::big_maps_stay))]
@@ -30,4 +30,9 @@ pub fn tickets_lie_in_values()
 /// A value whose bases were noted stands for what it stood for when the other bases are given up.
 pub fn kept_values_stand()
     ensures { KeptValuesStand }
+{}
+
+/// The bases that are kept are those of the numbers that were noted, and those that such a one is over, directly or through others.
+pub fn kept_are_reached()
+    ensures { KeptAreReached }
 {}

@@ -15,8 +15,8 @@ mod store;
 
 pub use entries::{get, put, take};
 pub use laws::{
-    big_maps_stay, kept_bases_stand, kept_values_stand, plain_values_stand, tickets_lie_in_values,
-    values_stay,
+    big_maps_stay, kept_are_reached, kept_bases_stand, kept_values_stand, plain_values_stand,
+    tickets_lie_in_values, values_stay,
 };
 pub use printed::{flat, release};
 pub use settling::settle;

@@ -1,5 +1,5 @@
 // The store of bases, with a journal: a base is only ever added, so taking the last ones away takes the writes back.
-ghost use Rattle.std.specs.Prelude.{◌≡◌, ◌≤◌, [], ◌∷◌, true, Some, None, IfOk, OnErr};
+ghost use Rattle.std.specs.Prelude.{◌≡◌, ◌↔◌, ◌≤◌, ℕ, [], ◌∷◌, true, Some, None, IfOk, OnErr};
 ghost use Rattle.std.specs.Map.{keys_of};
 ghost use Rattle.mich_undo.specs.History.{height_of, grown, stepped_back, rewound, Keeps};
 ghost use Rattle.mich_term.specs.Keyed.{IsIncreasing};
@@ -7,6 +7,7 @@ ghost use Rattle.rules_bigmap.specs.Changes.{changed};
 ghost use Rattle.mich_bigmap.specs.Bases.{base_at, entries_in, seen};
 ghost use Rattle.mich_bigmap.specs.Extended.{Extends};
 ghost use Rattle.mich_bigmap.specs.Formed.{is_there};
+ghost use Rattle.mich_bigmap.specs.Reached.{Reached};
 ghost use Rattle.mich_bigmap.specs.Stacked.{AreLayers, bases_of};
 ghost use Rattle.mich_bigmap.specs.Notes.{Notes};
 ghost use Rattle.mich_bigmap.specs.Stored.{no_bases, with_kept};
@@ -141,7 +142,8 @@ impl Store {
     /// Drops the journal, and gives up each base that wasn't noted since the last such call and that no noted base is over,
     /// directly or through others; takes no memory.
     pub fn keep(&mut self)
-        ensures { self.new ≡ with_kept self.old }
+        ensures kept { self.new ≡ with_kept self.old }
+        ensures reached { (k : ℕ) → (is_there self.new.bases.present (Some k) ≡ true) ↔ ((is_there self.old.bases.present (Some k) ≡ true) × Reached self.old.noted self.old.bases.present k) }
     {
         sweep_all(&mut self.layers);
         clear(&mut self.layers);

@@ -15,7 +15,7 @@ returns-clause-stands c =
     let old = c.self.inside.store in
     let mid = c.note_storages.new.store in
     let notes = subst (λ (es : List (List ℕ × Contract)). Notes (all_of (map named_in es)) old mid) c.contracts.ensures c.note_storages.ensures in
-    rw (← c.self.view_is) (all_stand cs old mid c.keep.new.self notes c.keep.ensures)
+    rw (← c.self.view_is) (all_stand cs old mid c.keep.new.self notes c.keep.ensures.kept)
 
 pub returns-clause-stored : goal.returns-clause-stored
 returns-clause-stored c =
@@ -26,8 +26,8 @@ returns-clause-stored c =
     let notes = subst (λ (es : List (List ℕ × Contract)). Notes (all_of (map named_in es)) old mid) c.contracts.ensures c.note_storages.ensures in
     rw (← c.self.view_is)
     (λ a. subst (λ (f : History Holders). AllByRecursion (λ (x : List ℕ × Contract). IsStored new.bases.present x.1) f.present.contracts) (sym c.keep-3.ensures)
-    (stored_standing old.bases.present new.bases.present cs (all_stand cs old mid new notes c.keep.ensures) a))
+    (stored_standing old.bases.present new.bases.present cs (all_stand cs old mid new notes c.keep.ensures.kept) a))
 
 pub returns-clause-ticketless : goal.returns-clause-ticketless
 returns-clause-ticketless c =
-    rw (← c.self.view_is) (kept_ticketless c.self.inside.store c.note_storages.new.store c.keep.new.self _ c.note_storages.ensures c.keep.ensures)
+    rw (← c.self.view_is) (kept_ticketless c.self.inside.store c.note_storages.new.store c.keep.new.self _ c.note_storages.ensures c.keep.ensures.kept)
