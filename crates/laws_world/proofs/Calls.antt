@@ -216,16 +216,16 @@ module _ (start : World) (s : Setting) (setting : IsSetting s) (contents : ℕ) 
           (λ id. amount_in id x) y taken moves.orderly moves.more moves.none moves.log moves.granted mutez
           (λ id. ap (λ z. z +ℤ amount_in id x) (moves.held id) ∙ ap (λ z. held w id +ℤ z) (sym (e id)))
 
-      abbrev more : Extends (contract_at w) (contract_at y)
-      more = (moved_moves w t.sender t.destination t.amount (orderly_of w taken.sound)).more
+      abbrev contracts_stay : Extends (contract_at w) (contract_at y)
+      contracts_stay = (moved_moves w t.sender t.destination t.amount (orderly_of w taken.sound)).more
 
       pub called_call : IsCall (environment_of s y c) s y target x counts
-      called_call = run_called y c waiting counts moves_taken (met_more w y target more m)
-          (fits_in_more w y more target.entry.kind x fits) sender small
+      called_call = run_called y c waiting counts moves_taken (met_more w y target contracts_stay m)
+          (fits_in_more w y contracts_stay target.entry.kind x fits) sender small
 
       pub called_keeps : (gas : ℕ) → KeepsGoing start s contents waiting (called s w t target x gas counts)
-      called_keeps gas = run_keeps y c gas waiting counts (transfer_effect t x) moves_taken (met_more w y target more m)
-          (fits_in_more w y more target.entry.kind x fits) sender small
+      called_keeps gas = run_keeps y c gas waiting counts (transfer_effect t x) moves_taken (met_more w y target contracts_stay m)
+          (fits_in_more w y contracts_stay target.entry.kind x fits) sender small
 
     abbrev pub IsArgument : Target → Found Val → Type 0
     IsArgument target (found x) = FitsIn w target.entry.kind x × ((id : Identity) → over id ≡ amount_in id x)
