@@ -18,5 +18,3 @@ pub use scripts::check_script;
 
 #[cfg(test)]
 mod tests;
-#[cfg(test)]
-mod worked;

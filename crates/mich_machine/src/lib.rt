@@ -1,7 +1,22 @@
-//! Runs of contracts: an entrypoint is called in a world, and what its code leaves is kept there.
+//! The machine: it runs the typed code of a contract with frames of its own.
 #![tactic(auto)]
 
-mod running;
+mod act;
+mod branches;
+mod calls;
+mod dipping;
+mod frame;
+mod giving;
+mod items;
+mod iterating;
+mod loops;
+mod machine;
+mod paying;
+mod run;
+mod stack;
+mod state;
 
-pub use mich_interpreter::{Bodies, Counts};
-pub use running::{Finished, RunError, run};
+pub use act::Failed;
+pub use machine::Ended;
+pub use run::run_code;
+pub use state::{Counts, State};

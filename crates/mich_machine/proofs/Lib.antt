@@ -1,0 +1,11 @@
+pub mod Flat
+pub mod Paid
+pub mod Codes
+pub mod Any
+pub mod Listed
+pub mod Mapped
+pub mod Begun
+pub mod Left
+pub mod Stepped
+pub mod Leaving
+pub mod Starting
