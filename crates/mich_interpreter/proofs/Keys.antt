@@ -1,5 +1,5 @@
 -- Keys in increasing order, and one behind them.
-use Rattle.std.proofs.Common.{◌≡◌, ◌-◌, true, Option, Some, None, List, [], ◌∷◌, ◌++◌, option_map, length, Bor, refl, ap, ◌∙◌, subst, arith}
+use Rattle.std.proofs.Common.{◌≡◌, ◌-◌, true, Option, Some, None, List, [], ◌∷◌, ◌++◌, option_map, length, Bor, refl, sym, ap, ◌∙◌, subst, arith}
 use Rattle.std.specs.Prelude.{slice_get}
 use Rattle.std.specs.declared.cmp.Ordering.{Ordering}
 use Rattle.std.specs.declared.cmp.Ordering.TheVariants.{Less, Equal, Greater}
@@ -8,10 +8,12 @@ use Rattle.std.specs.Map.{keys_of}
 use Rattle.std.specs.List.{AllByRecursion}
 use Rattle.std.specs.List.Sorted.{IsStrictlySortedBy}
 use Rattle.std.proofs.lemmas.Bool.{and_parts}
+use Rattle.std.proofs.lemmas.List.{map-append}
 use Rattle.rules_values.specs.Val.{Val, is_comparable}
 use Rattle.rules_values.specs.Literals.{is_behind}
 use Rattle.mich_term.specs.View.{datum}
-use Rattle.mich_term.specs.Keyed.{by, IsIncreasing}
+use Rattle.mich_term.specs.Keyed.{by, with, IsIncreasing}
+use Rattle.mich_term.proofs.Ends.{with_last, by_lawful}
 use Rattle.laws_values.proofs.Lawful.{order_lawful}
 use Rattle.mich_term.specs.declared.datum.Datum.{Datum}
 
@@ -111,3 +113,11 @@ module _ {X : Type 0} where
   pub last_key_told : (o : Option (Bor Datum)) (es : List (Datum × X)) → option_map (λ d. d.now) o ≡ option_map (λ e. e.0) (slice_get es (length es - 1)) →
       option_map (λ d. datum d.now) o ≡ last_value (keys_of es)
   last_key_told o es h = parted o ∙ ap (option_map datum) (h ∙ ap (option_map (λ e. e.0)) (slice_get-last es) ∙ key_of_last es)
+
+  -- an entry whose key stands behind the others comes last
+  pub put_at_end : (es : List (Datum × X)) (k : Datum) (v : X) (o : Option (Bor Datum)) → IsIncreasing (keys_of es) →
+      option_map (λ d. d.now) o ≡ option_map (λ e. e.0) (slice_get es (length es - 1)) → is_behind (option_map (λ d. datum d.now) o) (datum k) ≡ true →
+      with k v es ≡ es ++ (k, v) ∷ []
+  put_at_end es k v o s told b =
+      let behind : is_behind (last_value (keys_of es)) (datum k) ≡ true = ap (λ w. is_behind w (datum k)) (sym (last_key_told o es told)) ∙ b in
+      with_last by_lawful es [] k v (subst IsIncreasing (sym (map-append (λ e. e.0) es ((k, v) ∷ []))) (stays_increasing (keys_of es) k s behind))

@@ -140,8 +140,9 @@ module _ (big : Sight) {is : Codes} {fs : List Frame} {u : Around} {m : Tally} {
       let one : StandsAt (fr.mapping is v.nothing [] [] ∷ fs) u V m d Z o = subst (λ y. StandsAt (fr.mapping is y [] (items_in y) ∷ fs) u V m d Z o) (ap (seen big) shape ∙ seen_none big) h in
       subst (λ y. StandsAt fs u (y ∷ V) m d Z o) (sym (seen_none big)) (mapping_end one)
 
-  -- ---- all
+-- ---- all
 
+module _ (big : Sight) (is : Codes) {fs : List Frame} {u : Around} {m : Tally} {d : ℕ} {Z : List Kind} {o : Outcome} {V : List Val} where
   pub made_top : (w : Making) → StandsAt (making_of big is w ∷ fs) u V m d Z o → HasTop V
   made_top (making.Value w) h = making_top h
   made_top (making.Entry w k) h = making_top h

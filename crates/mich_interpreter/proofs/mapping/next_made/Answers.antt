@@ -1,9 +1,10 @@
 use Rattle.std.proofs.Common.{refl}
+use Rattle.mich_instr.specs.View.{codes}
 use Rattle.mich_interpreter.proofs.Results.{made_top, value_made, entry_made, part_made}
 use Rattle.mich_interpreter.proofs.mapping.next_made.Goals as goal
 
 pub pop-result-requires : goal.pop-result-requires
-pop-result-requires c = (c.requires.0.sight, made_top c.requires.0.sight c.args.making c.requires.5)
+pop-result-requires c = (c.requires.0.sight, made_top c.requires.0.sight (codes c.args.body) c.args.making c.requires.5)
 
 pub next_value-requires : goal.next_value-requires
 next_value-requires c =
