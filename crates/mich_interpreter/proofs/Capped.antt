@@ -35,9 +35,9 @@ capped_paid p kind w c old new false e charged small h =
     omega (arith, more, h)
 
 -- what was paid, and what wasn't, of a kind
-module _ {p : Listed} {kind given : Priced} {w old new : ℕ} {b : Bool} where
+module _ (p : Listed) (kind given : Priced) (w old new : ℕ) (b : Bool) where
   pub paid_is : b ≡ true → given ≡ kind → IsPaid b p given w old new → IsPaid true p kind w old new
-  paid_is e f h = subst (λ k. IsPaid true p k w old new) f (subst (λ b. IsPaid b p given w old new) e h)
+  paid_is e f h = subst (λ k. IsPaid true p k w old new) f (subst (λ t. IsPaid t p given w old new) e h)
 
   pub broke_is : b ≡ false → given ≡ kind → IsPaid b p given w old new → IsPaid false p kind w old new
-  broke_is e f h = subst (λ k. IsPaid false p k w old new) f (subst (λ b. IsPaid b p given w old new) e h)
+  broke_is e f h = subst (λ k. IsPaid false p k w old new) f (subst (λ t. IsPaid t p given w old new) e h)

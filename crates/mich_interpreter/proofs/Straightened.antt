@@ -46,7 +46,7 @@ module _ (x : Beyond) (costs : Costs) (m : State) {fs : List Frame} {d : ℕ} {Z
     pub step_stands : (stack : List Value) (meter : ℕ) (ledger : Ledger) → ends ≡ done (tops x.sight stack) (changes_of ends) → Tells (changes_of ends) m.ledger ledger → meter ≡ m.meter - charged →
         StandsAt fs (around x costs (later x costs m stack meter ledger)) (tops x.sight stack) (tally x (later x costs m stack meter ledger)) d Z o
     step_stands stack meter ledger is told paid =
-        stands_told x costs m stack meter ledger (kind_of r) heavy (changes_of ends) told paid
+        stands_told x costs m stack meter ledger fs d Z o (kind_of r) heavy (changes_of ends) told paid
         (rule_acts r e pays h (tops x.sight stack) (changes_of ends) (ap (λ f. rule (environment m.env) f r (tops x.sight m.stack)) (minted_is x costs m (kind_of r) heavy) ∙ is))
 
     pub step_failed : (f : Failure) → ends ≡ fails f → o ≡ failed f

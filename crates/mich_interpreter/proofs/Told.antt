@@ -62,7 +62,7 @@ module _ (x : Beyond) (costs : Costs) (old : State) (stack : List Value) (meter 
   abbrev pub later : State
   later = record old { stack = stack; meter = meter; ledger = ledger }
 
-  module _ {fs : List Frame} {d : ℕ} {Z : List Kind} {o : Outcome} (kind : Priced) (w : ℕ) (changes : List Change) where
+  module _ (fs : List Frame) (d : ℕ) (Z : List Kind) (o : Outcome) (kind : Priced) (w : ℕ) (changes : List Change) where
     abbrev P : (Identity → ℤ) → (Identity → ℤ) → ℕ → List Change → Type 0
     P f b g cs = StandsAt fs (record (around x costs old) { minted = f; burnt = b }) (tops x.sight stack) (record (tally x old) { gas = g; changes = cs }) d Z o
 
