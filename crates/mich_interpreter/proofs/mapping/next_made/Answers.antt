@@ -39,3 +39,8 @@ pub returns-in_ok-next_entry-in-Entry-clause-acts : goal.returns-in_ok-next_entr
 returns-in_ok-next_entry-in-Entry-clause-acts c = λ x fs d Z o h.
     c.in_ok-next_entry-in-Entry.ensures.acts x fs d Z o
     (entry_made x.sight c.in-Entry.work (record c.in-Entry.work { made = c.put_last.new.table }) c.in-Entry.key c.pop-result.result refl c.in_ok-put_last-in-Entry.ensures (rw (c.pop-result.ensures x.sight, c.in-Entry.is) at h))
+
+pub returns-in_ok-push-in-Part-clause-acts : goal.returns-in_ok-push-in-Part-clause-acts
+returns-in_ok-push-in-Part-clause-acts c = λ x fs d Z o h.
+    rw (c.in_ok-push-in-Part.ensures x.sight, c.in_ok-part-in-Part.ensures) (part_made x.sight c.pop-result.result
+    (rw (c.pop-result.ensures x.sight, c.in-Part.is) at h))
