@@ -9,6 +9,7 @@ ghost use Rattle.mich_tickets.specs.Books.{fresh, no_books};
 ghost use Rattle.mich_world.specs.World.{with_ledger};
 ghost use Rattle.mich_machine.specs.Begins.{entries_of, code_of};
 
+use crate::lending::take_ledger;
 use mich_base::{Link, Memory, Rows};
 use mich_forms::Entrypoint;
 use mich_gas::Meter;
@@ -16,11 +17,9 @@ use mich_instr::Block;
 use mich_interpreter::{Counts, State};
 use mich_step::Env;
 use mich_term::{Value, shadow};
-use mich_tickets::Ledger;
 use mich_types::entrypoint;
 use mich_world::{Contract, World};
 use std::alloc::Global;
-use std::mem;
 
 // An argument of the entrypoint at a path as one of the whole parameter.
 fn wrap(alloc: Global, path: &[bool], argument: Value) -> Result<Value, Memory>
@@ -58,17 +57,6 @@ pub(crate) fn opening(
     let storage = Link::new(alloc, shadow(alloc, &contract.storage)?)?;
     let code = script.code.share()?;
     Ok((code, Value::Pair(whole, storage)))
-}
-
-// The ledger of a world, with no changes in its list; the world has an empty one in its place. It takes no memory.
-fn take_ledger(alloc: Global, world: &mut World) -> Ledger
-    ensures ledger { result ≡ record { books = world.old.ledger.books; changes = [] } }
-    ensures world { world.new ≡ with_ledger world.old (fresh no_books) }
-{
-    let mut ledger = mem::replace(world.ledger_mut(), Ledger::new(alloc));
-    let told = ledger.take_changes();
-    drop(told);
-    ledger
 }
 
 // What a run begins with: its one value, and the ledger of the world, which has an empty one in its place.

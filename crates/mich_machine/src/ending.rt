@@ -6,7 +6,7 @@ ghost use Rattle.mich_machine.specs.Ends.{EndsSo};
 ghost use Rattle.mich_machine.specs.Endings.{IsEnding};
 ghost use Rattle.mich_world.specs.Marks.{KeepsWorld};
 
-use crate::burning::burn_discarded;
+use crate::lending::{discard_left, take_changes};
 use crate::returning::{by_number, parts, pick};
 use crate::running::{Finished, RunError};
 use mich_base::Rows;
@@ -36,8 +36,8 @@ pub(crate) fn finish(
     let Some(returned) = pick(alloc, &mut all, numbers)? else {
         return Err(RunError::Failed(Failure::OperationReplay));
     };
-    burn_discarded(alloc, world.ledger_mut(), all)?;
+    discard_left(alloc, world, all)?;
     world.commit(alloc, to, storage)?;
-    let changes = world.ledger_mut().take_changes();
+    let changes = take_changes(world);
     Ok(Finished { returned, changes })
 }

@@ -4,6 +4,7 @@
 mod beginning;
 mod burning;
 mod ending;
+mod lending;
 mod returning;
 mod running;
 mod telling;

@@ -11,6 +11,7 @@ ghost use Rattle.rules_world.specs.World.{World as PlainWorld};
 
 use crate::beginning::{opening, state};
 use crate::ending::finish;
+use crate::lending::put_ledger;
 use crate::telling::tell;
 use mich_base::{Memory, Rows};
 use mich_forms::Entrypoint;
@@ -89,13 +90,13 @@ pub fn run(
                 ledger,
                 issued,
             } = left;
-            *world.ledger_mut() = ledger;
+            put_ledger(world, ledger);
             *meter = gas;
             *counts = counted;
             finish(alloc, world, to, stack, issued)
         }
         Ended::Failed(left, why) => {
-            *world.ledger_mut() = left.ledger;
+            put_ledger(world, left.ledger);
             Err(RunError::Failed(tell(alloc, why)?))
         }
     }
