@@ -238,6 +238,10 @@ module _ (bs : Bases) (ticketless : HoldNoTickets bs) where
   pub alike : (x : Value) → Alike x
   alike = ind-Value Alike AlikeBig (λ x y is. subst (λ z. Alike (roll-Value z)) is (at_level y)) (λ x y is. subst (λ z. AlikeBig (roll-BigMap z)) is (big_level y))
 
+  -- so it has the tickets that lie in it
+  pub seen_tickets : (x : Value) → tickets (seen (sight bs) x) ≡ tickets (val x)
+  seen_tickets x = alike_tickets (seen (sight bs) x) (val x) (alike x)
+
   all_alike : (xs : List Value) → map shown (map (seen (sight bs)) xs) ≡ map shown (map val xs)
   all_alike [] = refl
   all_alike (x ∷ xs) = (λ i. alike x i ∷ all_alike xs i)

@@ -1,1 +1,4 @@
+pub mod Ended
 pub mod Picks
+pub mod Shapes
+pub mod Turns

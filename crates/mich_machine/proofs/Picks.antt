@@ -142,7 +142,7 @@ module _ (f : Issued → rules.Issued) (same : (x : Issued) → (f x).number ≡
       by true = refl
       by false = refl
 
-  unreturned_is : (ns : List ℕ) (xs : List Issued) → unreturned ns (map f xs) ≡ map f (filter (is_left ns) xs)
+  pub unreturned_is : (ns : List ℕ) (xs : List Issued) → unreturned ns (map f xs) ≡ map f (filter (is_left ns) xs)
   unreturned_is ns [] = refl
   unreturned_is ns (x ∷ xs) = (λ i. cond (not (stands_in (same x i) ns)) (f x ∷ unreturned_is ns xs i) (unreturned_is ns xs i)) ∙ by (is_left ns x)
     where

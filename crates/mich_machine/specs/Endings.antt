@@ -47,7 +47,7 @@ pub record IsEnding (v : World) (to : List ℕ) (stack : List Value) (issued : L
   pub contract : Contract
   pub there : contract_at w t.hash ≡ Some contract
   pub ends : run_in e s w t argument gas counts ≡ with_returned w t.hash contract tally (returned (tops (sight v.store.bases.present) stack))
-  pub issued : tally.issued ≡ map (issued_by (sight v.store.bases.present)) issued
+  pub issues : tally.issued ≡ map (issued_by (sight v.store.bases.present)) issued
   pub changes : tally.changes ≡ map change v.ledger.changes
   pub turns : AreInTurn s.group counts.operations counts.originations tally.operations tally.originations tally.issued
   pub scripts : AllByRecursion IsScripted issued

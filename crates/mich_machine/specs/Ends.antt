@@ -6,6 +6,7 @@ use Rattle.rules_world.specs.World.{World as PlainWorld}
 use Rattle.mich_instr.specs.declared.issued.Issued.{Issued}
 use Rattle.mich_ops.specs.Told.{told}
 use Rattle.mich_ops.specs.View.{failure}
+use Rattle.mich_ops.specs.declared.failure.Failure.{Failure}
 use Rattle.mich_term.specs.declared.value.Value.{Value}
 use Rattle.mich_tickets.specs.Effects.{change}
 use Rattle.mich_world.specs.Standing.{StandsFor}
@@ -15,6 +16,11 @@ use Rattle.mich_machine.specs.Endings.{IsEnding}
 use Rattle.mich_machine.specs.declared.running.Finished.{Finished}
 use Rattle.mich_machine.specs.declared.running.RunError.{RunError}
 use Rattle.mich_machine.specs.declared.running.RunError.TheVariants.{Failed, Memory}
+
+-- a failure is the one that the definitions tell
+abbrev pub FailsSo : Ended → Failure → Type 0
+FailsSo (run_failed why) f = failure f ≡ told why
+FailsSo o f = ⊥
 
 module _ {v : World} {to : List ℕ} {stack : List Value} {issued : List Issued} where
   -- the run that the definitions give
@@ -35,12 +41,7 @@ module _ {v : World} {to : List ℕ} {stack : List Value} {issued : List Issued}
         })
     pub handed : AllByRecursion (IsHanded z.store.bases.present) r.returned
 
-  abbrev FailsSo : Ended → Result Finished RunError → Type 0
-  FailsSo (run_failed why) (Err (Failed f)) = failure f ≡ told why
-  FailsSo o (Err (Failed f)) = ⊥
-  FailsSo o r = Unit {0}
-
   abbrev pub EndsSo : IsEnding v to stack issued → World → Result Finished RunError → Type 0
   EndsSo e z (Ok r) = EndsWith e z r
-  EndsSo e z (Err (Failed f)) = FailsSo (run_at e) (Err (Failed f))
+  EndsSo e z (Err (Failed f)) = FailsSo (run_at e) f
   EndsSo e z (Err Memory) = Unit {0}
