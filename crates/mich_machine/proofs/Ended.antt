@@ -46,7 +46,7 @@ use Rattle.mich_instr.specs.Issued.{numbered, issued as issued_plain}
 use Rattle.mich_instr.specs.View.{script_node}
 use Rattle.mich_instr.specs.declared.issued.Issued.{Issued}
 use Rattle.mich_instr.specs.declared.issued.Issued.TheVariants as i
-use Rattle.mich_interpreter.specs.Issues.{issued_by}
+use Rattle.mich_interpreter.specs.Issues.{IsScripted, issued_by}
 use Rattle.mich_interpreter.specs.View.{tops}
 use Rattle.mich_stack.specs.Views.{Sight, seen}
 use Rattle.mich_term.specs.Layers.{AreFormed}
@@ -70,7 +70,7 @@ use Rattle.mich_conditions.proofs.Room.{positives}
 use Rattle.mich_machine.specs.Calls.{issued_in, IsHanded}
 use Rattle.mich_machine.specs.Endings.{IsEnding}
 use Rattle.mich_machine.specs.Ends.{run_at}
-use Rattle.mich_machine.specs.Returned.{number_of, IsScripted, AreRising, by_number, handed, Pick, picks}
+use Rattle.mich_machine.specs.Returned.{number_of, AreRising, by_number, handed, Pick, picks}
 use Rattle.mich_machine.proofs.Picks.{IsPick, Picked, picks_are, picked_all, is_left, unreturned_is, values_are}
 use Rattle.mich_machine.proofs.Shapes.{IsShape, shape_of, returned_so, replays, end_with, finishes}
 use Rattle.mich_machine.proofs.Turns.{rising_of}

@@ -18,10 +18,9 @@ use Rattle.mich_tickets.specs.Effects.{change}
 use Rattle.mich_world.specs.Standing.{StandsFor}
 use Rattle.mich_world.specs.World.{World}
 use Rattle.mich_standing.specs.Runs.{Runs}
-use Rattle.mich_interpreter.specs.Issues.{issued_by}
+use Rattle.mich_interpreter.specs.Issues.{IsScripted, issued_by}
 use Rattle.mich_interpreter.specs.View.{tops}
 use Rattle.mich_machine.specs.Calls.{IsHosting}
-use Rattle.mich_machine.specs.Returned.{IsScripted}
 
 -- The code of the contract of these 20 bytes was called in a world, and came to its end in this one, with this stack and these issued
 -- operations.

@@ -7,7 +7,6 @@ use Rattle.std.specs.Ordering.{nat_cmp}
 use Rattle.rules_evaluation.specs.Operations.{operation_tickets}
 use Rattle.rules_values.specs.Tickets.{Held}
 use Rattle.mich_instr.specs.Issued.{issued}
-use Rattle.mich_instr.specs.Scripts.{IsTypedScript}
 use Rattle.mich_instr.specs.declared.issued.Issued.{Issued}
 use Rattle.mich_instr.specs.declared.issued.Issued.TheVariants as i
 
@@ -15,11 +14,6 @@ abbrev pub number_of : Issued → ℕ
 number_of (i.Transfer number argument amount to) = number
 number_of (i.Origination number delegate amount script storage hash) = number
 number_of (i.Event number tag ty value) = number
-
--- the script of an origination is typed
-abbrev pub IsScripted : Issued → Type 0
-IsScripted (i.Origination number delegate amount script storage hash) = IsTypedScript script
-IsScripted _ = Unit {0}
 
 -- each number is below those after it
 abbrev pub AreRising : List Issued → Type 0
