@@ -116,9 +116,10 @@ module _ (bs : Bases) where
 
   known_all : (w : PlainWorld) (xs : List Issued) → All (IsGoodIssue w) (map (issued_by (sight bs)) xs) → AllByRecursion (IsKnown bs) xs
   known_all w [] h = tt
-  known_all w (x ∷ xs) h =
-      (known_operation w x (All-head (IsGoodIssue w) (issued_by (sight bs) x) (map (issued_by (sight bs)) xs) h),
-      known_all w xs (All-tail (IsGoodIssue w) (issued_by (sight bs) x) (map (issued_by (sight bs)) xs) h))
+  known_all w (x ∷ xs) h = (
+    known_operation w x (All-head (IsGoodIssue w) (issued_by (sight bs) x) (map (issued_by (sight bs)) xs) h),
+    known_all w xs (All-tail (IsGoodIssue w) (issued_by (sight bs) x) (map (issued_by (sight bs)) xs) h),
+  )
 
   module _ (cs : Bases) (more : Extends bs cs) where
     all_same : (xs : List Issued) → AllByRecursion (IsKnown bs) xs → map (issued_by (sight bs)) xs ≡ map (issued_in cs) xs
@@ -239,16 +240,15 @@ module _ {v : World} {to : List ℕ} {stack : List Value} {issued : List Issued}
         let a : PlainContract = record e.contract { storage = r.storage } in
         let b : PlainContract = record is.before { storage = is.storage } in
         let here : Some a ≡ Some b =
-            sym (set_here e.w e.t.hash a) ∙ ap (λ x. plain_contract_at x e.t.hash) is.world ∙ set_here e.w e.t.hash b in
+        sym (set_here e.w e.t.hash a) ∙ ap (λ x. plain_contract_at x e.t.hash) is.world ∙ set_here e.w e.t.hash b in
         sym (ap (λ (c : PlainContract). c.storage) (one_contract a b here))
 
     -- ---- what is discarded
 
-    pub ts : List Held
+    abbrev pub ts : List Held
     ts = handed (values_of p.left)
 
     left_tickets : ts ≡ flat_map (λ x. operation_tickets x.operation) (unreturned r.numbers e.tally.issued)
-    unfolding ts
     left_tickets =
         ap handed (ap values_of pick.left ∙ values_are (filter (is_left r.numbers) issued))
         ∙ handed_is bs ticketless (filter (is_left r.numbers) issued)
@@ -364,12 +364,12 @@ module _ {v : World} {to : List ℕ} {stack : List Value} {issued : List Issued}
 
           pub handed_so : AllByRecursion (IsHanded z.store.bases.present) p.picked
           handed_so = all_handed bs z.store.bases.present bases_more p.picked known (picked_all IsScripted r.numbers issued p e.scripts is_picked)
+          -- the contract is there
 
-    -- the contract is there
   pub there_so : is_some (contract_at v.funds.present to) ≡ true
   there_so =
       let plain_there : option_map (plain e.start.store.bases.present) (contract_at e.start.funds.present e.t.hash) ≡ Some e.contract =
-          sym (contracts_agree e.start e.w e.t.hash e.stands) ∙ e.there in
+      sym (contracts_agree e.start e.w e.t.hash e.stands) ∙ e.there in
       subst (λ (h : Holders). is_some (contract_at h to) ≡ true) (sym (ap (λ (x : History Holders). x.present) e.funds))
       (subst (λ (hash : List ℕ). is_some (contract_at e.start.funds.present hash) ≡ true) e.hash
       (by (contract_at e.start.funds.present e.t.hash) plain_there))

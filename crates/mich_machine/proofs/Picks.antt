@@ -173,7 +173,7 @@ module _ (f : Issued → rules.Issued) (same : (x : Issued) → (f x).number ≡
       by false e g later =
           let apart : (n == m) ≡ false = turned n m (n == m) (m == n) refl refl ∙ e in
           let one : find (λ i. i.number == m) (map f (without n xs)) ≡ find (λ i. i.number == m) (map f xs) =
-              found_is m (without n xs) ∙ ap (option_map f) (other m n xs apart) ∙ sym (found_is m xs) in
+          found_is m (without n xs) ∙ ap (option_map f) (other m n xs apart) ∙ sym (found_is m xs) in
           (λ i. with_issued (one i) (later g i))
 
   pub record IsPick (xs : List Issued) (ns : List ℕ) (p : Pick) : Type 0 where
