@@ -16,16 +16,18 @@ use std::alloc::Global;
 pub(crate) fn tell(alloc: Global, why: Failed) -> Result<Failure, Memory>
     ensures { IfOk result (λ f. (big : Sight) → failure f ≡ told (plain big why)) }
 {
-    Ok(match why {
+    match why {
         Failed::With(ty, value) => {
-            Failure::FailedWith(type_node(alloc, &ty)?, value_node(alloc, &value)?)
+            let ty = type_node(alloc, &ty)?;
+            let value = value_node(alloc, &value)?;
+            Ok(Failure::FailedWith(ty, value))
         }
-        Failed::OutOfGas => Failure::OutOfGas,
-        Failed::IntegerLimit => Failure::IntegerLimit,
-        Failed::MutezOverflow => Failure::MutezOverflow,
-        Failed::ShiftLimit => Failure::ShiftLimit,
-        Failed::SizeLimit => Failure::SizeLimit,
-        Failed::DepthLimit => Failure::DepthLimit,
-        Failed::TooManyOperations => Failure::TooManyOperations,
-    })
+        Failed::OutOfGas => Ok(Failure::OutOfGas),
+        Failed::IntegerLimit => Ok(Failure::IntegerLimit),
+        Failed::MutezOverflow => Ok(Failure::MutezOverflow),
+        Failed::ShiftLimit => Ok(Failure::ShiftLimit),
+        Failed::SizeLimit => Ok(Failure::SizeLimit),
+        Failed::DepthLimit => Ok(Failure::DepthLimit),
+        Failed::TooManyOperations => Ok(Failure::TooManyOperations),
+    }
 }
