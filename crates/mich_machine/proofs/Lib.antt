@@ -5,3 +5,4 @@ pub mod Picking
 pub mod Picks
 pub mod Shapes
 pub mod Turns
+pub mod Wrapping

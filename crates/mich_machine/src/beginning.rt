@@ -21,21 +21,29 @@ use mich_types::entrypoint;
 use mich_world::{Contract, World};
 use std::alloc::Global;
 
+// A value on one side of a union.
+fn on_side(alloc: Global, right: bool, value: Value) -> Result<Value, Memory>
+    ensures { IfOk result (λ v. (big : Sight) → seen big v ≡ wrapped (right ∷ []) (seen big value)) }
+{
+    let value = Link::new(alloc, value)?;
+    if right {
+        Ok(Value::Right(value))
+    } else {
+        Ok(Value::Left(value))
+    }
+}
+
 // An argument of the entrypoint at a path as one of the whole parameter.
-fn wrap(alloc: Global, path: &[bool], argument: Value) -> Result<Value, Memory>
+fn wrap(alloc: Global, path: &Rows<bool>, argument: Value) -> Result<Value, Memory>
     ensures { IfOk result (λ v. (big : Sight) → seen big v ≡ wrapped path.now (seen big argument)) }
 {
-    match path {
-        [] => Ok(argument),
-        [right, rest @ ..] => {
-            let inner = Link::new(alloc, wrap(alloc, rest, argument)?)?;
-            if *right {
-                Ok(Value::Right(inner))
-            } else {
-                Ok(Value::Left(inner))
-            }
-        }
+    let mut whole = argument;
+    let mut at = path.len();
+    'steps: while at > 0 {
+        at -= 1;
+        whole = on_side(alloc, *path.at(at), whole)?;
     }
+    Ok(whole)
 }
 
 // The code of a contract, and the one value before it: the argument for the whole parameter, and the storage.
@@ -53,7 +61,7 @@ pub(crate) fn opening(
     let Some(entry) = entrypoint(&script.parameter, name) else {
         unreachable!();
     };
-    let whole = Link::new(alloc, wrap(alloc, entry.path.as_slice(), argument)?)?;
+    let whole = Link::new(alloc, wrap(alloc, &entry.path, argument)?)?;
     let storage = Link::new(alloc, shadow(alloc, &contract.storage)?)?;
     let code = script.code.share()?;
     Ok((code, Value::Pair(whole, storage)))
