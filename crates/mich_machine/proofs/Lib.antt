@@ -1,6 +1,7 @@
 pub mod Begun
 pub mod Ended
 pub mod Finishing
+pub mod Numbers
 pub mod Picking
 pub mod Picks
 pub mod Shapes
