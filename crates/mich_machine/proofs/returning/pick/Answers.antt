@@ -1,4 +1,5 @@
-use Rattle.std.proofs.Common.{rules, ◌≡◌, List, [], ◌∷◌, ◌++◌, map, Some, None, refl, sym, ap, ◌∙◌, subst}
+use Rattle.std.proofs.lemmas.Grind.{common_steps}
+use Rattle.std.proofs.Common.{rules, arith, ◌≡◌, List, [], ◌∷◌, ◌++◌, map, Some, None, refl, sym, ap, ◌∙◌, subst}
 use Rattle.std.specs.declared.option.Option.{Option}
 use Rattle.std.specs.Vec.Iter.{into_iter_items}
 use Rattle.mich_instr.specs.declared.issued.Issued.{Issued}
@@ -44,6 +45,6 @@ loop-value-preserved c = λ big ns h.
 
 pub returns : goal.returns
 returns c = λ big ns h.
-    let none : into_iter_items c.loop-value.value-iterator ≡ [] = search rules in
+    let none : into_iter_items c.loop-value.value-iterator ≡ [] = grind (arith, common_steps) in
     let way = subst (λ (l : List Value). IsOnWay (picks c.args.all.now.entries ns) (vals_of (map (seen big) l)) c.loop-value.picked c.loop-value.all.entries) none (c.loop-value.invariant big ns h) in
     subst (λ (o : Option Pick). IsPicked o (Some c.loop-value.picked) c.loop-value.all.entries) (sym (way_ends _ _ _ way)) (refl, refl)
