@@ -49,6 +49,7 @@ use Rattle.mich_instr.specs.Code as made
 use Rattle.mich_instr.specs.Scripts.{IsTypedScript}
 use Rattle.mich_instr.specs.Typed.{IsScript, is_script}
 use Rattle.mich_instr.specs.View.{script_node, script_code, codes, view_codes}
+use Rattle.mich_instr.specs.declared.instr.Instr.{Instr}
 use Rattle.mich_instr.specs.declared.instr.Script.{Script, out-Script}
 use Rattle.mich_instr.specs.declared.instr.Script as scripts
 use Rattle.mich_interpreter.specs.Begins.{Opens}
@@ -129,16 +130,16 @@ some_contract f (Some k) c e = refl
 module _ (v : World) (w : PlainWorld) (costs : Costs) (counts : Counts) (to name : List ℕ) (argument : Value) (env : Env) (t : Target)
     (h : IsHosting v) (formed : AreFormed argument) (based : HasBases v.store.bases.present argument)
     (c : Calls v w (listed costs) counts to name argument env t) where
-  abbrev bs : Bases
+  abbrev pub bs : Bases
   bs = v.store.bases.present
 
-  abbrev e : Environment
+  abbrev pub e : Environment
   e = environment env
 
-  abbrev s : Setting
+  abbrev pub s : Setting
   s = setting (listed costs) counts env
 
-  abbrev arg : Val
+  abbrev pub arg : Val
   arg = val_in bs argument
 
   met : IsMet w t
@@ -192,13 +193,13 @@ module _ (v : World) (w : PlainWorld) (costs : Costs) (counts : Counts) (to name
         issued = [];
       }
 
-      abbrev Z : List Kind
+      abbrev pub Z : List Kind
       Z = type_after t.script ∷ []
 
-      abbrev W : List Val
+      abbrev pub W : List Val
       W = value_before t arg (plain bs k) ∷ []
 
-      abbrev o : Outcome
+      abbrev pub o : Outcome
       o = eval t.script.code (surroundings_of e s w t) 0 (type_before t.script ∷ []) W (tally_of gas (counts_of counts))
 
       value_is : seen (sight bs) value ≡ value_before t arg (plain bs k)
@@ -225,6 +226,13 @@ module _ (v : World) (w : PlainWorld) (costs : Costs) (counts : Counts) (to name
         where
           frames_open : Around → List Val → Type 0
           frames_open u V = OpensAt (codes (code_of k.script)) [] u V (tally_of gas (counts_of counts)) 0 (type_after t.script ∷ []) (eval t.script.code (surroundings_of e s w t) 0 (type_before t.script ∷ []) (value_before t arg (plain bs k) ∷ []) (tally_of gas (counts_of counts)))
+
+      pub state_is : (m : State) → m.stack ≡ value ∷ [] → m.meter ≡ gas → m.counts ≡ counts → m.env ≡ env → m.ledger ≡ record { books = v.ledger.books; changes = [] } → m.issued ≡ [] → m ≡ begun
+      state_is m a b d f g i = (λ j. record { stack = a j; meter = b j; counts = d j; env = f j; ledger = g j; issued = i j })
+
+      pub opens_at : (code : List Instr) (m : State) → code ≡ code_of k.script → m ≡ begun → Opens x costs code m (type_after t.script ∷ []) (eval t.script.code (surroundings_of e s w t) 0 (type_before t.script ∷ []) (value_before t arg (plain bs k) ∷ []) (tally_of gas (counts_of counts)))
+      opens_at code m same is =
+          subst (λ (q : State). Opens x costs code q Z o) (sym is) (subst (λ (p : List Instr). Opens x costs p begun Z o) (sym same) opens_so)
 
       -- ---- it fails
 

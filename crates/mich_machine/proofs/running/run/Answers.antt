@@ -1,0 +1,23 @@
+use Rattle.std.proofs.Common.{◌≡◌, Bool, true, false, Some, None, sym, ap, ◌∙◌, is_some}
+use Rattle.mich_world.specs.Holders.{contract_at}
+use Rattle.mich_machine.proofs.Begun.{called_there, entry_some, x, Z, o, state_is, opens_at}
+use Rattle.mich_machine.proofs.running.run.Goals as goal
+
+pub unreachable-requires : goal.unreachable-requires
+unreachable-requires c =
+    let none : None ≡ contract_at c.args.world.now.funds.present c.args.to.now = c.in_default.ensures in
+    let off : false ≡ true = ap is_some none ∙ called_there c.args.world.now c.requires.called.0 c.args.costs.now c.args.counts.now c.args.to.now c.args.name.now c.args.argument c.args.env.now c.requires.called.1 c.requires.hosting c.requires.formed c.requires.based c.requires.called.2 in cc
+
+pub opening-requires : goal.opening-requires
+opening-requires c =
+    let k = c.in-Some.contract.now in
+    let there : contract_at c.args.world.now.funds.present c.args.to.now ≡ Some k = sym c.in-Some.ensures in
+    entry_some c.args.world.now c.requires.called.0 c.args.costs.now c.args.counts.now c.args.to.now c.args.name.now c.args.argument c.args.env.now c.requires.called.1 c.requires.hosting c.requires.formed c.requires.based c.requires.called.2 k there
+
+pub run_code-requires : goal.run_code-requires
+run_code-requires c =
+    let k = c.in-Some.contract.now in
+    let there : contract_at c.args.world.now.funds.present c.args.to.now ≡ Some k = sym c.in-Some.ensures in
+    let m = (state_is c.args.world.now c.requires.called.0 c.args.costs.now c.args.counts.now c.args.to.now c.args.name.now c.args.argument c.args.env.now c.requires.called.1 c.requires.hosting c.requires.formed c.requires.based c.requires.called.2 k there c.in_ok-code.value c.in_ok-code.ensures.value c.args.meter.now c.in_ok-begun.begun c.in_ok-begun.ensures.stack c.in_ok-begun.ensures.meter c.in_ok-begun.ensures.counts c.in_ok-begun.ensures.env c.in_ok-begun.ensures.ledger c.in_ok-begun.ensures.issued) in
+    (x c.args.world.now c.requires.called.0 c.args.costs.now c.args.counts.now c.args.to.now c.args.name.now c.args.argument c.args.env.now c.requires.called.1 c.requires.hosting c.requires.formed c.requires.based c.requires.called.2 k there, Z c.args.world.now c.requires.called.0 c.args.costs.now c.args.counts.now c.args.to.now c.args.name.now c.args.argument c.args.env.now c.requires.called.1 c.requires.hosting c.requires.formed c.requires.based c.requires.called.2 k there c.in_ok-code.value c.in_ok-code.ensures.value c.args.meter.now, o c.args.world.now c.requires.called.0 c.args.costs.now c.args.counts.now c.args.to.now c.args.name.now c.args.argument c.args.env.now c.requires.called.1 c.requires.hosting c.requires.formed c.requires.based c.requires.called.2 k there c.in_ok-code.value c.in_ok-code.ensures.value c.args.meter.now,
+    opens_at c.args.world.now c.requires.called.0 c.args.costs.now c.args.counts.now c.args.to.now c.args.name.now c.args.argument c.args.env.now c.requires.called.1 c.requires.hosting c.requires.formed c.requires.based c.requires.called.2 k there c.in_ok-code.value c.in_ok-code.ensures.value c.args.meter.now c.in_ok-code.code c.in_ok-begun.begun c.in_ok-code.ensures.code m)
