@@ -1,5 +1,5 @@
 // The run of a contract.
-ghost use Rattle.std.specs.Prelude.{IfOk};
+ghost use Rattle.std.specs.Prelude.{◌≡◌, IfOk};
 ghost use Rattle.mich_bigmap.specs.Extended.{Extends};
 ghost use Rattle.mich_bigmap.specs.Layers.{HasBases};
 ghost use Rattle.mich_gas.specs.View.{listed};
@@ -9,11 +9,15 @@ ghost use Rattle.mich_world.specs.Marks.{KeepsWorld};
 ghost use Rattle.rules_world.specs.Targets.{Target};
 ghost use Rattle.rules_world.specs.World.{World as PlainWorld};
 
+use crate::beginning::{opening, state};
+use crate::ending::finish;
+use crate::lending::put_ledger;
+use crate::telling::tell;
 use mich_base::{Memory, Rows};
 use mich_forms::Entrypoint;
 use mich_gas::{Costs, Meter};
 use mich_instr::Issued;
-use mich_interpreter::{Bodies, Counts};
+use mich_interpreter::{Bodies, Counts, Ended, State, run_code};
 use mich_ops::Failure;
 use mich_step::Env;
 use mich_term::{Change, Value};
@@ -32,6 +36,17 @@ pub struct Finished {
 pub enum RunError {
     Failed(Failure),
     Memory,
+}
+
+impl From<Memory> for RunError {
+    ghost use Rattle.mich_machine.specs.declared.running.RunError.{RunError};
+
+    ghost from_gives = { λ _ e. e ≡ RunError.Memory };
+
+    fn from(error: Memory) -> RunError {
+        drop(error);
+        RunError::Memory
+    }
 }
 
 /// The run of an entrypoint of a contract with an argument, in a world in which its mutez are with the contract already: the new
@@ -59,5 +74,30 @@ pub fn run(
     ensures bases { IfOk result (λ _. Extends world.old.store.bases.present world.new.store.bases.present) }
     ensures keeps { WithMemory result (KeepsWorld world.old world.new) }
 {
-    Err(RunError::Memory)
+    let _bodies = bodies;
+    let Some(contract) = world.contract(to) else {
+        unreachable!();
+    };
+    let (code, value) = opening(alloc, contract, name, argument)?;
+    let begun = state(alloc, world, meter, counts, env, value)?;
+    match run_code(alloc, code, begun, costs)? {
+        Ended::Stack(left) => {
+            let State {
+                stack,
+                meter: gas,
+                counts: counted,
+                env: _,
+                ledger,
+                issued,
+            } = left;
+            put_ledger(world, ledger);
+            *meter = gas;
+            *counts = counted;
+            finish(alloc, world, to, stack, issued)
+        }
+        Ended::Failed(left, why) => {
+            put_ledger(world, left.ledger);
+            Err(RunError::Failed(tell(alloc, why)?))
+        }
+    }
 }

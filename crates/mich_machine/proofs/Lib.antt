@@ -1,0 +1,9 @@
+pub mod Begun
+pub mod Ended
+pub mod Finishing
+pub mod Numbers
+pub mod Picking
+pub mod Picks
+pub mod Shapes
+pub mod Turns
+pub mod Wrapping
