@@ -1,0 +1,4 @@
+pub mod Hosting
+pub mod Paying
+pub mod Whole
+pub mod Founding
