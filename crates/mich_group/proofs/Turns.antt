@@ -1,12 +1,15 @@
 -- The contents of a group on their way.
 use Rattle.std.proofs.Common.{◌≡◌, ◌≤◌, ◌<◌, ◌+◌, ◌-◌, ℕ, zero, suc, List, [], ◌∷◌, ◌++◌, map, length, drop, get_or, Ok, Err, Result, drop-cons, add-one, refl, sym, ap, ◌∙◌, subst, arith, unsigned_abs, pos, int_lt, Bool, true, false, ℤ}
 use Rattle.std.specs.Prelude.{replicate}
-use Rattle.std.specs.List.{All}
+use Rattle.std.specs.List.{All, list_any}
+use Rattle.std.specs.Prelude.{◌||◌, ◌≤ℤ◌, ◌<ℤ◌}
+use Rattle.std.proofs.lemmas.Int.{ints}
+use Rattle.std.proofs.lemmas.List.Elements.{All-head, All-tail}
 use Rattle.std.proofs.lemmas.List.{append_assoc, append-nil, map-append, length-map, replicate-append-replicate}
 use Rattle.rules_steps.specs.Failure.{Failure}
 use Rattle.rules_world.specs.Contents.{Content, Action}
 use Rattle.rules_world.specs.Forms.{IsContent, IsAction}
-use Rattle.rules_world.specs.Groups.{Turn, all_applied, one_failed, stuck_turn, behind_applied, with_tree, skipped, in_turn}
+use Rattle.rules_world.specs.Groups.{is_over_gas, most_gas, Turn, all_applied, one_failed, stuck_turn, behind_applied, with_tree, skipped, in_turn}
 use Rattle.rules_world.specs.Outcomes.{Setting, ordered, Counts as PlainCounts}
 use Rattle.rules_world.specs.Receipts.{Status, Applied, Backtracked, Failed, Skipped}
 use Rattle.rules_world.specs.Trees.{Walk, completed, broken_off, stuck_walk, tree}
@@ -169,3 +172,54 @@ walk_broken U stuck_walk v left old new effects count f h = absurd h
 pub contents_from : (cs : List Ordered) (i : ℕ) (c : Ordered) → i < length cs → c ≡ get_or cs i c → map content_of (drop i cs) ≡ content_of c ∷ map content_of (drop (i + 1) cs)
 contents_from cs i c h e =
     ap (map content_of) (drop-cons cs i c h ∙ ap (λ x. x ∷ drop (suc i) cs) (sym e) ∙ ap (λ k. c ∷ drop k cs) (sym (add-one i)))
+
+-- ---- gas
+
+above : (g : ℤ) → pos most_gas <ℤ g → int_lt (pos most_gas) g ≡ true
+above g h = grind (arith, ints)
+
+not_above : (g : ℤ) → ¬ (pos most_gas <ℤ g) → int_lt (pos most_gas) g ≡ false
+not_above g h = grind (arith, ints)
+
+within : (g : ℤ) → int_lt (pos most_gas) g ≡ false → g ≤ℤ pos most_gas
+within g h = grind (arith, ints)
+
+either_false : (a b : Bool) → (a || b) ≡ false → (a ≡ false) × (b ≡ false)
+either_false true b h = absurd cc
+either_false false b h = (refl, h)
+
+module _ (cs : List Ordered) (i : ℕ) (c : Ordered) (lt : i < length cs) (e : c ≡ get_or cs i c) where
+  any_from : list_any is_over_gas (map content_of (drop i cs)) ≡ (is_over_gas (content_of c) || list_any is_over_gas (map content_of (drop (i + 1) cs)))
+  any_from = ap (list_any is_over_gas) (contents_from cs i c lt e)
+
+  pub over_here : pos most_gas <ℤ c.gas → list_any is_over_gas (map content_of (drop i cs)) ≡ true
+  over_here h = any_from ∙ ap (λ b. b || list_any is_over_gas (map content_of (drop (i + 1) cs))) (above c.gas h)
+
+  pub under_here : ¬ (pos most_gas <ℤ c.gas) → list_any is_over_gas (map content_of (drop i cs)) ≡ list_any is_over_gas (map content_of (drop (i + 1) cs))
+  under_here h = any_from ∙ ap (λ b. b || list_any is_over_gas (map content_of (drop (i + 1) cs))) (not_above c.gas h)
+
+  -- where none is over
+  module _ (none : list_any is_over_gas (map content_of (drop i cs)) ≡ false) where
+    parts : (is_over_gas (content_of c) ≡ false) × (list_any is_over_gas (map content_of (drop (i + 1) cs)) ≡ false)
+    parts = either_false (is_over_gas (content_of c)) _ (sym any_from ∙ none)
+
+    pub gas_within : c.gas ≤ℤ pos most_gas
+    gas_within = within c.gas parts.0
+
+    pub gas_behind : list_any is_over_gas (map content_of (drop (i + 1) cs)) ≡ false
+    gas_behind = parts.1
+
+  -- where each has the form of contents
+  module _ (forms : All IsContent (map content_of (drop i cs))) where
+    each : All IsContent (content_of c ∷ map content_of (drop (i + 1) cs))
+    each = subst (All IsContent) (contents_from cs i c lt e) forms
+
+    pub form_here : IsContent (content_of c)
+    form_here = All-head IsContent (content_of c) _ each
+
+    pub forms_behind : All IsContent (map content_of (drop (i + 1) cs))
+    forms_behind = All-tail IsContent (content_of c) _ each
+
+  pub turned_from : (start : PlainWorld) (s : Setting) (t : Turn) (v : World) (counts : PlainCounts) (ss : List Said) →
+      HasTurned start s t v counts ss i (map content_of (drop i cs)) → HasTurned start s t v counts ss i (content_of c ∷ map content_of (drop (i + 1) cs))
+  turned_from start s t v counts ss h = subst (HasTurned start s t v counts ss i) (contents_from cs i c lt e) h

@@ -1,4 +1,5 @@
 pub mod Hosting
 pub mod Paying
 pub mod Whole
-pub mod Founding
+pub mod Foundings
+pub mod Issuing

@@ -48,7 +48,8 @@ pub(crate) fn pay_account(
     match world.move_mutez(*from, Place::Implicit(*to), amount) {
         Ok(()) => {}
         Err(MoveError::BalanceTooLow) => return Err(ApplyError::Failed(Failure::BalanceTooLow)),
-        Err(_) => return Err(ApplyError::Memory),
+        Err(MoveError::NoContract) => unreachable!(),
+        Err(MoveError::Memory) => return Err(ApplyError::Memory),
     }
     let argument = printed(alloc, world.store(), value)?;
     Ok(moved(alloc, from, to, entry, amount, argument))

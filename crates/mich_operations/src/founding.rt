@@ -54,7 +54,8 @@ pub(crate) fn found(
     match world.install(alloc, hash, *from, balance, script, storage) {
         Ok(()) => Ok(made(alloc, from, hash, balance)),
         Err(MoveError::BalanceTooLow) => Err(ApplyError::Failed(Failure::BalanceTooLow)),
-        Err(_) => Err(ApplyError::Memory),
+        Err(MoveError::NoContract) => unreachable!(),
+        Err(MoveError::Memory) => Err(ApplyError::Memory),
     }
 }
 

@@ -12,11 +12,13 @@ ghost use Rattle.mich_operations.specs.Going.{Begins, EndsAs, KeepsContracts, Wi
 
 use crate::applied::{Applied, ApplyError};
 use crate::charging::charge;
+use crate::founding::found;
 use crate::telling::tell;
-use mich_forms::KeyHash;
+use mich_forms::{KeyHash, Place};
 use mich_gas::{Costs, Kind, Meter};
 use mich_instr::Issued;
 use mich_machine::{Bodies, Counts};
+use mich_ops::Failure;
 use mich_term::abandon;
 use mich_world::World;
 use std::alloc::Global;
@@ -46,7 +48,21 @@ pub fn apply_issued(
 {
     match operation {
         Issued::Transfer { .. } => Err(ApplyError::Memory),
-        Issued::Origination { .. } => Err(ApplyError::Memory),
+        Issued::Origination {
+            delegate,
+            amount,
+            script,
+            storage,
+            hash,
+            ..
+        } => {
+            charge(costs, meter, Kind::Origination)?;
+            if delegate.is_some() {
+                abandon(storage);
+                return Err(ApplyError::Failed(Failure::UnregisteredDelegate));
+            }
+            found(alloc, world, &Place::Contract(by), hash, amount, script, storage)
+        }
         Issued::Event { tag, ty, value, .. } => {
             charge(costs, meter, Kind::Event)?;
             let told = tell(alloc, world, by, tag, &ty, &value);

@@ -96,10 +96,7 @@ nat_covered n m h = grind (arith, nat_tests)
 nat_short : (n m : ℕ) → n < m → nat_lt n m ≡ true
 nat_short n m h = grind (arith, nat_tests)
 
-module _ (u v : World) (w : PlainWorld) (from : Place) (hash : List ℕ) (mutez : ℕ) (script : Script) (given : Value) where
-  abbrev f : Founding
-  f = founding u.store.bases.present from hash mutez script given
-
+module _ (u v : World) (from : Place) (hash : List ℕ) (mutez : ℕ) (script : Script) (given : Value) where
   pub hosting_founded : Installs from hash mutez script given u v → IsTypedScript script → AreStored v → IsHosting u → IsHosting v
   hosting_founded i typed stored h = record {
     typed = subst (λ (k : Holders). AllByRecursion (λ (c : List ℕ × Contract). IsTypedScript c.1.script) k.contracts) (sym i.funds)
@@ -112,6 +109,10 @@ module _ (u v : World) (w : PlainWorld) (from : Place) (hash : List ℕ) (mutez 
   contracts_founded i q h =
       subst (λ (k : Holders). is_some (contract_at k q) ≡ true) (sym i.funds)
       (found_inserted (is_at (by_bytes q)) (with_balance u.funds.present from _).contracts hash _ (contracts_there u.funds.present from _ q ∙ h))
+
+module _ (u v : World) (w : PlainWorld) (from : Place) (hash : List ℕ) (mutez : ℕ) (script : Script) (given : Value) where
+  abbrev f : Founding
+  f = founding u.store.bases.present from hash mutez script given
 
   balance_here : IsPayer u w from → balance_in u.funds.present from ≡ balance_or_none w (place_bytes from)
   balance_here p = balance_or_none_is u.funds.present u.store.bases.present u.ledger.books.present w from p.stands.those p.payer
