@@ -1,5 +1,5 @@
 -- Operations that a contract issued.
-use Rattle.std.proofs.Common.{◌≡◌, ◌-◌, ℕ, Bool, true, false, List, length, is_some, None, Some, refl, sym, ap, ◌∙◌, subst, Result}
+use Rattle.std.proofs.Common.{◌≡◌, ◌-◌, ℕ, Bool, true, false, List, length, is_some, None, Some, refl, sym, ap, ◌∙◌, subst, Ok, Err, Result}
 use Rattle.std.specs.Prelude.{nat_lt, option_map}
 use Rattle.std.specs.declared.option.Option.{Option}
 use Rattle.std.proofs.lemmas.List.Elements.{All-head}
@@ -46,15 +46,17 @@ use Rattle.mich_term.specs.declared.value.Value.{Value, roll-Value, out-Value, r
 use Rattle.mich_term.specs.declared.value.Value.TheOpen.{Value-F}
 use Rattle.mich_tickets.specs.Carrying.{MayEnter}
 use Rattle.mich_world.specs.Holders.{contract_at}
+use Rattle.mich_world.specs.Marks.{KeepsWorld}
 use Rattle.mich_world.specs.Standing.{plain}
 use Rattle.mich_world.specs.Storages.{owner_of}
 use Rattle.mich_world.specs.World.{World}
 use Rattle.mich_world.specs.declared.contract.Contract.{Contract}
+use Rattle.mich_world.proofs.Marks.{world_same}
 use Rattle.mich_operations.specs.Foundings.{IsPayer, founding}
-use Rattle.mich_operations.specs.Going.{Begins, EndsAs, issued_by}
+use Rattle.mich_operations.specs.Going.{Begins, EndsAs, WithMemory, issued_by}
 use Rattle.mich_operations.specs.declared.applied.Applied.{Applied}
 use Rattle.mich_operations.specs.declared.applied.ApplyError.{ApplyError}
-use Rattle.mich_operations.specs.declared.applied.ApplyError.TheVariants.{Failed}
+use Rattle.mich_operations.specs.declared.applied.ApplyError.TheVariants.{Failed, Memory}
 use Rattle.mich_operations.proofs.Paying.{ends_along, ends_failed, charged_paid}
 
 -- ---- contracts that a contract makes
@@ -146,3 +148,14 @@ ticket_layer bs l = ap (λ (x : Val). is_some (as_ticket x)) (fold-roll-Value Va
 
 pub is_ticket : (bs : Bases) (v : Value) → is_some (as_ticket (val_in bs v)) ≡ is_ticket_layer (out-Value v)
 is_ticket bs v = ap (λ (x : Value). is_some (as_ticket (val_in bs x))) (sym (roll-out-Value v)) ∙ ticket_layer bs (out-Value v)
+
+-- ---- what is left as it is
+
+pub none_of : (o : Option (List ℕ)) → is_some o ≡ false → o ≡ None
+none_of None h = refl
+none_of (Some x) h = absurd cc
+
+pub keeps_either : (r : Result Applied ApplyError) (v : World) → WithMemory r (KeepsWorld v v)
+keeps_either (Ok a) v = world_same v
+keeps_either (Err (Failed why)) v = world_same v
+keeps_either (Err Memory) v = tt
