@@ -1,7 +1,6 @@
 -- Contracts that are made.
-use Rattle.std.proofs.Common.{◌≡◌, ◌≤◌, ◌<◌, ℕ, List, [], ◌∷◌, length, Bool, true, false, cond, is_some, Some, Err, Ok, Result, refl, sym, ap, ◌∙◌, subst, arith}
+use Rattle.std.proofs.Common.{◌≡◌, ◌≤◌, ◌<◌, ℕ, List, [], ◌∷◌, length, Bool, true, false, cond, is_some, Some, Err, Ok, refl, sym, ap, ◌∙◌, subst, arith}
 use Rattle.std.specs.Prelude.{nat_lt}
-use Rattle.std.specs.declared.cmp.Ordering.{Ordering}
 use Rattle.std.specs.declared.cmp.Ordering.TheVariants.{Less, Equal, Greater}
 use Rattle.std.specs.declared.option.Option.{Option}
 use Rattle.std.specs.Ordering.{match_ordering}
@@ -13,11 +12,8 @@ use Rattle.rules_steps.specs.Failure.{balance_too_low}
 use Rattle.rules_world.specs.Balances.{balance_or_none}
 use Rattle.rules_world.specs.Originations.{Founding, found_contract, founded, founding_outcome}
 use Rattle.rules_world.specs.Outcomes.{applied}
-use Rattle.rules_world.specs.Receipts.{Origination}
 use Rattle.rules_world.specs.World.{World as PlainWorld}
-use Rattle.rules_forms.specs.Spelling.{contract_place}
 use Rattle.mich_base.specs.Counted.{IsNotEmpty}
-use Rattle.mich_bigmap.specs.Bases.{Bases}
 use Rattle.mich_forms.specs.Spelled.{place_bytes}
 use Rattle.mich_forms.specs.declared.places.Place.{Place}
 use Rattle.mich_forms.specs.declared.places.Place.TheVariants as place
@@ -42,8 +38,7 @@ use Rattle.mich_world.proofs.Moves.{contracts_there}
 use Rattle.mich_operations.specs.Foundings.{IsPayer, founding}
 use Rattle.mich_operations.specs.Going.{EndsAs, KeepsContracts, issued_by}
 use Rattle.mich_operations.specs.declared.applied.Applied.{Applied}
-use Rattle.mich_operations.specs.declared.applied.ApplyError.{ApplyError}
-use Rattle.mich_operations.specs.declared.applied.ApplyError.TheVariants.{Failed, Memory}
+use Rattle.mich_operations.specs.declared.applied.ApplyError.TheVariants.{Failed}
 use Rattle.mich_operations.proofs.Paying.{ends_failed}
 
 -- ---- holders with one more contract

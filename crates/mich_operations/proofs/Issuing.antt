@@ -1,18 +1,14 @@
 -- Operations that a contract issued.
-use Rattle.std.proofs.Common.{◌≡◌, ◌-◌, ℕ, Bool, true, false, List, length, is_some, None, Some, refl, sym, ap, ◌∙◌, subst, Ok, Err, Result}
+use Rattle.std.proofs.Common.{◌≡◌, ◌-◌, ℕ, Bool, true, false, List, length, is_some, None, Some, refl, sym, ap, ◌∙◌, Ok, Err, Result}
 use Rattle.std.specs.Prelude.{nat_lt, option_map}
 use Rattle.std.specs.declared.option.Option.{Option}
 use Rattle.std.proofs.lemmas.List.Elements.{All-head}
 use Rattle.laws_operations.proofs.NewContracts.{new_length}
-use Rattle.rules_base.specs.Tree.{Tree}
-use Rattle.rules_evaluation.specs.Operations.{origination, event}
+use Rattle.rules_evaluation.specs.Operations.{origination}
 use Rattle.rules_evaluation.specs.Surroundings.{Contract as PlainContract}
 use Rattle.rules_forms.specs.Spelling.{contract_place}
 use Rattle.rules_gas.specs.Prices.{cost}
 use Rattle.rules_gas.specs.declared.Kind.TheVariants as price
-use Rattle.rules_steps.specs.Failure.{unregistered_delegate}
-use Rattle.rules_types.specs.Kind.{Kind}
-use Rattle.rules_typing.specs.Fits.{is_place}
 use Rattle.rules_values.specs.Tickets.{tickets}
 use Rattle.rules_values.specs.Val.{Val, Pairs}
 use Rattle.rules_world.specs.Transfers.{as_ticket}
@@ -33,11 +29,8 @@ use Rattle.mich_instr.specs.View.{script_node}
 use Rattle.mich_instr.specs.declared.instr.Script.{Script}
 use Rattle.mich_instr.specs.declared.issued.Issued.{Issued}
 use Rattle.mich_instr.specs.declared.issued.Issued.TheVariants as i
-use Rattle.mich_machine.specs.Calls.{counts_of, IsHanded}
+use Rattle.mich_machine.specs.Calls.{counts_of}
 use Rattle.mich_interpreter.specs.declared.state.Counts.{Counts}
-use Rattle.mich_ops.specs.Told.{told as told_failure}
-use Rattle.mich_ops.specs.View.{failure}
-use Rattle.mich_ops.specs.declared.failure.Failure.{Failure as Why}
 use Rattle.mich_standing.proofs.Agreement.{contracts_agree}
 use Rattle.mich_term.specs.Layers.{AreFormed}
 use Rattle.mich_term.specs.ValueView.{val, value_step}
@@ -57,7 +50,7 @@ use Rattle.mich_operations.specs.Going.{Begins, EndsAs, WithMemory, issued_by}
 use Rattle.mich_operations.specs.declared.applied.Applied.{Applied}
 use Rattle.mich_operations.specs.declared.applied.ApplyError.{ApplyError}
 use Rattle.mich_operations.specs.declared.applied.ApplyError.TheVariants.{Failed, Memory}
-use Rattle.mich_operations.proofs.Paying.{ends_along, ends_failed, charged_paid}
+use Rattle.mich_operations.proofs.Paying.{ends_along, charged_paid}
 
 -- ---- contracts that a contract makes
 

@@ -3,3 +3,4 @@ pub mod Paying
 pub mod Whole
 pub mod Foundings
 pub mod Issuing
+pub mod Calling

@@ -8,7 +8,7 @@ use Rattle.std.proofs.lemmas.Bool.Decides.{nat_tests}
 use Rattle.rules_forms.specs.Spelling.{default_name, spelled_address, implicit_place}
 use Rattle.rules_gas.specs.declared.Kind.{Kind}
 use Rattle.rules_gas.specs.Prices.{Listed, cost}
-use Rattle.rules_steps.specs.Failure.{Failure, out_of_gas, empty_transaction, balance_too_low, no_entrypoint, bad_parameter}
+use Rattle.rules_steps.specs.Failure.{Failure, out_of_gas, empty_transaction, balance_too_low, no_entrypoint}
 use Rattle.rules_values.specs.Canonical.{canonical}
 use Rattle.rules_values.specs.Val.{Val, Pairs, unit}
 use Rattle.rules_base.specs.Tree.{Tree}
@@ -31,8 +31,8 @@ use Rattle.mich_term.specs.declared.value.Value.TheVariants.{rolls-Unit}
 use Rattle.rules_world.specs.Balances.{balance_or_none}
 use Rattle.rules_world.specs.Balances as rules
 use Rattle.rules_world.specs.Receipts.{Transfer}
-use Rattle.rules_world.specs.Outcomes.{Setting, ordered, Outcome, applied, failed, stuck, charged, charged_by, Counts as PlainCounts}
-use Rattle.rules_world.specs.Transfers.{Transaction, as_ticket, account_failure, account_outcome, with_taken, taken_by_account, to_account, received, with_ticket, delivered}
+use Rattle.rules_world.specs.Outcomes.{Setting, ordered, Outcome, applied, failed, charged, charged_by, Counts as PlainCounts}
+use Rattle.rules_world.specs.Transfers.{Transaction, as_ticket, account_failure, account_outcome, with_taken, to_account, received, with_ticket, delivered}
 use Rattle.rules_world.specs.World.{World as PlainWorld, key_hash_in}
 use Rattle.mich_forms.specs.Spelled.{place_bytes}
 use Rattle.mich_base.specs.Counted.{IsNotEmpty}
@@ -50,11 +50,11 @@ use Rattle.mich_world.specs.Holders.{may_receive, moved, balance_or_none as bala
 use Rattle.mich_world.specs.Standing.{StandsFor}
 use Rattle.mich_world.specs.World.{World, with_funds}
 use Rattle.mich_world.proofs.Agreeing.{balance_or_none_is, moves_agree}
-use Rattle.mich_operations.specs.Going.{Begins, EndsAs, IsApplied, issued_by}
+use Rattle.mich_operations.specs.Going.{Begins, EndsAs, issued_by}
 use Rattle.mich_operations.specs.Transfers.{AreBetween, transaction}
 use Rattle.mich_operations.specs.declared.applied.Applied.{Applied}
 use Rattle.mich_operations.specs.declared.applied.ApplyError.{ApplyError}
-use Rattle.mich_operations.specs.declared.applied.ApplyError.TheVariants.{Failed, Memory}
+use Rattle.mich_operations.specs.declared.applied.ApplyError.TheVariants.{Failed}
 
 -- ---- outcomes that are one
 

@@ -1,10 +1,9 @@
 -- Contracts that are made (Octez "Operations", originations).
 use Rattle.std.specs.Prelude.{◌≡◌, ℕ, true, List, Result, Ok, Err}
 use Rattle.rules_base.specs.Tree.{Tree}
-use Rattle.rules_instructions.specs.Arguments.{Found, found, fault}
+use Rattle.rules_instructions.specs.Arguments.{fault}
 use Rattle.rules_typing.specs.Fits.{is_place}
 use Rattle.rules_typing.specs.Nodes.{script}
-use Rattle.rules_values.specs.Val.{Val}
 use Rattle.rules_world.specs.Forms.{IsWorld}
 use Rattle.rules_world.specs.Originations.{Founding}
 use Rattle.rules_world.specs.World.{World as PlainWorld}

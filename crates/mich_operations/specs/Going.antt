@@ -3,7 +3,7 @@ use Rattle.std.specs.Prelude.{◌≡◌, ◌≤◌, ℕ, true, is_some, List, []
 use Rattle.std.specs.List.{AllByRecursion}
 use Rattle.rules_forms.specs.Spelling.{contract_place}
 use Rattle.rules_world.specs.World.{World as PlainWorld}
-use Rattle.rules_world.specs.Outcomes.{Setting, Waiting, issued, Counts as PlainCounts, Outcome, applied, failed, stuck}
+use Rattle.rules_world.specs.Outcomes.{Setting, Waiting, issued, Counts as PlainCounts, Outcome, applied, failed}
 use Rattle.laws_runs.specs.Going.{IsSetting, IsGoing}
 use Rattle.mich_base.specs.Counted.{IsNotEmpty}
 use Rattle.mich_bigmap.specs.Bases.{Bases}

@@ -21,6 +21,7 @@ use mich_base::Node;
 use mich_forms::{Entrypoint, KeyHash, Place};
 use mich_gas::{Costs, Meter};
 use mich_machine::{Bodies, Counts};
+use mich_ops::Failure;
 use mich_world::World;
 use std::alloc::Global;
 
@@ -48,6 +49,9 @@ pub(crate) fn call(
 {
     match to {
         Place::Implicit(who) => call_account(alloc, world, source, who, entry, amount, argument),
-        Place::Contract(_) => Err(ApplyError::Memory),
+        Place::Contract(hash) => match world.contract(hash) {
+            None => Err(ApplyError::Failed(Failure::NoContract)),
+            Some(_) => Err(ApplyError::Memory),
+        },
     }
 }

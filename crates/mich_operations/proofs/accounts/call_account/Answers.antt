@@ -1,5 +1,4 @@
-use Rattle.std.proofs.Common.{◌≡◌, true, Some, sym, ap, ◌∙◌, rules}
-use Rattle.rules_base.specs.Tree.{Tree}
+use Rattle.std.proofs.Common.{◌≡◌, Some, rules}
 use Rattle.rules_forms.specs.Spelling.{default_name}
 use Rattle.rules_types.specs.declared.Simple.TheVariants as simple
 use Rattle.rules_values.specs.Literals.{simple_value}
@@ -7,7 +6,7 @@ use Rattle.rules_values.specs.Val.{unit}
 use Rattle.rules_world.specs.Arguments.{node}
 use Rattle.mich_base.specs.View.{tree}
 use Rattle.mich_world.proofs.Marks.{world_same}
-use Rattle.mich_operations.proofs.Paying.{to_default, unit_in}
+use Rattle.mich_operations.proofs.Paying.{to_default}
 use Rattle.mich_operations.proofs.accounts.call_account.Goals as goal
 
 pub returns-then-not-is_default-clause-keeps : goal.returns-then-not-is_default-clause-keeps
