@@ -19,7 +19,7 @@ returns-in-Implicit-clause-ends c = λ w b.
 pub returns-in-None-clause-ends : goal.returns-in-None-clause-ends
 returns-in-None-clause-ends c = λ w b.
     let s = setting_of (listed c.args.costs.now) c.args.counts.now.group c.args.source.now in
-    calls_nobody c.args.world.now c.args.world.now w s c.args.amount c.args.entry.now (tree c.args.argument.now) c.args.to.now c.in-Contract.hash.now c.args.meter.now c.args.counts.now
+    calls_nobody c.args.world.now c.args.world.now w s c.args.amount c.args.entry.now (tree c.args.argument.now) c.args.to.now c.in-Contract.hash c.args.meter.now c.args.counts.now
     failures.NoContract c.in-Contract.is b (sym c.in-None.ensures) refl
 
 pub returns-in-None-clause-keeps : goal.returns-in-None-clause-keeps
