@@ -80,7 +80,7 @@ module _ (start : PlainWorld) (s : Setting) (t : Turn) (v : World) (counts : Pla
   content_turned x old new used effects e d =
       let applied = Applied (unsigned_abs c.gas - d.last.gas) d.last.effects in
       let keeps = subst (KeepsWalk start s h.goes.setting (suc at) few) d.same
-          (tree_keeps start s h.goes.setting (suc at) few h.world (ordered c.action ∷ []) (unsigned_abs c.gas) counts content_goes.going) in
+      (tree_keeps start s h.goes.setting (suc at) few h.world (ordered c.action ∷ []) (unsigned_abs c.gas) counts content_goes.going) in
       record {
         world = d.last.world;
         goes = record {

@@ -76,14 +76,13 @@ step_comes start s contents t limit n v x w waiting gas counts now left ss befor
     let a = p.behind in
     let step : tree_within (limit - n) s w waiting gas counts ≡ behind_one a.effects (tree_within (limit - (n + 1)) s a.world (a.emitted ++ p.others) a.gas a.counts)
     = ap (λ k. tree_within k s w waiting gas counts) more ∙ ap (λ ws. tree_within (suc (limit - (n + 1))) s w ws gas counts) p.first
-      ∙ step_walk s (limit - (n + 1)) w p.op p.others gas counts (applied a) p.same in
+    ∙ step_walk s (limit - (n + 1)) w p.op p.others gas counts (applied a) p.same in
     let rest : tree_within (limit - (n + 1)) s a.world (a.emitted ++ p.others) a.gas a.counts ≡ tree_within (limit - (n + 1)) s a.world (all_sent x.store.bases.present ss) left now
-    = λ i. tree_within (limit - (n + 1)) s a.world (sym p.sent i) (sym p.units i) (sym p.counted i) in
-    (
+    = λ i. tree_within (limit - (n + 1)) s a.world (sym p.sent i) (sym p.units i) (sym p.counted i) in (
       a.world,
       goes_on start s contents v x w waiting gas counts now left ss before after g p,
       e ∙ ap (behind_all (map effect before) n) step ∙ behind_more (map effect before) a.effects n _
-      ∙ (λ i. behind_all (sym p.done i) (n + 1) (rest i)),
+          ∙ (λ i. behind_all (sym p.done i) (n + 1) (rest i)),
     )
 
 -- ---- the end
@@ -190,7 +189,7 @@ pub first_walks : (U : Type 0) (prices : Listed) (source : List ℕ) (v x z : Wo
     Goes start (setting_of prices old.group source) contents v w waiting (counts_of old) →
     IsStep (setting_of prices old.group source) w waiting gas (counts_of old) x left (counts_of mid) ss before between →
     ((start y : PlainWorld) (contents : ℕ) → Goes start (setting_of prices mid.group source) contents x y (all_sent x.store.bases.present ss) (counts_of mid) →
-        WalksAs {U = U} (behind_all (map effect between) 1 (tree_within (gas - 1) (setting_of prices mid.group source) y (all_sent x.store.bases.present ss) left (counts_of mid))) z last mid new after r) →
+    WalksAs {U = U} (behind_all (map effect between) 1 (tree_within (gas - 1) (setting_of prices mid.group source) y (all_sent x.store.bases.present ss) left (counts_of mid))) z last mid new after r) →
     WalksAs {U = U} (tree (setting_of prices old.group source) w waiting gas (counts_of old)) z last old new after r
 first_walks U prices source v x z start w contents waiting gas left last old mid new ss before between after r some none e g p walks =
     let s = setting_of prices old.group source in

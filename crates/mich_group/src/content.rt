@@ -66,10 +66,7 @@ pub(crate) fn apply_content(
         &content.action,
         &mut effects,
     ) {
-        Ok(()) => Ok(Ended::Applied(
-            gas.saturating_sub(meter.left()),
-            effects,
-        )),
+        Ok(()) => Ok(Ended::Applied(gas.saturating_sub(meter.left()), effects)),
         Err(TreeError::Failed(count, why)) => Ok(Ended::Failed(count, why)),
         Err(TreeError::Memory) => Err(Memory),
     }

@@ -52,7 +52,14 @@ fn a_group_of_transfers(rt: HostRuntime) -> Result<(), Fail> {
     world.grant(key_hash(1), 1000)?;
     let mut bodies = Bodies::new(alloc)?;
     let costs = Costs::standard();
-    let receipt = apply_group(alloc, &mut world, &costs, 1, &group(alloc, 5, 7)?, &mut bodies)?;
+    let receipt = apply_group(
+        alloc,
+        &mut world,
+        &costs,
+        1,
+        &group(alloc, 5, 7)?,
+        &mut bodies,
+    )?;
     assert!(rt; matches!(receipt, GroupReceipt::Done(_)));
     assert!(rt; world.balance(Place::Implicit(key_hash(3))) == Some(7));
     Ok(())

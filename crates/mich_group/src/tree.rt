@@ -108,13 +108,31 @@ pub fn apply_tree(
     }
     let mut waiting = Rows::new(alloc);
     match apply_first(
-        alloc, world, costs, source, meter, counts, bodies, action, &mut waiting, effects,
+        alloc,
+        world,
+        costs,
+        source,
+        meter,
+        counts,
+        bodies,
+        action,
+        &mut waiting,
+        effects,
     ) {
         Ok(()) => {}
         Err(ApplyError::Failed(why)) => return Err(TreeError::Failed(0, why)),
         Err(ApplyError::Memory) => return Err(TreeError::Memory),
     }
     apply_waiting(
-        alloc, world, costs, source, meter, counts, bodies, gas, &mut waiting, effects,
+        alloc,
+        world,
+        costs,
+        source,
+        meter,
+        counts,
+        bodies,
+        gas,
+        &mut waiting,
+        effects,
     )
 }

@@ -15,7 +15,11 @@ pub(crate) struct Sent {
 
 #[tactic(auto, using(crate::proofs::Sending::send_one))]
 // Puts operations that a contract issued in front of all that wait: the last is the next one.
-pub(crate) fn send(waiting: &mut Rows<Sent>, by: [u8; 20], emitted: Rows<Issued>) -> Result<(), Memory>
+pub(crate) fn send(
+    waiting: &mut Rows<Sent>,
+    by: [u8; 20],
+    emitted: Rows<Issued>,
+) -> Result<(), Memory>
     ensures { IfOk result (λ _. waiting.new ≡ waiting.old ++ reverse (map (sent_by by) emitted)) }
 {
     let mut left = emitted;

@@ -42,11 +42,11 @@ pub calls_nobody : (v x : World) (w : PlainWorld) (s : Setting) (amount : ℕ) (
 calls_nobody v x w s amount entry argument to hash gas counts f e b none h =
     let p : is_place (contract_place hash) ≡ true
     = subst (λ (q : Place). is_place (place_bytes q) ≡ true) e
-      (All-head (IsGoodWaiting w) (ordered (Call amount (place_bytes to) entry argument)) b.next.behind b.next.going.good.waits).1.0 in
+    (All-head (IsGoodWaiting w) (ordered (Call amount (place_bytes to) entry argument)) b.next.behind b.next.going.good.waits).1.0 in
     let gone : plain_contract_at w (hash_in (contract_place hash)) ≡ None
     = ap (plain_contract_at w) (hash_of hash (place_length hash p)) ∙ contracts_agree v w hash b.stands ∙ ap (option_map (plain v.store.bases.present)) none in
     ends_failed (delivered (is_implicit (place_bytes to)) s w (ordered_transaction s amount (place_bytes to) entry argument) gas (counts_of counts)) x gas counts counts f no_contract
     (ap (λ (q : Place). delivered (is_implicit (place_bytes q)) s w (ordered_transaction s amount (place_bytes q) entry argument) gas (counts_of counts)) e
     ∙ ap (λ (o : Option PlainContract). on_met (in_contract (hash_in (contract_place hash)) entry o)
-      (λ (target : Target). with_argument (argument_in w target.entry.kind (node argument)) s w (ordered_transaction s amount (contract_place hash) entry argument) target gas (counts_of counts))) gone)
+    (λ (target : Target). with_argument (argument_in w target.entry.kind (node argument)) s w (ordered_transaction s amount (contract_place hash) entry argument) target gas (counts_of counts))) gone)
     h

@@ -77,10 +77,10 @@ module _ {X : Type 0} (t : List ℕ → Bool) where
   found_inserted : (es : List (List ℕ × X)) (k : List ℕ) (x : X) → is_some (lookup t es) ≡ true → is_some (lookup t (insert_entry by_bytes es k x)) ≡ true
   found_inserted [] k x h = first_of_two (t k) x (lookup t []) h
   found_inserted (e ∷ es) k x h =
-      elim (by_bytes k e.0) as (λ o. is_some (lookup t (match_ordering o ((k, x) ∷ e ∷ es) ((e.0, x) ∷ es) (e ∷ insert_entry by_bytes es k x))) ≡ true)
-      [ Less ↦ first_of_two (t k) x (lookup t (e ∷ es)) h
-      | Equal ↦ same_tail (t e.0) e.1 x (lookup t es) h
-      | Greater ↦ more_tail (t e.0) e.1 (lookup t es) (lookup t (insert_entry by_bytes es k x)) (found_inserted es k x) h
+      elim (by_bytes k e.0) as (λ o. is_some (lookup t (match_ordering o ((k, x) ∷ e ∷ es) ((e.0, x) ∷ es) (e ∷ insert_entry by_bytes es k x))) ≡ true) [
+        | Less ↦ first_of_two (t k) x (lookup t (e ∷ es)) h
+        | Equal ↦ same_tail (t e.0) e.1 x (lookup t es) h
+        | Greater ↦ more_tail (t e.0) e.1 (lookup t es) (lookup t (insert_entry by_bytes es k x)) (found_inserted es k x) h
       ]
 
 -- ---- one that is made

@@ -61,7 +61,15 @@ pub fn apply_issued(
                 abandon(storage);
                 return Err(ApplyError::Failed(Failure::UnregisteredDelegate));
             }
-            found(alloc, world, &Place::Contract(by), hash, amount, script, storage)
+            found(
+                alloc,
+                world,
+                &Place::Contract(by),
+                hash,
+                amount,
+                script,
+                storage,
+            )
         }
         Issued::Event { tag, ty, value, .. } => {
             charge(costs, meter, Kind::Event)?;

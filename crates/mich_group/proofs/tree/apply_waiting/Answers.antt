@@ -26,13 +26,12 @@ loop-count-init c = record {
 pub apply_next-requires-clause-goes : goal.apply_next-requires-clause-goes
 apply_next-requires-clause-goes c =
     let g = c.requires.goes in
-    let h = c.loop-count.invariant.come g.0 g.1 g.2 g.3 in
-    (
+    let h = c.loop-count.invariant.come g.0 g.1 g.2 g.3 in (
       g.0,
       h.0,
       g.2,
       goes_group (listed c.args.costs.now) c.args.source.now c.args.counts.now.group c.loop-count.counts.group g.0 g.2 c.loop-count.world h.0
-      (all_sent c.loop-count.world.store.bases.present c.loop-count.waiting) (counts_of c.loop-count.counts) (sym c.loop-count.invariant.group) h.1,
+          (all_sent c.loop-count.world.store.bases.present c.loop-count.waiting) (counts_of c.loop-count.counts) (sym c.loop-count.invariant.group) h.1,
     )
 
 pub returns-in-Ok-false-clause-walks : goal.returns-in-Ok-false-clause-walks
