@@ -1,6 +1,6 @@
 -- Groups whose fees were taken, and groups that are settled.
 use Rattle.std.proofs.Common.{◌≡◌, ◌≤◌, ◌<◌, ◌+◌, ◌*◌, ℕ, List, [], ◌∷◌, map, length, take, Bool, true, false, cond, None, Some, refl, sym, ap, ◌∙◌, subst, arith, is_some, option_map, ℤ, pos, int_lt}
-use Rattle.std.specs.Prelude.{nat_lt, not, unwrap_or, if◌then◌else◌}
+use Rattle.std.specs.Prelude.{IfOk, Result, Ok, Err, nat_lt, not, unwrap_or, if◌then◌else◌}
 use Rattle.std.specs.declared.option.Option.{Option}
 use Rattle.std.specs.List.{All, list_any, sum_by}
 use Rattle.std.proofs.lemmas.Bool.Decides.{nat_tests}
@@ -122,3 +122,9 @@ settled_admitted prices number source contents v w r e h = record {
   told = h.told;
   stands = h.stands;
 }
+
+pub settled_ended : (U : Type 0) (prices : Listed) (number : ℕ) (source : List ℕ) (contents : List Content) (v : World) (w : PlainWorld)
+    (r : Result Rattle.mich_ops.specs.declared.receipt.GroupReceipt.GroupReceipt U) → refusal_of w source contents ≡ None →
+    IfOk r (IsSettled (admitted (setting_of prices number source) (fees_taken w source contents) contents) v) → IfOk r (IsSettled (group prices number source contents w) v)
+settled_ended U prices number source contents v w (Ok x) e h = settled_admitted prices number source contents v w x e h
+settled_ended U prices number source contents v w (Err x) e h = h

@@ -9,8 +9,9 @@ use Rattle.std.proofs.lemmas.List.{append_assoc, append-nil, map-append, length-
 use Rattle.rules_steps.specs.Failure.{Failure}
 use Rattle.rules_world.specs.Contents.{Content, Action}
 use Rattle.rules_world.specs.Forms.{IsContent, IsAction}
-use Rattle.rules_world.specs.Groups.{is_over_gas, most_gas, Turn, all_applied, one_failed, stuck_turn, behind_applied, with_tree, skipped, in_turn}
-use Rattle.rules_world.specs.Outcomes.{Setting, ordered, Counts as PlainCounts}
+use Rattle.rules_gas.specs.Prices.{Listed}
+use Rattle.rules_world.specs.Groups.{setting_of, is_over_gas, most_gas, Turn, all_applied, one_failed, stuck_turn, behind_applied, with_tree, skipped, in_turn}
+use Rattle.rules_world.specs.Outcomes.{Setting, Waiting, ordered, Counts as PlainCounts}
 use Rattle.rules_world.specs.Receipts.{Status, Applied, Backtracked, Failed, Skipped}
 use Rattle.rules_world.specs.Trees.{Walk, completed, broken_off, stuck_walk, tree}
 use Rattle.rules_world.specs.World.{World as PlainWorld}
@@ -29,7 +30,8 @@ use Rattle.mich_world.specs.World.{World}
 use Rattle.mich_group.specs.Trees.{Goes, IsWalked, WalksAs}
 use Rattle.mich_group.specs.declared.tree.TreeError.{TreeError}
 use Rattle.mich_group.specs.declared.tree.TreeError.TheVariants as tree_error
-use Rattle.mich_group.specs.Turns.{IsDone, IsBroken, AreApplied, AreBroken}
+use Rattle.mich_group.specs.Turns.{ContentAs, IsDone, IsBroken, AreApplied, AreBroken}
+use Rattle.mich_group.specs.declared.content.Ended.{Ended}
 
 -- so many contents were applied before
 abbrev pub behind_done : List Status → Turn → Turn
@@ -223,3 +225,12 @@ module _ (cs : List Ordered) (i : ℕ) (c : Ordered) (lt : i < length cs) (e : c
   pub turned_from : (start : PlainWorld) (s : Setting) (t : Turn) (v : World) (counts : PlainCounts) (ss : List Said) →
       HasTurned start s t v counts ss i (map content_of (drop i cs)) → HasTurned start s t v counts ss i (content_of c ∷ map content_of (drop (i + 1) cs))
   turned_from start s t v counts ss h = subst (HasTurned start s t v counts ss i) (contents_from cs i c lt e) h
+
+-- what a content came to, where the number of the group, the gas and the end are known by other names
+pub ended_as : (U : Type 0) (prices : Listed) (source : List ℕ) (n m : ℕ) (w : PlainWorld) (ops : List Waiting) (gas g : ℕ) (counts : PlainCounts) (v : World) (old new : Counts) (r e : Ended) →
+    n ≡ m → gas ≡ g → r ≡ e →
+    ContentAs {E = U} (tree (setting_of prices n source) w ops gas counts) gas v old new (Ok r) → ContentAs {E = U} (tree (setting_of prices m source) w ops g counts) g v old new (Ok e)
+ended_as U prices source n m w ops gas g counts v old new r e a b c h =
+    subst (λ (x : Ended). ContentAs {E = U} (tree (setting_of prices m source) w ops g counts) g v old new (Ok x)) c
+    (subst (λ (k : ℕ). ContentAs {E = U} (tree (setting_of prices m source) w ops k counts) k v old new (Ok r)) b
+    (subst (λ (k : ℕ). ContentAs {E = U} (tree (setting_of prices k source) w ops gas counts) gas v old new (Ok r)) a h))
