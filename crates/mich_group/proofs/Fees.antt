@@ -74,6 +74,9 @@ module _ (v : World) (w : PlainWorld) (source : List ℕ) (contents : List Conte
   pub not_refused : (n : ℕ) → balance_at v.funds.present (place.Implicit source) ≡ Some n → list_any is_over_gas contents ≡ false → all_fees contents ≤ n → refusal_of w source contents ≡ None
   not_refused n e f enough = by_tests true false false (ap is_some e) f (ap (λ (o : Option ℕ). nat_lt (unwrap_or o 0) (all_fees contents)) e ∙ grind (arith, nat_tests))
 
+pub is_there : (source : List ℕ) → is_key_hash source ≡ true → is_place (implicit_place source) ≡ true
+is_there source h = ap (λ (b : Bool). Rattle.std.specs.Prelude.◌||◌ b false) h
+
 -- ---- fees
 
 pub fees_went : (u v : World) (w : PlainWorld) (prices : Listed) (number : ℕ) (source : List ℕ) (contents : List Content) (fees : ℕ) → StandsFor u w → IsGroup prices number source contents w →
