@@ -4,12 +4,10 @@ use Rattle.rules_world.specs.Outcomes.{ordered}
 use Rattle.rules_world.specs.Trees.{tree}
 use Rattle.mich_gas.specs.View.{listed}
 use Rattle.mich_machine.specs.Calls.{counts_of}
-use Rattle.mich_ops.specs.declared.failure.Failure.{Failure as Failed}
 use Rattle.mich_ops.specs.View.{action as action_of}
 use Rattle.mich_group.specs.Trees.{IsWalked, WalksAs}
 use Rattle.mich_group.specs.Turns.{IsBroken, IsDone}
 use Rattle.mich_group.specs.declared.tree.TreeError.{TreeError}
-use Rattle.mich_group.specs.declared.tree.TreeError.TheVariants as errors
 use Rattle.mich_group.proofs.Turns.{walk_broken, walk_done}
 use Rattle.mich_group.proofs.content.apply_content.Goals as goal
 
