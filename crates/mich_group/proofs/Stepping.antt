@@ -1,12 +1,11 @@
 -- One operation of those that wait.
-use Rattle.std.proofs.Common.{◌≡◌, ℕ, Bool, true, List, [], ◌∷◌, ◌++◌, map, refl, sym, ap, ◌∙◌, subst, Ok, Err, Result}
+use Rattle.std.proofs.Common.{◌≡◌, ℕ, List, [], ◌∷◌, ◌++◌, map, refl, ap, ◌∙◌, subst, Err}
 use Rattle.std.specs.Prelude.{reverse}
 use Rattle.std.proofs.lemmas.List.{map-append}
 use Rattle.rules_steps.specs.Failure.{Failure}
 use Rattle.rules_world.specs.World.{World as PlainWorld}
 use Rattle.rules_world.specs.Outcomes.{Setting, Waiting, Counts as PlainCounts, Outcome, applied, failed, stuck}
 use Rattle.rules_world.specs.Application.{apply}
-use Rattle.laws_runs.specs.Going.{IsGoing}
 use Rattle.mich_bigmap.specs.Extended.{Extends}
 use Rattle.mich_machine.specs.Calls.{counts_of}
 use Rattle.mich_interpreter.specs.declared.state.Counts.{Counts}
@@ -22,7 +21,7 @@ use Rattle.mich_world.specs.World.{World}
 use Rattle.mich_group.specs.Trees.{Goes, IsStep, IsFailed, StepsAs, StepsTo, OnStep}
 use Rattle.mich_group.specs.Waiting.{sent, sent_by, all_sent, AreHanded}
 use Rattle.mich_group.specs.declared.waiting.Sent.{Sent}
-use Rattle.mich_group.proofs.Sending.{all_sent_last, all_sent_more, sent_later, are_handed_later, handed_each}
+use Rattle.mich_group.proofs.Sending.{all_sent_last, all_sent_more, sent_later}
 
 -- ---- before it
 

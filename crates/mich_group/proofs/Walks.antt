@@ -1,5 +1,5 @@
 -- Trees on their way.
-use Rattle.std.proofs.Common.{◌≡◌, ◌≤◌, ◌<◌, ◌+◌, ◌-◌, ℕ, zero, suc, List, [], ◌∷◌, ◌++◌, map, length, refl, sym, ap, ◌∙◌, subst, arith, Bool, Ok, Err, Result}
+use Rattle.std.proofs.Common.{◌≡◌, ◌<◌, ◌+◌, ◌-◌, ℕ, suc, List, [], ◌∷◌, ◌++◌, map, length, refl, sym, ap, ◌∙◌, subst, arith, Bool, Ok, Err, Result}
 use Rattle.std.proofs.lemmas.List.{append_assoc, append-nil, length-map, length-reverse}
 use Rattle.std.specs.Prelude.{reverse}
 use Rattle.mich_base.specs.Counted.{IsNotEmpty}
@@ -7,11 +7,11 @@ use Rattle.rules_gas.specs.Prices.{Listed}
 use Rattle.rules_world.specs.Groups.{setting_of}
 use Rattle.rules_world.specs.Receipts.{Effect}
 use Rattle.rules_world.specs.World.{World as PlainWorld}
-use Rattle.rules_world.specs.Outcomes.{Setting, Waiting, Counts as PlainCounts, Outcome, applied, failed, stuck}
+use Rattle.rules_world.specs.Outcomes.{Setting, Waiting, Counts as PlainCounts, Outcome, applied, failed}
 use Rattle.rules_world.specs.Application.{apply}
-use Rattle.rules_world.specs.Trees.{Walk, Last, completed, broken_off, stuck_walk, behind_one, with_emitted, tree_within, tree}
+use Rattle.rules_world.specs.Trees.{Walk, completed, broken_off, stuck_walk, behind_one, with_emitted, tree_within, tree}
 use Rattle.rules_steps.specs.Failure.{Failure, out_of_gas}
-use Rattle.laws_runs.specs.Going.{IsSetting, IsGoing, KeepsGoing}
+use Rattle.laws_runs.specs.Going.{IsGoing, KeepsGoing}
 use Rattle.laws_world.proofs.Walks.{apply_keeps}
 use Rattle.mich_machine.specs.Calls.{counts_of}
 use Rattle.mich_interpreter.specs.declared.state.Counts.{Counts}
@@ -21,7 +21,7 @@ use Rattle.mich_ops.specs.View.{effect, failure}
 use Rattle.mich_ops.specs.declared.failure.Failure.{Failure as Failed}
 use Rattle.mich_ops.specs.declared.receipt.Effect.{Effect as Done}
 use Rattle.mich_world.specs.World.{World}
-use Rattle.mich_group.specs.Trees.{Goes, IsStep, StepsAs, StepsTo, IsFailed, IsWalked, WalksAs, behind_all}
+use Rattle.mich_group.specs.Trees.{Goes, IsStep, StepsTo, IsFailed, IsWalked, WalksAs, behind_all}
 use Rattle.mich_group.specs.Waiting.{sent, all_sent}
 use Rattle.mich_group.specs.declared.tree.TreeError.{TreeError}
 use Rattle.mich_group.specs.declared.tree.TreeError.TheVariants as tree
