@@ -1,5 +1,5 @@
 -- Groups whose fees were taken, and groups that are settled.
-use Rattle.std.proofs.Common.{◌≡◌, ◌≤◌, ◌<◌, ◌+◌, ◌*◌, ℕ, List, [], ◌∷◌, map, length, take, Bool, true, false, cond, None, Some, refl, sym, ap, ◌∙◌, subst, arith, is_some, option_map, ℤ, pos, int_lt}
+use Rattle.std.proofs.Common.{◌≡◌, ◌≤◌, ◌<◌, ℕ, List, [], Bool, true, false, None, Some, refl, sym, ap, ◌∙◌, subst, arith, is_some, option_map}
 use Rattle.std.specs.Prelude.{IfOk, Result, Ok, Err, nat_lt, not, unwrap_or, if◌then◌else◌}
 use Rattle.std.specs.declared.option.Option.{Option}
 use Rattle.std.specs.List.{All, list_any, sum_by}
@@ -10,7 +10,7 @@ use Rattle.rules_typing.specs.Fits.{is_place}
 use Rattle.rules_values.specs.ByteForms.{is_implicit, is_key_hash}
 use Rattle.rules_world.specs.Balances as rules
 use Rattle.rules_world.specs.Contents.{Content}
-use Rattle.rules_world.specs.Groups.{Turn, all_applied, one_failed, all_fees, is_over_gas, refusal_of, fees_taken, setting_of, Settled, settled_by, group, unless_refused, admitted, in_turn}
+use Rattle.rules_world.specs.Groups.{all_fees, is_over_gas, refusal_of, fees_taken, setting_of, settled_by, group, unless_refused, admitted, in_turn}
 use Rattle.rules_world.specs.Laws.{IsGroup}
 use Rattle.rules_world.specs.Outcomes.{no_counts, Setting}
 use Rattle.rules_world.specs.Receipts.{GroupFault, UnknownSource, GasTooHigh, FeeTooHigh, Refused, Done}
@@ -22,7 +22,7 @@ use Rattle.mich_group.specs.Trees.{Goes}
 use Rattle.mich_group.specs.Turns.{AreApplied, AreBroken}
 use Rattle.mich_ops.specs.Told.{told_receipt, told_status}
 use Rattle.mich_ops.specs.Told as t
-use Rattle.mich_ops.specs.View.{fault, status}
+use Rattle.mich_ops.specs.View.{fault}
 use Rattle.mich_ops.specs.declared.receipt.GroupFault.{GroupFault as Why}
 use Rattle.mich_ops.specs.declared.receipt.GroupReceipt.TheVariants as receipt
 use Rattle.mich_ops.specs.declared.receipt.Status.{Status as Said}

@@ -1,18 +1,17 @@
 -- The contents of a group on their way.
-use Rattle.std.proofs.Common.{◌≡◌, ◌≤◌, ◌<◌, ◌+◌, ◌-◌, ℕ, zero, suc, List, [], ◌∷◌, ◌++◌, map, length, drop, get_or, Ok, Err, Result, drop-cons, add-one, refl, sym, ap, ◌∙◌, subst, arith, unsigned_abs, pos, int_lt, Bool, true, false, ℤ}
+use Rattle.std.proofs.Common.{◌≡◌, ◌≤◌, ◌<◌, ◌+◌, ◌-◌, ℕ, zero, suc, List, [], ◌∷◌, ◌++◌, map, length, drop, get_or, Ok, Err, drop-cons, add-one, refl, sym, ap, ◌∙◌, subst, arith, unsigned_abs, pos, int_lt, Bool, true, false, ℤ}
 use Rattle.std.specs.Prelude.{replicate}
 use Rattle.std.specs.List.{All, list_any}
 use Rattle.std.specs.Prelude.{◌||◌, ◌≤ℤ◌, ◌<ℤ◌}
 use Rattle.std.proofs.lemmas.Int.{ints}
 use Rattle.std.proofs.lemmas.List.Elements.{All-head, All-tail}
 use Rattle.std.proofs.lemmas.List.{append_assoc, append-nil, map-append, length-map, replicate-append-replicate}
-use Rattle.rules_steps.specs.Failure.{Failure}
-use Rattle.rules_world.specs.Contents.{Content, Action}
-use Rattle.rules_world.specs.Forms.{IsContent, IsAction}
+use Rattle.rules_world.specs.Contents.{Content}
+use Rattle.rules_world.specs.Forms.{IsContent}
 use Rattle.rules_gas.specs.Prices.{Listed}
 use Rattle.rules_world.specs.Groups.{setting_of, is_over_gas, most_gas, Turn, all_applied, one_failed, stuck_turn, behind_applied, with_tree, skipped, in_turn}
 use Rattle.rules_world.specs.Outcomes.{Setting, Waiting, ordered, Counts as PlainCounts}
-use Rattle.rules_world.specs.Receipts.{Status, Applied, Backtracked, Failed, Skipped}
+use Rattle.rules_world.specs.Receipts.{Status, Applied, Backtracked, Failed}
 use Rattle.rules_world.specs.Trees.{Walk, completed, broken_off, stuck_walk, tree}
 use Rattle.rules_world.specs.World.{World as PlainWorld}
 use Rattle.laws_runs.specs.Going.{IsGoing}
@@ -20,7 +19,7 @@ use Rattle.laws_world.proofs.Walks.{KeepsWalk, tree_keeps, begins}
 use Rattle.mich_machine.specs.Calls.{counts_of}
 use Rattle.mich_interpreter.specs.declared.state.Counts.{Counts}
 use Rattle.mich_ops.specs.Told.{told, told_status}
-use Rattle.mich_ops.specs.View.{effect, failure, status, content as content_of}
+use Rattle.mich_ops.specs.View.{effect, status, content as content_of}
 use Rattle.mich_ops.specs.declared.failure.Failure.{Failure as Why}
 use Rattle.mich_ops.specs.declared.group.Content.{Content as Ordered}
 use Rattle.mich_ops.specs.declared.receipt.Effect.{Effect as Done}
@@ -28,7 +27,6 @@ use Rattle.mich_ops.specs.declared.receipt.Status.{Status as Said}
 use Rattle.mich_ops.specs.declared.receipt.Status.TheVariants as said
 use Rattle.mich_world.specs.World.{World}
 use Rattle.mich_group.specs.Trees.{Goes, IsWalked, WalksAs}
-use Rattle.mich_group.specs.declared.tree.TreeError.{TreeError}
 use Rattle.mich_group.specs.declared.tree.TreeError.TheVariants as tree_error
 use Rattle.mich_group.specs.Turns.{ContentAs, IsDone, IsBroken, AreApplied, AreBroken}
 use Rattle.mich_group.specs.declared.content.Ended.{Ended}

@@ -1,5 +1,5 @@
 -- Operations with all that they emit, on their way and at their end (Octez "Operations", the order of internal operations).
-use Rattle.std.specs.Prelude.{◌≡◌, ◌≤◌, ◌+◌, ℕ, List, [], ◌∷◌, ◌++◌, map, Result, Ok, Err, Bool, true, false}
+use Rattle.std.specs.Prelude.{◌≡◌, ◌≤◌, ◌+◌, ℕ, List, ◌∷◌, ◌++◌, map, Result, Ok, Err, Bool, true, false}
 use Rattle.rules_world.specs.Receipts.{Effect}
 use Rattle.rules_world.specs.World.{World as PlainWorld}
 use Rattle.rules_world.specs.Outcomes.{Setting, Waiting, Counts as PlainCounts, Success, applied, failed}

@@ -1,4 +1,4 @@
-use Rattle.std.proofs.Common.{Ok, ◌≡◌, ◌≤◌, ◌<◌, ◌-◌, ◌+◌, ◌∷◌, [], ℕ, suc, List, length, map, drop, refl, sym, ap, ◌∙◌, subst, arith, add-one}
+use Rattle.std.proofs.Common.{Ok, ◌≡◌, ◌≤◌, ◌-◌, ◌+◌, ◌∷◌, [], ℕ, suc, List, length, map, drop, refl, sym, ap, ◌∙◌, subst, arith, add-one}
 use Rattle.std.proofs.lemmas.List.{length-map, length-drop, drop_all}
 use Rattle.rules_world.specs.Contents.{Content}
 use Rattle.rules_world.specs.Groups.{setting_of, in_turn}

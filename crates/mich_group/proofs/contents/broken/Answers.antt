@@ -1,6 +1,5 @@
-use Rattle.std.proofs.Common.{◌≡◌, ℕ, List, [], ◌∷◌, ◌++◌, ap, ◌∙◌, arith}
+use Rattle.std.proofs.Common.{◌≡◌, ℕ, [], ◌∷◌, ◌++◌, ap, ◌∙◌, arith}
 use Rattle.std.specs.Prelude.{replicate}
-use Rattle.mich_ops.specs.declared.receipt.Status.{Status}
 use Rattle.mich_ops.specs.declared.receipt.Status.TheVariants as status
 use Rattle.mich_group.proofs.contents.broken.Goals as goal
 

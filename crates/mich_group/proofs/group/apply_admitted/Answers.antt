@@ -1,4 +1,4 @@
-use Rattle.std.proofs.Common.{◌≡◌, [], List, map, sym, subst, Ok}
+use Rattle.std.proofs.Common.{[], List, map, sym, subst, Ok}
 use Rattle.rules_world.specs.Groups.{in_turn, setting_of}
 use Rattle.rules_world.specs.Outcomes.{no_counts}
 use Rattle.mich_base.specs.declared.memory.Memory.{Memory}
