@@ -101,12 +101,12 @@ loop-index-preserved c =
     let ops = ordered (content_of x.result).action ∷ [] in
     let g = c.requires.goes in
     let at = λ (start w : PlainWorld) (g : Goes start s 0 c.args.world.now w [] (counts_of c.args.counts.now)).
-        turned_from cs l.index x.result c.loop-index-test.true x.is start s (in_turn s (map content_of cs) w (counts_of c.args.counts.now)) l.world counts l.statuses (l.invariant.turned start w g) in
+    turned_from cs l.index x.result c.loop-index-test.true x.is start s (in_turn s (map content_of cs) w (counts_of c.args.counts.now)) l.world counts l.statuses (l.invariant.turned start w g) in
     let ends = λ (start w : PlainWorld) (g : Goes start s 0 c.args.world.now w [] (counts_of c.args.counts.now)).
-        ended_as Memory prices source l.counts.group c.args.counts.now.group (at start w g).world ops _ _ counts c.apply_content.new.world l.counts c.apply_content.new.counts _ _
-        l.invariant.group c.gas_of.ensures c.in-Applied.is (c.in_ok-used.ensures.ends start (at start w g).world (suc l.index)
-        (goes_group prices source c.args.counts.now.group l.counts.group start (suc l.index) l.world (at start w g).world ops counts (sym l.invariant.group)
-        (content_goes start s (in_turn s (map content_of cs) w (counts_of c.args.counts.now)) l.world counts l.statuses l.index (content_of x.result) left (at start w g) form few))) in
+    ended_as Memory prices source l.counts.group c.args.counts.now.group (at start w g).world ops _ _ counts c.apply_content.new.world l.counts c.apply_content.new.counts _ _
+    l.invariant.group c.gas_of.ensures c.in-Applied.is (c.in_ok-used.ensures.ends start (at start w g).world (suc l.index)
+    (goes_group prices source c.args.counts.now.group l.counts.group start (suc l.index) l.world (at start w g).world ops counts (sym l.invariant.group)
+    (content_goes start s (in_turn s (map content_of cs) w (counts_of c.args.counts.now)) l.world counts l.statuses l.index (content_of x.result) left (at start w g) form few))) in
     record {
       group = (ends g.0 g.1 g.2).group ∙ l.invariant.group;
       hosting = subst (λ (e : Ended). OnEnded {E = Memory} (Ok e) (IsHosting c.apply_content.new.world)) c.in-Applied.is c.in_ok-used.ensures.hosting;
