@@ -1,33 +1,70 @@
 -- What taking statements leaves.
-use Rattle.std.specs.Prelude.{◌≡◌, ◌+◌, ℕ, List, [], ◌++◌, length, Option, Some, None, Result, Ok, Err}
-use Rattle.rules_replay.specs.Places.{Placed, AreStatements}
-use Rattle.rules_replay.specs.Receipts.{Receipt}
-use Rattle.rules_replay.specs.World.{World}
-use Rattle.rules_replay.specs.Replay.{Step, goes_on, stops, going, run_all, Ending}
-use Rattle.rules_replay.specs.Lines.{group_lines, ending_lines}
+use Rattle.std.specs.Prelude.{◌≡◌, ◌+◌, ◌<◌, ◌^◌, ℕ, List, [], ◌++◌, length, map, Option, Some, None, Result, Ok, Err}
+use Rattle.rules_course.specs.Course.{Course as PlainCourse, Step, goes_on, stops, stuck_step, BadOrder, BadCosts, RepeatedAccount, SupplyLimit}
 use Rattle.rules_replay.specs.Answers.{Answer, status_of}
+use Rattle.rules_replay.specs.Lines.{group_lines, ending_lines}
+use Rattle.rules_replay.specs.Places.{Placed, AreStatements}
+use Rattle.rules_replay.specs.Replay.{Run, going, stopped, stuck_run, run_all, Ending}
+use Rattle.rules_world.specs.Receipts.{Receipt}
 use Rattle.mich_base.specs.declared.memory.Memory.{Memory}
+use Rattle.mich_course.specs.Following.{Follows, told}
+use Rattle.mich_course.specs.declared.course.Course.{Course}
+use Rattle.mich_course.specs.declared.error.CourseError.{CourseError}
+use Rattle.mich_course.specs.declared.error.CourseError.TheVariants as error
+use Rattle.mich_ops.specs.Told.{told_receipt}
+use Rattle.mich_ops.specs.declared.receipt.GroupReceipt.{GroupReceipt}
 use Rattle.mich_replay.specs.declared.outcome.FileFault.{FileFault}
 use Rattle.mich_replay.specs.View.{file_fault_seen}
 
--- a grant left this world, or is this refusal
-abbrev pub IsGranting : Step → World → Option FileFault → Type 0
-IsGranting s now None = s ≡ goes_on now []
-IsGranting s now (Some fault) = s ≡ stops (file_fault_seen fault)
+-- ---- courses, of which there is none before the first statement
 
--- a statement left this world and these lines, or is this refusal, which leaves the lines
-abbrev pub IsTaken : Step → List (List ℕ) → Option World → List (List ℕ) → Result (Option FileFault) Memory → Type 0
-IsTaken s before now after (Ok None) = (w : World) × (more : List Receipt) × (s ≡ goes_on w more) × (now ≡ Some w) × (after ≡ before ++ group_lines (length before + 1) more)
-IsTaken s before now after (Ok (Some fault)) = (s ≡ stops (file_fault_seen fault)) × (after ≡ before)
-IsTaken s before now after (Err e) = Unit {0}
+abbrev pub FollowsIf : Option Course → Option PlainCourse → Type 0
+FollowsIf None None = Unit {0}
+FollowsIf (Some c) (Some p) = Follows c p
+FollowsIf None (Some p) = ⊥
+FollowsIf (Some c) None = ⊥
 
--- statements of the file, up to a place, left this world, and these are the lines of their receipts
-pub record Reached (file : List ℕ) (place : ℕ) (world : Option World) (lines : List (List ℕ)) : Type 0 where
+abbrev pub groups_of : Option Course → ℕ
+groups_of None = 0
+groups_of (Some c) = c.groups
+
+-- there may be one more group
+abbrev pub HasRoom : Option Course → Type 0
+HasRoom c = groups_of c + 1 < 2 ^ 64
+
+-- A statement leads to this course, and tells this; or it is refused so. After want of memory nothing is said.
+abbrev pub Leads : Step → Option Course → Result (Option GroupReceipt) CourseError → Type 0
+Leads (goes_on p receipts) c (Ok r) = FollowsIf c (Some p) × (told r ≡ map told_receipt receipts)
+Leads (stops BadOrder) c (Err error.BadOrder) = Unit {0}
+Leads (stops BadCosts) c (Err error.BadCosts) = Unit {0}
+Leads (stops RepeatedAccount) c (Err error.RepeatedAccount) = Unit {0}
+Leads (stops SupplyLimit) c (Err error.SupplyLimit) = Unit {0}
+Leads step c (Err error.Memory) = Unit {0}
+Leads step c r = ⊥
+
+-- ---- lines
+
+-- behind these receipts the code's course follows one of the rules, and the lines tell them
+pub record Stands (receipts : List Receipt) (p : Option PlainCourse) (c : Option Course) (lines : List (List ℕ)) : Type 0 where
+  pub follows : FollowsIf c p
+  pub count : groups_of c ≡ length receipts
+  pub told : lines ≡ group_lines 1 receipts
+
+-- a statement at a place left this course and these lines, or is this refusal, which leaves the lines
+abbrev pub IsTaken : Run → ℕ → Option Course → List (List ℕ) → Result (Option FileFault) Memory → Type 0
+IsTaken (going receipts p) place c lines (Ok None) = Stands receipts p c lines
+IsTaken (stopped receipts f at) place c lines (Ok (Some fault)) = (f ≡ file_fault_seen fault) × (at ≡ place) × (lines ≡ group_lines 1 receipts)
+IsTaken run place c lines (Err e) = Unit {0}
+IsTaken run place c lines (Ok r) = ⊥
+
+-- statements of the file, up to a place, left this course, and these are the lines of their receipts
+pub record Reached (file : List ℕ) (place : ℕ) (c : Option Course) (lines : List (List ℕ)) : Type 0 where
   pub statements : List Placed
   pub receipts : List Receipt
+  pub plain : Option PlainCourse
   pub stand : AreStatements file 0 statements place
-  pub run : run_all (going [] None) statements ≡ going receipts world
-  pub told : lines ≡ group_lines 1 receipts
+  pub run : run_all (going [] None) statements ≡ going receipts plain
+  pub stands : Stands receipts plain c lines
 
 -- the answer with these lines of receipts, where a file ends so
 abbrev pub closing : List (List ℕ) → Ending → Answer

@@ -1,0 +1,3 @@
+pub mod Charged
+pub mod Fields
+pub mod Good

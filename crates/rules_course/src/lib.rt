@@ -1,0 +1,2 @@
+//! What the statements of a file do, one after another. Definitions in specs/.
+#![tactic(auto)]
