@@ -27,7 +27,10 @@ use Rattle.laws_course.proofs.Charged.{nothing_charged, table_charged}
 pub courses_begin_good : CoursesBeginGood
 courses_begin_good (Chain id level moment) s =
     let whole = new_worlds_are_good id level moment s.0 s.1 s.2 in
-    (record { whole = whole.0; charged = nothing_charged; new = λ number more small. whole.1 number }, refl, refl)
+    (record { whole = whole.0; charged = nothing_charged; new = λ number more small. whole.1 number }, refl, refl, none)
+  where
+    none : 0 ≤ 1
+    none = omega arith
 courses_begin_good (Costs table) s = tt
 courses_begin_good (Account who mutez) s = tt
 courses_begin_good (Block level moment) s = tt
@@ -39,9 +42,15 @@ module _ (c : Course) (g : IsGoodCourse c) where
   nothing_more : (n : ℕ) → n ≡ n + 0
   nothing_more n = omega arith
 
+  none : 0 ≤ 1
+  none = omega arith
+
+  one : 1 ≤ 1
+  one = omega arith
+
   priced : (table : Tree) (r : Result Listed ℕ) → table_of table ≡ r → StaysGood c.groups c.world.granted 0 (with_prices c r)
   priced table (Ok prices) e =
-      (record { whole = g.whole; charged = table_charged table prices e; new = g.new }, nothing_more c.groups, nothing_more c.world.granted)
+      (record { whole = g.whole; charged = table_charged table prices e; new = g.new }, nothing_more c.groups, nothing_more c.world.granted, none)
   priced table (Err location) e = tt
 
   costs_good : (b : Bool) (table : Tree) → StaysGood c.groups c.world.granted 0 (costs_step b c table)
@@ -64,6 +73,7 @@ module _ (c : Course) (g : IsGoodCourse c) where
         record { whole = kept.0; charged = g.charged; new = λ number more small. kept.1 number (g.new number more small) },
         nothing_more c.groups,
         endowed_more w who mutez e,
+        none,
       )
   grant_good who mutez Repeated key e = tt
   grant_good who mutez TooMuch key e = tt
@@ -97,7 +107,7 @@ module _ (c : Course) (g : IsGoodCourse c) where
   block_good level moment l m = by (is_later c.world level moment)
     where
       by : (b : Bool) → StaysGood c.groups c.world.granted 0 (if b then goes_on (timed c level moment) [] else stops Rattle.rules_course.specs.Course.BadOrder)
-      by true = (record { whole = timed_whole level moment l m; charged = g.charged; new = g.new }, nothing_more c.groups, nothing_more c.world.granted)
+      by true = (record { whole = timed_whole level moment l m; charged = g.charged; new = g.new }, nothing_more c.groups, nothing_more c.world.granted, none)
       by false = tt
 
   may_settle : (source : List ℕ) (contents : List Content) → c.groups + 1 < 2 ^ 64 → IsStatement (Group source contents) →
@@ -130,6 +140,7 @@ module _ (c : Course) (g : IsGoodCourse c) where
         },
         refl,
         sym kept.0.mutez ∙ supplies ∙ g.whole.mutez ∙ nothing_more c.world.granted,
+        one,
       )
   group_good source contents None may e =
       let no : false ≡ true = subst (λ (o : Option Settled). IsSome o) e (groups_settle c.prices (c.groups + 1) source contents c.world may) in

@@ -1,5 +1,5 @@
 -- Laws of the course of a file (this host's own).
-use Rattle.std.specs.Prelude.{◌≡◌, ◌+◌, ◌<◌, ◌^◌, ℕ, List, length, Some}
+use Rattle.std.specs.Prelude.{◌≡◌, ◌+◌, ◌<◌, ◌≤◌, ◌^◌, ℕ, List, length, Some}
 use Rattle.rules_base.specs.Tree.{Tree, size}
 use Rattle.rules_course.specs.Course.{Course, Step, goes_on, stops, stuck_step, first_step, step_behind}
 use Rattle.rules_course.specs.Ranges.{IsStatement}
@@ -27,11 +27,11 @@ granted_by (Costs table) = 0
 granted_by (Block level moment) = 0
 granted_by (Group source contents) = 0
 
--- Behind so many groups and so much granted mutez: the course is good, its receipts are counted, and this was granted; or the
--- statement is refused.
+-- Behind so many groups and so much granted mutez: the course is good, its receipts, at most one, are counted, and this was granted;
+-- or the statement is refused.
 abbrev pub StaysGood : ℕ → ℕ → ℕ → Step → Type 0
 StaysGood groups granted more (goes_on c receipts) =
-    IsGoodCourse c × (c.groups ≡ groups + length receipts) × (c.world.granted ≡ granted + more)
+    IsGoodCourse c × (c.groups ≡ groups + length receipts) × (c.world.granted ≡ granted + more) × (length receipts ≤ 1)
 StaysGood groups granted more (stops why) = Unit {0}
 StaysGood groups granted more stuck_step = ⊥
 

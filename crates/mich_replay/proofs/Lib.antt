@@ -2,6 +2,7 @@ pub mod Conserved
 pub mod Once
 pub mod Promise
 pub mod Reaching
+pub mod Taking
 pub mod Truth
 pub mod Written
 pub mod Cut

@@ -1,17 +1,15 @@
 -- What taking statements leaves.
-use Rattle.std.specs.Prelude.{◌≡◌, ◌+◌, ◌<◌, ◌^◌, ℕ, List, [], ◌++◌, length, map, Option, Some, None, Result, Ok, Err}
-use Rattle.rules_course.specs.Course.{Course as PlainCourse, Step, goes_on, stops, stuck_step, BadOrder, BadCosts, RepeatedAccount, SupplyLimit}
+use Rattle.std.specs.Prelude.{◌≡◌, ◌+◌, ◌<◌, ◌^◌, ℕ, List, [], ◌++◌, length, Option, Some, None, Result, Ok, Err}
+use Rattle.rules_course.specs.Course.{Course as PlainCourse, Step}
 use Rattle.rules_replay.specs.Answers.{Answer, status_of}
 use Rattle.rules_replay.specs.Lines.{group_lines, ending_lines}
 use Rattle.rules_replay.specs.Places.{Placed, AreStatements}
 use Rattle.rules_replay.specs.Replay.{Run, going, stopped, stuck_run, run_all, Ending}
 use Rattle.rules_world.specs.Receipts.{Receipt}
 use Rattle.mich_base.specs.declared.memory.Memory.{Memory}
-use Rattle.mich_course.specs.Following.{Follows, told}
+use Rattle.mich_course.specs.Following.{Follows, Goes, Begins}
 use Rattle.mich_course.specs.declared.course.Course.{Course}
 use Rattle.mich_course.specs.declared.error.CourseError.{CourseError}
-use Rattle.mich_course.specs.declared.error.CourseError.TheVariants as error
-use Rattle.mich_ops.specs.Told.{told_receipt}
 use Rattle.mich_ops.specs.declared.receipt.GroupReceipt.{GroupReceipt}
 use Rattle.mich_replay.specs.declared.outcome.FileFault.{FileFault}
 use Rattle.mich_replay.specs.View.{file_fault_seen}
@@ -32,15 +30,11 @@ groups_of (Some c) = c.groups
 abbrev pub HasRoom : Option Course → Type 0
 HasRoom c = groups_of c + 1 < 2 ^ 64
 
--- A statement leads to this course, and tells this; or it is refused so. After want of memory nothing is said.
+-- a statement leads to this course, and tells this; or it is refused so, as the rules refuse it
 abbrev pub Leads : Step → Option Course → Result (Option GroupReceipt) CourseError → Type 0
-Leads (goes_on p receipts) c (Ok r) = FollowsIf c (Some p) × (told r ≡ map told_receipt receipts)
-Leads (stops BadOrder) c (Err error.BadOrder) = Unit {0}
-Leads (stops BadCosts) c (Err error.BadCosts) = Unit {0}
-Leads (stops RepeatedAccount) c (Err error.RepeatedAccount) = Unit {0}
-Leads (stops SupplyLimit) c (Err error.SupplyLimit) = Unit {0}
-Leads step c (Err error.Memory) = Unit {0}
-Leads step c r = ⊥
+Leads step (Some c) r = Goes step c r
+Leads step None (Err e) = Begins step (Err e)
+Leads step None (Ok r) = ⊥
 
 -- ---- lines
 
