@@ -1,11 +1,11 @@
 -- Each price that a table lists costs some gas.
-use Rattle.std.proofs.Common.{◌≡◌, ◌≤◌, ◌+◌, ◌&&◌, ℕ, ℤ, pos, int_le, unsigned_abs, Bool, true, false, List, [], ◌∷◌, Some, None, Ok, Err, is_some, unwrap_or, refl, sym, subst, arith, if◌then◌else◌}
+use Rattle.std.proofs.Common.{◌≡◌, ◌≤◌, ◌+◌, ◌&&◌, ℕ, ℤ, pos, int_le, unsigned_abs, Bool, true, false, Some, None, Ok, Err, is_some, unwrap_or, refl, sym, subst, arith, if◌then◌else◌}
 use Rattle.std.specs.declared.option.Option.{Option}
 use Rattle.std.specs.Prelude.{Result}
 use Rattle.rules_base.specs.Tree.{Tree, int, str, bytes, prim, seq, Trees, none, more, size}
 use Rattle.rules_gas.specs.declared.Kind.{Kind}
 use Rattle.rules_gas.specs.Kinds.{is_same_kind, kind_named}
-use Rattle.rules_gas.specs.Prices.{Price, Listed, nothing_listed, standard_price, with_price, price_of}
+use Rattle.rules_gas.specs.Prices.{Price, Listed, nothing_listed, standard_price, with_price}
 use Rattle.rules_gas.specs.Tables.{Listing, is_between, price_from, listing_from, listing_of, listing, row_over, rows_over, table_of}
 use Rattle.laws_evaluation.specs.Laws.{IsCharged}
 

@@ -1,5 +1,5 @@
 -- The ranges of the fields of statements.
-use Rattle.std.proofs.Common.{◌≡◌, ◌≤◌, ◌<◌, ◌+◌, ◌-◌, ◌^◌, ◌&&◌, ◌≤ℤ◌, ℕ, ℤ, pos, neg_ℤ, int_le, nat_le, unsigned_abs, Bool, true, false, List, [], ◌∷◌, length, codes, Some, None, refl, sym, ap, ◌∙◌, subst, arith, suc, if◌then◌else◌}
+use Rattle.std.proofs.Common.{◌≡◌, ◌≤◌, ◌<◌, ◌+◌, ◌-◌, ◌^◌, ◌&&◌, ◌≤ℤ◌, ℕ, ℤ, pos, neg_ℤ, int_le, nat_le, unsigned_abs, Bool, true, false, List, [], ◌∷◌, length, codes, Some, None, refl, sym, ap, subst, arith, suc, if◌then◌else◌}
 use Rattle.std.specs.declared.option.Option.{Option}
 use Rattle.std.specs.Option.{option_map}
 use Rattle.std.specs.List.{All}
@@ -12,9 +12,9 @@ use Rattle.rules_values.specs.ByteForms.{is_chain_id, is_contract, is_entrypoint
 use Rattle.rules_values.specs.Forms.{is_ticket_amount}
 use Rattle.rules_world.specs.Balances.{most_mutez}
 use Rattle.rules_world.specs.Contents.{Action, Originate, Call, Give, Content}
-use Rattle.rules_world.specs.Forms.{is_moment, IsAction, IsContent, IsSmall}
+use Rattle.rules_world.specs.Forms.{is_moment, IsAction, IsContent}
 use Rattle.rules_course.specs.Ranges.{IsStatement}
-use Rattle.rules_statements.specs.Statements.{Statement, Chain, Costs, Account, Block, Group, ◌>>=◌, only_if, integer_of, within, number_of, moment_of, gas_of, ticket_amount_of, bytes_of, entrypoint_of, table_of, nodes_of, named, originate_of, call_of, give_of, action_by, content_by, each_content, counted, contents_of, chain_of, costs_of, account_of, block_of, group_of, statement_by, form, most_level, most_contents, most_tickets}
+use Rattle.rules_statements.specs.Statements.{Statement, Chain, Costs, Account, Block, Group, ◌>>=◌, only_if, integer_of, within, number_of, moment_of, gas_of, ticket_amount_of, bytes_of, entrypoint_of, table_of, nodes_of, named, originate_of, call_of, give_of, action_by, content_by, each_content, contents_of, chain_of, costs_of, account_of, block_of, group_of, statement_by, most_level, most_contents, most_tickets}
 use Rattle.laws_course.specs.Laws.{StatementsHaveRanges}
 
 -- ---- what is found step by step

@@ -1,5 +1,5 @@
 -- Good courses stay good.
-use Rattle.std.proofs.Common.{◌≡◌, ◌≢◌, ◌≤◌, ◌<◌, ◌+◌, ◌^◌, ℕ, ℤ, Bool, true, false, List, [], ◌∷◌, length, Some, None, Ok, Err, refl, sym, ap, ◌∙◌, subst, arith, is_some, IsSome, if◌then◌else◌}
+use Rattle.std.proofs.Common.{◌≡◌, ◌≢◌, ◌≤◌, ◌<◌, ◌+◌, ◌^◌, ℕ, ℤ, Bool, true, false, List, [], Some, None, Ok, Err, refl, sym, ap, ◌∙◌, subst, arith, is_some, IsSome, if◌then◌else◌}
 use Rattle.std.specs.Prelude.{Result, nat_le}
 use Rattle.std.specs.declared.option.Option.{Option}
 use Rattle.rules_base.specs.Tree.{Tree}
@@ -8,14 +8,13 @@ use Rattle.rules_gas.specs.Tables.{table_of}
 use Rattle.rules_values.specs.ByteForms.{is_key_hash}
 use Rattle.rules_course.specs.Course.{Course, Step, goes_on, stops, stuck_step, started, onward, timed, is_later, with_prices, costs_step, granting, block_step, numbered, group_step, first_step, step_behind}
 use Rattle.rules_course.specs.Ranges.{IsStatement}
-use Rattle.rules_statements.specs.Statements.{Statement, Chain, Costs, Account, Block, Group}
-use Rattle.rules_world.specs.Balances.{Grant, Granted, Repeated, TooMuch, granted_to, endowed, most_mutez, supply}
+use Rattle.rules_statements.specs.Statements.{Chain, Costs, Account, Block, Group}
+use Rattle.rules_world.specs.Balances.{Grant, Granted, Repeated, TooMuch, granted_to, endowed, most_mutez}
 use Rattle.rules_world.specs.Contents.{Content}
 use Rattle.rules_world.specs.Forms.{is_moment}
 use Rattle.rules_world.specs.Groups.{Settled, group}
 use Rattle.rules_world.specs.Laws.{IsGroup}
 use Rattle.rules_world.specs.World.{World, account_at}
-use Rattle.laws_evaluation.specs.Laws.{IsCharged}
 use Rattle.laws_runs.specs.Worlds.{IsWhole}
 use Rattle.laws_world.proofs.Chains.{grants_keep_good, groups_keep_whole, new_worlds_are_good}
 use Rattle.laws_world.proofs.Groups.{groups_settle, groups_conserve_mutez}

@@ -1,5 +1,5 @@
 -- Laws of the course of a file (this host's own).
-use Rattle.std.specs.Prelude.{◌≡◌, ◌+◌, ◌<◌, ◌≤◌, ◌^◌, ℕ, List, length, Some}
+use Rattle.std.specs.Prelude.{◌≡◌, ◌+◌, ◌<◌, ◌≤◌, ◌^◌, ℕ, length, Some}
 use Rattle.rules_base.specs.Tree.{Tree, size}
 use Rattle.rules_course.specs.Course.{Course, Step, goes_on, stops, stuck_step, first_step, step_behind}
 use Rattle.rules_course.specs.Ranges.{IsStatement}
