@@ -1,6 +1,5 @@
 -- What fits a type holds big maps whose keys increase; and what can be pushed holds none.
-use Rattle.std.proofs.Common.{◌≡◌, Bool, true, false, List, refl}
-use Rattle.std.specs.Prelude.{◌&&◌}
+use Rattle.std.proofs.Common.{◌≡◌, true, refl}
 use Rattle.std.proofs.lemmas.Bool.{and_parts, and_from}
 use Rattle.rules_types.specs.declared.Simple.{Simple}
 use Rattle.rules_types.specs.declared.Simple.TheVariants as s
@@ -11,10 +10,8 @@ use Rattle.rules_values.specs.Forms.{has_simple_form, AllHave, AllEntriesHave}
 use Rattle.rules_values.specs.Val.{Val, Vals, Pairs, no_val, more_vals, no_pair, more_pairs}
 use Rattle.rules_values.specs.Val as v
 use Rattle.rules_typing.specs.Fits.{Known, Fits}
-use Rattle.mich_term.specs.Layers.{NoBigMap}
 use Rattle.mich_term.specs.ValueView.{val}
 use Rattle.mich_term.specs.declared.value.Value.{Value}
-use Rattle.mich_term.proofs.Each as e
 use Rattle.mich_stack.specs.Views.{Sight, seen}
 use Rattle.laws_sights.specs.Sights.{is_plain, are_plain, entries_plain, IsSane, AreSane, EntriesSane}
 use Rattle.laws_sights.proofs.Parts.{plain_tells, plain_seen}

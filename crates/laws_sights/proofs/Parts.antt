@@ -1,18 +1,16 @@
 -- What is so of what a value is seen as is so of its parts, and what follows of each big map in it; and the other way round.
-use Rattle.std.proofs.Common.{◌≡◌, ℕ, Bool, true, false, List, [], ◌∷◌, map, Some, None, refl, sym, ap, ◌∙◌, subst}
-use Rattle.std.specs.Prelude.{option_map, ◌&&◌}
-use Rattle.std.specs.declared.option.Option.{Option}
+use Rattle.std.proofs.Common.{◌≡◌, true, List, [], ◌∷◌, map, refl, ap, ◌∙◌, subst}
 use Rattle.std.specs.List.{AllByRecursion}
 use Rattle.std.proofs.lemmas.Bool.{and_parts, and_from}
-use Rattle.rules_values.specs.Val.{Val, Vals, Pairs, no_val, more_vals, no_pair, more_pairs, some, left, right, both, list, table, big_table}
+use Rattle.rules_values.specs.Val.{Val, Vals, Pairs, more_vals, more_pairs, some, left, right, both, list, table, big_table}
 use Rattle.mich_term.specs.View.{vals_of, pairs_of}
 use Rattle.mich_term.specs.ValueView.{val, value_step, big_step}
 use Rattle.mich_term.specs.Layers.{NoBigMap}
 use Rattle.mich_term.specs.declared.datum.Datum.{Datum}
-use Rattle.mich_term.specs.declared.value.Value.{Value, roll-Value, ind-Value, fold-Value, fold-roll-Value, map-Value}
+use Rattle.mich_term.specs.declared.value.Value.{Value, roll-Value, ind-Value, fold-roll-Value, map-Value}
 use Rattle.mich_term.specs.declared.value.Value.TheOpen.{Value-F, BigMap-F}
-use Rattle.mich_term.specs.declared.value.Value.TheFolds.{ind-BigMap, fold-BigMap, fold_out-BigMap, map-BigMap}
-use Rattle.mich_term.specs.declared.value.BigMap.{BigMap, out-BigMap, roll-BigMap}
+use Rattle.mich_term.specs.declared.value.Value.TheFolds.{fold-BigMap}
+use Rattle.mich_term.specs.declared.value.BigMap.{BigMap}
 use Rattle.mich_term.proofs.Each as e
 use Rattle.mich_bigmap.proofs.Staying.{equals, agree}
 use Rattle.mich_stack.specs.Views.{Sight, seen}

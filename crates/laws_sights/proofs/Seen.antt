@@ -1,7 +1,7 @@
 -- A value whose big maps have their form, with bases in the store, is seen as it stands there; and a value that is seen as one that
 -- fits a type is such a value.
 use Rattle.std.proofs.Common.{◌≡◌, ℕ, Bool, true, false, List, [], ◌∷◌, map, Some, None, refl, sym, ap, ◌∙◌, subst}
-use Rattle.std.specs.Prelude.{option_map, is_some, ◌&&◌}
+use Rattle.std.specs.Prelude.{option_map, is_some}
 use Rattle.std.specs.declared.option.Option.{Option}
 use Rattle.std.specs.declared.cmp.Ordering.{Ordering}
 use Rattle.std.specs.declared.cmp.Ordering.TheVariants.{Less, Equal, Greater}
@@ -13,23 +13,22 @@ use Rattle.rules_types.specs.Kind.{Kind}
 use Rattle.rules_typing.specs.Fits.{Known, Fits}
 use Rattle.rules_values.specs.Tables.{AreIncreasingKeys}
 use Rattle.rules_values.specs.Tickets.{Held, pair_tickets}
-use Rattle.rules_values.specs.Val.{Val, Vals, Pairs}
+use Rattle.rules_values.specs.Val.{Val, Pairs}
 use Rattle.mich_term.specs.Keyed.{by, IsIncreasing}
 use Rattle.mich_term.specs.Layers.{NoBigMap, PutsNoBigMap, FormedLayer, AreFormed}
-use Rattle.mich_term.specs.ValueView.{val, value_step, change, puts, put_pairs}
+use Rattle.mich_term.specs.ValueView.{val, value_step, change, puts}
 use Rattle.mich_term.specs.declared.datum.Datum.{Datum}
 use Rattle.mich_term.specs.declared.value.Value.{Value}
 use Rattle.mich_term.specs.declared.value.Value.TheOpen.{BigMap-F}
 use Rattle.mich_term.specs.declared.value.Value.TheFolds.{fold_out-BigMap, map-BigMap}
-use Rattle.mich_term.specs.declared.value.BigMap.{BigMap, out-BigMap, roll-BigMap}
+use Rattle.mich_term.specs.declared.value.BigMap.{BigMap, out-BigMap}
 use Rattle.mich_term.proofs.Each as e
 use Rattle.mich_bigmap.specs.Bases.{Bases, Changes}
-use Rattle.mich_bigmap.specs.Formed.{is_there}
 use Rattle.mich_bigmap.specs.Layers.{BasedLayer, HasBases}
 use Rattle.mich_bigmap.specs.Standing.{val_in, big_step_in}
 use Rattle.mich_bigmap.proofs.Staying.{equals, agree, each_more, each_both}
 use Rattle.mich_stack.specs.Views.{Sight, seen}
-use Rattle.laws_sights.specs.Sights.{Seen, is_less, are_above, are_increasing, put_plain, is_plain, all_plain, all_put, is_none, has_no_base, shares_well, puts_well, is_layer, odd, seen_where, sight, IsSane, AreSane, EntriesSane}
+use Rattle.laws_sights.specs.Sights.{Seen, is_less, are_above, are_increasing, put_plain, all_plain, all_put, is_none, has_no_base, shares_well, puts_well, is_layer, odd, seen_where, sight, IsSane, AreSane, EntriesSane}
 use Rattle.laws_sights.proofs.Parts.{big_seen, HasParts, tells, plain_tells, plain_seen, plain_is}
 use Rattle.laws_sights.proofs.Fitting.{fits_sane}
 

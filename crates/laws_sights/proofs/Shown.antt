@@ -1,6 +1,6 @@
 -- The sight of a store that holds no tickets shows in each big map the tickets that lie in it.
 use Rattle.std.proofs.Common.{◌≡◌, ℕ, Bool, true, false, List, [], ◌∷◌, ◌++◌, map, reverse, Some, None, refl, sym, ap, ◌∙◌, subst}
-use Rattle.std.specs.Prelude.{option_map, is_some, if◌then◌else◌, ◌&&◌}
+use Rattle.std.specs.Prelude.{is_some, if◌then◌else◌}
 use Rattle.std.specs.declared.option.Option.{Option}
 use Rattle.std.specs.declared.cmp.Ordering.{Ordering}
 use Rattle.std.specs.declared.cmp.Ordering.TheVariants.{Less, Equal, Greater}
@@ -11,7 +11,6 @@ use Rattle.rules_values.specs.Order.{order}
 use Rattle.rules_values.specs.Tables.{with_value, without_key}
 use Rattle.rules_values.specs.Tickets.{Held, tickets, all_tickets, pair_tickets}
 use Rattle.rules_values.specs.Val.{Val, Vals, Pairs, no_val, more_vals, no_pair, more_pairs, some, left, right, both, list, table, big_table}
-use Rattle.rules_values.specs.Val as v
 use Rattle.rules_bigmap.specs.Changes.{written, changed}
 use Rattle.mich_term.specs.Keyed.{by}
 use Rattle.mich_term.specs.View.{datum, vals_of, pairs_of}
@@ -28,7 +27,7 @@ use Rattle.mich_bigmap.proofs.Meaning.{none_in}
 use Rattle.mich_bigmap.proofs.Plain.{none_in_store}
 use Rattle.mich_stack.specs.Views.{Sight, seen}
 use Rattle.mich_step.specs.Shown.{as_entries, shown, all_shown, entries_shown, ShowsTickets}
-use Rattle.laws_sights.specs.Sights.{Seen, is_less, are_above, are_increasing, all_put, all_plain, is_none, has_no_base, shares_well, puts_well, is_layer, seen_where, sight}
+use Rattle.laws_sights.specs.Sights.{Seen, is_less, are_above, are_increasing, all_put, is_none, shares_well, puts_well, is_layer, seen_where, sight}
 use Rattle.laws_sights.proofs.Parts.{big_seen}
 
 -- ---- tickets as entries
