@@ -6,7 +6,7 @@ use Rattle.rules_base.specs.Tree.{Tree}
 use Rattle.rules_gas.specs.Prices.{Listed}
 use Rattle.rules_gas.specs.Tables.{table_of}
 use Rattle.rules_values.specs.ByteForms.{is_key_hash}
-use Rattle.rules_course.specs.Course.{Course, Step, goes_on, stops, stuck_step, started, onward, timed, is_later, with_prices, costs_step, granting, block_step, numbered, group_step, first_step, step_behind}
+use Rattle.rules_course.specs.Course.{Course, goes_on, stops, timed, is_later, with_prices, costs_step, granting, block_step, numbered}
 use Rattle.rules_course.specs.Ranges.{IsStatement}
 use Rattle.rules_statements.specs.Statements.{Chain, Costs, Account, Block, Group}
 use Rattle.rules_world.specs.Balances.{Grant, Granted, Repeated, TooMuch, granted_to, endowed, most_mutez}
