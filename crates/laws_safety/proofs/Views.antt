@@ -52,17 +52,17 @@ use Rattle.laws_stacks.proofs.Wells.{tickets_good}
 
 -- ---- what a view that is there is
 
-record Seeing (e : Surroundings) (a b : Kind) (w : Viewed) : Type 0 where
-  contract : e.contract_at w.hash ≡ Some w.contract
-  hash : length w.hash ≡ 20
-  whole : IsType (k.pair a w.storage)
-  packs : packable a ≡ true
-  leads : Leads (tree_type w.body place.view (k.pair a w.storage ∷ [])) (b ∷ [])
-  small : size w.body < 2 ^ 32
-  good : IsGoodContract e w.contract
-  stored : good.reading.storage ≡ w.storage
+pub record Seeing (e : Surroundings) (a b : Kind) (w : Viewed) : Type 0 where
+  pub contract : e.contract_at w.hash ≡ Some w.contract
+  pub hash : length w.hash ≡ 20
+  pub whole : IsType (k.pair a w.storage)
+  pub packs : packable a ≡ true
+  pub leads : Leads (tree_type w.body place.view (k.pair a w.storage ∷ [])) (b ∷ [])
+  pub small : size w.body < 2 ^ 32
+  pub good : IsGoodContract e w.contract
+  pub stored : good.reading.storage ≡ w.storage
 
-abbrev SeesIf : Surroundings → Kind → Kind → Option Viewed → Type 0
+abbrev pub SeesIf : Surroundings → Kind → Kind → Option Viewed → Type 0
 SeesIf e a b None = Unit {0}
 SeesIf e a b (Some w) = Seeing e a b w
 
@@ -160,7 +160,7 @@ hash_length (x ∷ xs) h = taken 20 xs (omega arith)
     taken (suc n) [] h = absurd (omega arith)
     taken (suc n) (y ∷ ys) h = let i : length (take n ys) ≡ n = taken n ys (omega arith) in omega arith
 
-sees : (e : Surroundings) → IsGood e → (a b : Kind) (name address : List ℕ) → is_address address ≡ true →
+pub sees : (e : Surroundings) → IsGood e → (a b : Kind) (name address : List ℕ) → is_address address ≡ true →
     SeesIf e a b (viewed e.contract_at name a b address)
 sees e g a b name address h = by_test (is_implicit (place_of address))
   where
@@ -174,7 +174,7 @@ sees e g a b name address h = by_test (is_implicit (place_of address))
 
 -- ---- VIEW
 
-good_in_view : (e : Surroundings) → IsGood e → (a b : Kind) (w : Viewed) → Seeing e a b w → IsGood (in_view e w)
+pub good_in_view : (e : Surroundings) → IsGood e → (a b : Kind) (w : Viewed) → Seeing e a b w → IsGood (in_view e w)
 good_in_view e g a b w s = record {
   environment = record {
     chain = g.environment.chain;

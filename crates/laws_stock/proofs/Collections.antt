@@ -1,11 +1,10 @@
 -- What ITER and MAP take out of a collection, and what MAP makes.
-use Rattle.std.proofs.Common.{◌≡◌, ℕ, ◌+◌, true, List, [], ◌∷◌, ◌++◌, length, refl, arith, suc}
-use Rattle.std.specs.Prelude.{ℤ, pos, ◌+ℤ◌, ◌≤ℤ◌}
+use Rattle.std.proofs.Common.{◌≡◌, List, [], ◌∷◌, length, refl, arith}
+use Rattle.std.specs.Prelude.{pos, ◌≤ℤ◌}
 use Rattle.std.specs.List.{AllByRecursion}
 use Rattle.std.proofs.lemmas.Int.{ints}
 use Rattle.rules_types.specs.Kind.{Kind}
 use Rattle.rules_types.specs.Kind as k
-use Rattle.rules_types.specs.Attributes.{comparable}
 use Rattle.rules_values.specs.Val.{Val, Vals, no_val, more_vals, Pairs, no_pair, more_pairs}
 use Rattle.rules_values.specs.Val as v
 use Rattle.rules_values.specs.Forms.{AllHave, AllEntriesHave}
@@ -14,10 +13,9 @@ use Rattle.rules_values.specs.Tickets.{Identity, tickets, all_tickets, pair_tick
 use Rattle.rules_typing.specs.Fits.{Known, Fits}
 use Rattle.rules_steps.specs.Changes.{amount_in, amount_among}
 use Rattle.rules_evaluation.specs.Items.{elements, entries, list_of, with_values, rebuilt}
-use Rattle.laws_evaluation.specs.Laws.{amount_on, IsType}
+use Rattle.laws_evaluation.specs.Laws.{amount_on}
 use Rattle.laws_amounts.proofs.Sums.{among_append}
-use Rattle.laws_stacks.proofs.Amounts.{positive}
-use Rattle.laws_control.proofs.Items.{each_element, each_entry, element_amount, entry_amount}
+use Rattle.laws_control.proofs.Items.{each_element, each_entry}
 use Rattle.laws_stock.proofs.Values.{of_each, one_kind_positive}
 
 -- ---- what is taken out

@@ -1,6 +1,6 @@
 -- What a node that is typed leaves: values that fit their types, and the tickets that there were.
-use Rattle.std.proofs.Common.{◌≡◌, ◌<◌, ◌^◌, ℕ, List, [], ◌∷◌, Some, refl, sym, ap, ◌∙◌, subst, arith}
-use Rattle.std.specs.Prelude.{ℤ, pos, ◌+ℤ◌, ◌-ℤ◌}
+use Rattle.std.proofs.Common.{◌≡◌, ◌<◌, ◌^◌, ℕ, List, [], ◌∷◌, refl, sym, ap, ◌∙◌, subst, arith}
+use Rattle.std.specs.Prelude.{ℤ, ◌+ℤ◌, ◌-ℤ◌}
 use Rattle.std.specs.List.{AllByRecursion}
 use Rattle.std.proofs.lemmas.Int.{ints}
 use Rattle.rules_base.specs.Tree.{Tree, size}
@@ -10,11 +10,11 @@ use Rattle.rules_values.specs.Tickets.{Identity}
 use Rattle.rules_typing.specs.Typing.{Typing, goes, fails, bad}
 use Rattle.rules_typing.specs.Nodes.{tree_type}
 use Rattle.rules_typing.specs.Scripts.{Outline}
-use Rattle.rules_typing.specs.Fits.{Known, AllFit, Leads}
+use Rattle.rules_typing.specs.Fits.{Leads}
 use Rattle.rules_steps.specs.Changes.{amount_among, amount_in, minted_in, burnt_in}
 use Rattle.rules_evaluation.specs.Surroundings.{Surroundings}
 use Rattle.rules_evaluation.specs.Operations.{Issued, Tally, operation_tickets}
-use Rattle.rules_evaluation.specs.Outcome.{Outcome, stack, stuck}
+use Rattle.rules_evaluation.specs.Outcome.{stack, stuck}
 use Rattle.rules_evaluation.specs.Evaluation.{node, tree_run, eval_task, eval}
 use Rattle.laws_types.specs.Laws.{IsWellFormed}
 use Rattle.laws_evaluation.specs.Laws.{IsCharged, IsGood, known}
@@ -33,7 +33,7 @@ use Rattle.laws_safety.proofs.Small.{decoded_are_small}
 use Rattle.laws_safety.proofs.Views.{views_keep}
 use Rattle.laws_safety.proofs.Selves.{selves}
 use Rattle.laws_safety.proofs.Creates.{creates}
-use Rattle.laws_agreement.specs.Agreement.{Agrees, AllAgree, SeesAgreement}
+use Rattle.laws_agreement.specs.Agreement.{Agrees, SeesAgreement}
 use Rattle.laws_agreement.specs.Totals as ticket
 use Rattle.laws_agreement.proofs.Amounts.{on_cons}
 use Rattle.laws_agreement.proofs.Returned.{issued_cons}

@@ -1,6 +1,6 @@
 -- Lists of values: their parts, the types that they fit, and their tickets.
-use Rattle.std.proofs.Common.{◌≡◌, ℕ, zero, suc, List, [], ◌∷◌, ◌++◌, take, drop, refl, arith}
-use Rattle.std.specs.Prelude.{ℤ, pos, ◌+ℤ◌, ◌≤ℤ◌}
+use Rattle.std.proofs.Common.{◌≡◌, ℕ, zero, suc, List, [], ◌∷◌, ◌++◌, take, drop, arith}
+use Rattle.std.specs.Prelude.{pos, ◌+ℤ◌, ◌≤ℤ◌}
 use Rattle.std.specs.List.{AllByRecursion}
 use Rattle.std.proofs.lemmas.Int.{ints}
 use Rattle.rules_types.specs.Kind.{Kind}
@@ -8,7 +8,6 @@ use Rattle.rules_values.specs.Val.{Val}
 use Rattle.rules_values.specs.Tickets.{Identity}
 use Rattle.rules_typing.specs.Fits.{Known, Fits, AllFit}
 use Rattle.rules_steps.specs.Changes.{amount_in}
-use Rattle.rules_evaluation.specs.Operations.{Issued, operation_tickets}
 use Rattle.laws_evaluation.specs.Laws.{amount_on}
 use Rattle.laws_stacks.specs.Sound.{AllTypes}
 use Rattle.laws_stacks.proofs.Amounts.{positive}
@@ -22,22 +21,10 @@ take_fit w (suc n) (a ∷ A) (x ∷ V) h = (h.0, take_fit w n A V h.1)
 take_fit w (suc n) [] (x ∷ V) h = absurd h
 take_fit w (suc n) (a ∷ A) [] h = absurd h
 
-pub drop_fit : (w : Known) (n : ℕ) (A : List Kind) (V : List Val) → AllFit w A V → AllFit w (drop n A) (drop n V)
-drop_fit w zero A V h = h
-drop_fit w (suc n) [] [] h = tt
-drop_fit w (suc n) (a ∷ A) (x ∷ V) h = drop_fit w n A V h.1
-drop_fit w (suc n) [] (x ∷ V) h = absurd h
-drop_fit w (suc n) (a ∷ A) [] h = absurd h
-
 pub take_types : (n : ℕ) (A : List Kind) → AllTypes A → AllTypes (take n A)
 take_types zero A h = tt
 take_types (suc n) [] h = tt
 take_types (suc n) (a ∷ A) h = (h.0, take_types n A h.1)
-
-pub drop_types : (n : ℕ) (A : List Kind) → AllTypes A → AllTypes (drop n A)
-drop_types zero A h = h
-drop_types (suc n) [] h = tt
-drop_types (suc n) (a ∷ A) h = drop_types n A h.1
 
 pub split_amount : (id : Identity) (n : ℕ) (V : List Val) → amount_on id (take n V) +ℤ amount_on id (drop n V) ≡ amount_on id V
 split_amount id zero V = omega (arith, ints)

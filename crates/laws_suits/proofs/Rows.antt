@@ -1,12 +1,9 @@
 -- Where an instruction without bodies comes first, the stack suits it, and its tickets may be burnt.
-use Rattle.std.proofs.Common.{◌≡◌, ℕ, List, subst}
+use Rattle.std.proofs.Common.{◌≡◌, ℕ, List}
 use Rattle.std.specs.Prelude.{◌+ℤ◌, ◌≤ℤ◌}
 use Rattle.std.specs.List.{AllByRecursion, flat_map}
-use Rattle.rules_base.specs.Tree.{Tree, Trees}
-use Rattle.rules_base.specs.Primitives.{primitive_of_name}
+use Rattle.rules_base.specs.Tree.{Tree}
 use Rattle.rules_types.specs.Kind.{Kind}
-use Rattle.rules_instructions.specs.Context.{Context}
-use Rattle.rules_instructions.specs.Rules.{rule, ruled}
 use Rattle.rules_instructions.specs.Straight.{Straight}
 use Rattle.rules_values.specs.Val.{Val}
 use Rattle.rules_values.specs.Tickets.{Identity, tickets}
@@ -15,10 +12,8 @@ use Rattle.rules_steps.specs.Changes.{amount_among}
 use Rattle.rules_evaluation.specs.Operations.{Tally}
 use Rattle.rules_evaluation.specs.Outcome.{Outcome}
 use Rattle.laws_evaluation.specs.Laws.{known}
-use Rattle.laws_stacks.specs.Sound.{seen, AllTypes}
-use Rattle.laws_typed.proofs.TypedRules.{Taken, RuledTypes, rule_taken}
+use Rattle.laws_stacks.specs.Sound.{seen}
 use Rattle.mich_instr.specs.Code as made
-use Rattle.mich_instr.specs.Typed.{IsCode, is_straight, is_transfer}
 use Rattle.mich_tickets.specs.Books.{Books}
 use Rattle.mich_tickets.specs.Sums.{minted_of, burnt_of}
 use Rattle.mich_tickets.specs.Limits.{IsPositive, IsReady}
@@ -28,16 +23,9 @@ use Rattle.mich_frames.specs.Frames.{Frame}
 use Rattle.mich_frames.specs.Fine.{minted_by, burnt_by}
 use Rattle.mich_frames.specs.Stands.{MeetsAt}
 use Rattle.mich_frames.proofs.Fine.{sound_here}
+use Rattle.mich_frames.proofs.Taking.{row_taken}
 use Rattle.laws_suits.proofs.Suiting.{suits}
 use Rattle.laws_suits.proofs.Tickets.{tickets_positive, tickets_within, tickets_ready}
-
-taken_by : (name : List ℕ) (annots : List (List ℕ)) (ts : Trees) (r : Straight) (A B : List Kind) → AllTypes A → rule (primitive_of_name name) annots ts A ≡ ruled r B → Taken r A B
-taken_by name annots ts r A B types e = subst (λ x. RuledTypes x A) e (rule_taken (primitive_of_name name) annots ts A types)
-
--- typing takes the row
-pub row_taken : {c : Context} {n app : Tree} {r : Straight} {A B : List Kind} → IsCode c n (made.straight r app) A B → AllTypes A → Taken r A B
-row_taken (is_straight {name = name} {annots = annots} {ts = ts} {r = r} {A = A} {B = B} form e) types = taken_by name annots ts r A B types e
-row_taken (is_transfer {name = name} {annots = annots} {ts = ts} {r = r} {A = A} {B = B} form e goes_is) types = taken_by name annots ts r A B types e
 
 module _ {fs : List Frame} {u : Around} {m : Tally} {d : ℕ} {Z : List Kind} {o : Outcome} {r : Straight} {app : Tree} {V : List Val} (h : MeetsAt (made.straight r app) fs u V m d Z o) where
   pub row_fits : AllFit (known u.contract_at m.issued) h.types V

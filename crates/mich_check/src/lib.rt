@@ -18,3 +18,5 @@ pub use scripts::check_script;
 
 #[cfg(test)]
 mod tests;
+#[cfg(test)]
+mod worked;

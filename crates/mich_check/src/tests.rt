@@ -1,9 +1,10 @@
 // What the calls give with ample memory, by texts. Locations are counted in pre-order from the body, which is 0.
+use crate::worked::WORKED;
 use crate::{CheckError, check_body, check_literal, check_script, nodes};
 use mich_base::{Node, Rows, Ty, size_within};
 use mich_control::Place;
 use mich_data::Pending;
-use mich_instr::{Block, erase};
+use mich_instr::{Block, Script, erase};
 use mich_text::read_statement;
 use mich_types::{read_parameter, read_type};
 use std::alloc::Global;
@@ -598,5 +599,57 @@ fn scripts_are_erased_to_their_code(rt: HostRuntime) -> Result<(), Fail> {
             "{ DROP; UNIT; PUSH mutez 0; NONE key_hash; CREATE_CONTRACT { parameter unit; storage unit; code { CDR; NIL operation; PAIR } }; DROP 2; UNIT; NIL operation; PAIR }"
         )?
     );
+    Ok(())
+}
+
+// Whether a body is what the code of a script, or of one of its views, is erased to.
+fn is_body(alloc: Global, script: &Script, body: &Node) -> Result<bool, Fail> {
+    if erase(alloc, script.code.get())? == *body {
+        return Ok(true);
+    }
+    for view in script.views.as_slice() {
+        if erase(alloc, view.code.get())? == *body {
+            return Ok(true);
+        }
+    }
+    Ok(false)
+}
+
+// Whether a script is accepted, has a body, and each of its bodies is erased to itself.
+fn is_script_unchanged(alloc: Global, text: &str) -> Result<bool, Fail> {
+    let node = node(alloc, text)?;
+    if !size_within(&node, 10_000) {
+        return Err(Fail::from("too large"));
+    }
+    let script = check_script(alloc, &node)?;
+    let mut found = false;
+    if let Node::Seq(sections) = &node {
+        for section in sections.as_slice() {
+            if let Node::Prim(app) = section {
+                if let Some(body @ Node::Seq(_)) = app.args.as_slice().last() {
+                    if !is_body(alloc, &script, body)? {
+                        return Ok(false);
+                    }
+                    found = true;
+                }
+            }
+        }
+    }
+    Ok(found)
+}
+
+// The first script that is refused, or isn't erased to itself.
+fn unerased_script(alloc: Global, rows: &[&'static str]) -> Result<Option<&'static str>, Fail> {
+    for text in rows {
+        if !is_script_unchanged(alloc, text)? {
+            return Ok(Some(text));
+        }
+    }
+    Ok(None)
+}
+
+#[test]
+fn worked_scripts_are_erased_to_themselves(rt: HostRuntime) -> Result<(), Fail> {
+    assert_eq!(rt; unerased_script(rt.alloc(), &WORKED)?, None);
     Ok(())
 }

@@ -5,15 +5,22 @@ use Rattle.rules_base.specs.Tree.{seq, Trees, none}
 use Rattle.rules_types.specs.Kind.{Kind}
 use Rattle.rules_instructions.specs.Context.{Context}
 use Rattle.rules_values.specs.Val.{Val}
+use Rattle.rules_values.specs.Val as v
 use Rattle.rules_steps.specs.Failure as f
 use Rattle.rules_evaluation.specs.Surroundings.{Surroundings}
 use Rattle.rules_evaluation.specs.Operations.{Tally}
 use Rattle.rules_evaluation.specs.Outcome.{Outcome, stack, failed, after, only_if}
+use Rattle.rules_steps.specs.Environment.{Environment}
+use Rattle.rules_steps.specs.Changes.{Change}
+use Rattle.rules_evaluation.specs.Operations.{Issued}
+use Rattle.rules_evaluation.specs.Shapes.{on_top}
+use Rattle.mich_frames.specs.Shapes.{HasTop}
+use Rattle.mich_frames.proofs.Shapes.{has_top}
 use Rattle.rules_evaluation.specs.Evaluation.{tree_run, eval_task}
 use Rattle.laws_evaluation.specs.Laws.{IsCharged}
 use Rattle.mich_instr.specs.Code.{Code, Codes}
 use Rattle.mich_instr.specs.Code as made
-use Rattle.mich_frames.specs.Around.{Around, at, around}
+use Rattle.mich_frames.specs.Around.{Around, at, around, in_environment, with_burnt, returned}
 use Rattle.mich_frames.specs.Pending.{Pending, depth_of, block_run, resume}
 use Rattle.mich_frames.specs.Pending as p
 use Rattle.mich_frames.specs.Fine.{IsFine}
@@ -23,7 +30,7 @@ use Rattle.rules_steps.specs.Failure.{Failure}
 use Rattle.mich_frames.specs.Stands.{ActsAt, EntersAt, StandsAt, MeetsAt, OpensAt}
 use Rattle.mich_frames.proofs.Paying.{after_after, after_stack}
 use Rattle.mich_frames.proofs.Made.{stands_of, opens_of, block_of}
-use Rattle.mich_frames.proofs.Fine.{over_rest, behind_rest, off_rest, back, called_back, sound_here}
+use Rattle.mich_frames.proofs.Fine.{over_rest, behind_rest, off_rest, back, called_back, viewed_back, sound_here}
 use Rattle.laws_code.proofs.Leading.{next_leads, leads_seq}
 use Rattle.laws_stock.proofs.Nodes.{node_sound}
 use Rattle.std.proofs.lemmas.Bool.{lt-ltb, ltb-true}
@@ -123,6 +130,31 @@ module _ {fs : List Frame} {u : Around} {V : List Val} {m : Tally} {d : ℕ} {Z 
       by _ c _ (fr.rests_call {ps = ps} {c' = c'} {r = r} {B = B} rests) depth same holds =
           stands_of h.runs ps c' (r ∷ B) rests depth
           (ap (λ q. after (only_if q (stack (r ∷ B) (V ++ W) m)) (resume ps (at u c'))) (sym (same_kinds_refl (r ∷ []))) ∙ same) (called_back holds)
+
+view_same : (u : Around) (burnt : Identity → ℤ) (m : Tally) (o : Outcome) (c : Context) (ps : List Pending) (issued : List Issued) (changes : List Change) (b : Kind) (B : List Kind) (V W : List Val) (e : Surroundings) →
+    resume (p.viewing (at u c) burnt issued changes b B W ∷ ps) e (b ∷ []) V m ≡ o →
+    after (on_top (b ∷ []) V (λ _ _ y _. stack B (v.some y ∷ W) (returned issued changes m))) (resume ps (at u c)) ≡ o
+view_same u burnt m o c ps issued changes b B V W e same =
+    ap (λ q. after (only_if q (on_top (b ∷ []) V (λ _ _ y _. stack B (v.some y ∷ W) (returned issued changes m)))) (resume ps (at u c))) (sym (same_kinds_refl (b ∷ []))) ∙ same
+
+module _ {fs : List Frame} {u : Around} {m : Tally} {d : ℕ} {Z : List Kind} {o : Outcome} where
+  pub view_top : {e : Environment} {burnt : Identity → ℤ} {issued : List Issued} {changes : List Change} {W V : List Val} → StandsAt (fr.viewing e burnt issued changes W ∷ fs) u V m d Z o → HasTop V
+  view_top {e = e} {burnt = burnt} {issued = issued} {changes = changes} {W = W} {V = V} h = by e burnt h.pending h.context h.types h.rests h.same
+    where
+      by : (e : Environment) (burnt : Identity → ℤ) (ps : List Pending) (c : Context) (A : List Kind) → Rests (fr.viewing e burnt issued changes W ∷ fs) ps u c A Z → resume ps (at u c) A V m ≡ o → HasTop V
+      by _ _ _ c _ (fr.rests_viewing {ps = ps} {u' = u'} {c' = c'} {b = b} {B = B} back rests) same =
+          has_top (resume ps (at u' c')) o h.runs.sound (b ∷ []) V (λ _ _ y _. stack B (v.some y ∷ W) (returned issued changes m)) (view_same u' u'.burnt m o c' ps issued changes b B V W (at u c) same)
+
+  pub view_ends : {e : Environment} {burnt : Identity → ℤ} {issued : List Issued} {changes : List Change} {W : List Val} (y : Val) {X : List Val} → StandsAt (fr.viewing e burnt issued changes W ∷ fs) u (y ∷ X) m d Z o →
+      StandsAt fs (with_burnt (in_environment u e) burnt) (v.some y ∷ W) (returned issued changes m) d Z o
+  view_ends {e = e} {burnt = burnt} {issued = issued} {changes = changes} {W = W} y {X = X} h = by e burnt h.pending h.context h.types h.rests h.depth h.same h.holds
+    where
+      by : (e : Environment) (burnt : Identity → ℤ) (ps : List Pending) (c : Context) (A : List Kind) → Rests (fr.viewing e burnt issued changes W ∷ fs) ps u c A Z → d ≡ depth_of ps → resume ps (at u c) A (y ∷ X) m ≡ o → IsFine u c ps A (y ∷ X) m.issued m.changes →
+          StandsAt fs (with_burnt (in_environment u e) burnt) (v.some y ∷ W) (returned issued changes m) d Z o
+      by _ _ _ c _ (fr.rests_viewing {ps = ps} {u' = u'} {c' = c'} {b = b} {B = B} back rests) depth same holds =
+          subst (λ w. StandsAt fs w (v.some y ∷ W) (returned issued changes m) d Z o) back
+          (stands_of record { charged = subst (λ w. IsCharged w.prices) (sym back) h.runs.charged; sound = h.runs.sound } ps c' B rests depth
+          (view_same u' u'.burnt m o c' ps issued changes b B (y ∷ X) W (at u c) same) (viewed_back (ap (λ (w : Around). w.contract_at) back) holds))
 
 -- ---- the whole
 

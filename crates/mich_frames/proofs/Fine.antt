@@ -1,12 +1,14 @@
 -- What instructions and frames make of the values on the stack and in what is pending.
-use Rattle.std.proofs.Common.{◌≡◌, ◌<◌, ◌^◌, ℕ, suc, Bool, true, false, List, [], ◌∷◌, ◌++◌, length, take, drop, refl, ap, ◌∙◌, subst, arith, append_assoc}
-use Rattle.std.specs.Prelude.{ℤ, pos, ◌+ℤ◌, ◌≤ℤ◌}
+use Rattle.std.proofs.Common.{◌≡◌, ◌<◌, ◌^◌, ℕ, suc, Bool, true, false, List, [], ◌∷◌, ◌++◌, length, take, drop, refl, ap, ◌∙◌, subst, arith, append_assoc, sym}
+use Rattle.std.specs.Prelude.{ℤ, pos, ◌+ℤ◌, ◌-ℤ◌, ◌≤ℤ◌}
 use Rattle.std.specs.List.{AllByRecursion}
 use Rattle.std.proofs.lemmas.Int.{ints}
 use Rattle.std.proofs.lemmas.List.{append-nil, length-append}
 use Rattle.rules_base.specs.Tree.{Tree, Trees, seq, size}
 use Rattle.rules_types.specs.Kind.{Kind}
 use Rattle.rules_types.specs.Kind as k
+use Rattle.rules_types.specs.Attributes.{packable}
+use Rattle.rules_instructions.specs.Types as t
 use Rattle.rules_instructions.specs.Context.{Context}
 use Rattle.rules_instructions.specs.Context as place
 use Rattle.rules_instructions.specs.Control.{call_kinds}
@@ -26,19 +28,23 @@ use Rattle.laws_evaluation.specs.Laws.{known, IsCharged, IsType, IsGood, amount_
 use Rattle.laws_amounts.proofs.Sums.{among_append}
 use Rattle.laws_stacks.specs.Sound.{seen, AllTypes, Sound}
 use Rattle.laws_stacks.proofs.Amounts.{on-append, on_positive, positive}
-use Rattle.laws_stacks.proofs.Grow.{Knows, fits_grow, all_grow}
+use Rattle.laws_stacks.proofs.Grow.{Knows, fits_grow, fits_packed, all_grow}
 use Rattle.laws_stacks.proofs.Kept.{fit-append, knows_grow}
+use Rattle.laws_stacks.proofs.Nothing.{no_amount, no_amount_compared, packable_duplicable}
 use Rattle.laws_stacks.proofs.Parts.{type_list, type_element, type_entry, type_option}
+use Rattle.laws_control.proofs.Branches.{fit_drop, types_drop}
 use Rattle.laws_control.proofs.Calls.{good_in_lambda}
 use Rattle.laws_control.proofs.Items.{element_amount, entry_amount}
 use Rattle.laws_typed.proofs.Typings.{Types, both_types}
 use Rattle.laws_typed.proofs.Outlines.{contexts}
 use Rattle.laws_control.proofs.Typed.{tree_types}
 use Rattle.laws_stock.proofs.Nodes.{Leaves, node_leaves}
-use Rattle.laws_stock.proofs.Values.{take_fit, drop_fit, take_types, drop_types, split_amount, all_one_grow, all_one_last, one_kind_positive}
+use Rattle.laws_stock.proofs.Values.{take_fit, take_types, split_amount, all_one_grow, all_one_last, one_kind_positive}
 use Rattle.laws_stock.proofs.Collections.{elements_fit, entries_fit, IsMade, list_made, table_made, some_made, none_made}
 use Rattle.mich_instr.specs.Typed.{HasParts, of_list, of_set, of_map, IsMapped, to_list, to_option, to_map}
-use Rattle.mich_frames.specs.Around.{Around, at}
+use Rattle.rules_evaluation.specs.Contracts.{Viewed, is_contract_of}
+use Rattle.laws_safety.proofs.Views.{Seeing, good_in_view}
+use Rattle.mich_frames.specs.Around.{Around, at, viewing_at}
 use Rattle.mich_frames.specs.Pending.{Mapping, Pending}
 use Rattle.mich_frames.specs.Pending as p
 use Rattle.mich_frames.specs.Shapes.{items_in}
@@ -63,7 +69,7 @@ stock_positive id w (p.under A W ∷ ps) h =
     let i = stock_positive id w ps h.2 in let j = on_positive id w A W h.1 in omega (arith, ints, i, j)
 stock_positive id w (p.call e r A W ∷ ps) h =
     let i = stock_positive id w ps h.3 in let j = on_positive id w A W h.2 in omega (arith, ints, i, j)
-stock_positive id w (p.viewing e is cs b A W ∷ ps) h = absurd h
+stock_positive id w (p.viewing e burnt is cs b A W ∷ ps) h = omega (arith, ints)
 
 mapping_grows : (w u : Known) → Knows w u → (m : Mapping) (left : ℕ) (ys xs : List Val) → IsMapping w m left ys xs → IsMapping u m left ys xs
 mapping_grows w u g m left ys xs h = record {
@@ -88,7 +94,7 @@ pending_grows w u g (p.mapping m ys xs ∷ ps) h = (mapping_grows w u g m (lengt
 pending_grows w u g (p.making m ys xs ∷ ps) h = (mapping_grows w u g m (suc (length xs)) ys xs h.0, pending_grows w u g ps h.1)
 pending_grows w u g (p.under A W ∷ ps) h = (h.0, all_grow w u g A W h.1, pending_grows w u g ps h.2)
 pending_grows w u g (p.call e r A W ∷ ps) h = (h.0, h.1, all_grow w u g A W h.2, pending_grows w u g ps h.3)
-pending_grows w u g (p.viewing e is cs b A W ∷ ps) h = absurd h
+pending_grows w u g (p.viewing e burnt is cs b A W ∷ ps) h = h
 
 -- ---- the stack of a call
 
@@ -204,7 +210,7 @@ module _ {u : Around} {is : List Issued} {cs : List Change} where
     -- so many values, which are laid aside, and come back
     pub aside : {ps : List Pending} {A : List Kind} {V : List Val} (n : ℕ) → IsFine u c ps A V is cs → IsFine u c (p.under (take n A) (take n V) ∷ ps) (drop n A) (drop n V) is cs
     aside {ps = ps} {A = A} {V = V} n h =
-        moved h c (p.under (take n A) (take n V) ∷ ps) (drop n A) (drop n V) h.good (drop_types n A h.types) (drop_fit (kn u is) n A V h.fits) (take_types n A h.types, take_fit (kn u is) n A V h.fits, h.pending)
+        moved h c (p.under (take n A) (take n V) ∷ ps) (drop n A) (drop n V) h.good (types_drop n A h.types) (fit_drop (kn u is) n A V h.fits) (take_types n A h.types, take_fit (kn u is) n A V h.fits, h.pending)
         (λ id. let i = split_amount id n V in omega (arith, ints, i))
 
     pub back : {ps : List Pending} {A B : List Kind} {W V : List Val} → IsFine u c (p.under A W ∷ ps) B V is cs → IsFine u c ps (A ++ B) (W ++ V) is cs
@@ -229,7 +235,7 @@ module _ {u : Around} {is : List Issued} {cs : List Change} where
             set_amount : (id : Identity) (a : Kind) (xs : Vals) → Rattle.rules_types.specs.Attributes.comparable a ≡ true → Rattle.rules_values.specs.Forms.AllHave (Fits (kn u is) a) xs → amount_on id (elements xs) ≡ pos 0
             set_amount id a no_val c h = refl
             set_amount id a (more_vals x xs) c h =
-                let i = set_amount id a xs c h.1 in let j = Rattle.laws_stacks.proofs.Nothing.no_amount_compared id (kn u is) a x c h.0 in omega (arith, ints, i, j)
+                let i = set_amount id a xs c h.1 in let j = no_amount_compared id (kn u is) a x c h.0 in omega (arith, ints, i, j)
         by (v.table es) (of_map {a = a} {b = b}) h =
             goes_over ts (type_entry a b h.types.0) (entries_fit (kn u is) a b es h.fits.0.0) (λ id. let i = entry_amount id (kn u is) a b es h.types.0.0.0 h.fits.0.0 in omega (arith, ints, i)) h
         by _ of_list h = absurd h.fits.0
@@ -346,6 +352,93 @@ module _ {u : Around} {is : List Issued} {cs : List Change} where
   pub lambda_below : {c : Context} {ps : List Pending} {a r : Kind} {A : List Kind} {x : Val} {ts : Trees} {b : Bool} {W : List Val} → IsFine u c ps (a ∷ k.lambda a r ∷ A) (x ∷ v.lambda (seq ts) b ∷ W) is cs →
       (size (seq ts) < 2 ^ 32) × Leads (tree_type (seq ts) place.lambda (call_kinds a r b)) (r ∷ [])
   lambda_below h = (h.fits.1.0.1, h.fits.1.0.2)
+
+-- ---- views
+
+view_below : (x st ev mi : ℤ) → x ≡ pos 0 → st ≤ℤ ev → pos 0 ≤ℤ mi → (x +ℤ st +ℤ pos 0 +ℤ pos 0) ≤ℤ (ev +ℤ mi)
+view_below x st ev mi e h g = omega (arith, ints, e, h, g)
+
+view_within : (x st ev mi i b : ℤ) → x ≡ pos 0 → st ≤ℤ ev → pos 0 ≤ℤ mi → (x +ℤ st +ℤ pos 0 +ℤ pos 0 +ℤ i +ℤ ((pos 0 -ℤ (i +ℤ b)) +ℤ b)) ≤ℤ (ev +ℤ mi)
+view_within x st ev mi i b e h g = omega (arith, ints, e, h, g)
+
+caller_below : (x y w s t : ℤ) → pos 0 ≤ℤ x → pos 0 ≤ℤ y → (x +ℤ (y +ℤ w) +ℤ s) ≤ℤ t → (w +ℤ s) ≤ℤ t
+caller_below x y w s t h g l = omega (arith, ints, h, g, l)
+
+caller_within : (x y w s i b t : ℤ) → pos 0 ≤ℤ x → pos 0 ≤ℤ y → (x +ℤ (y +ℤ w) +ℤ s +ℤ i +ℤ b) ≤ℤ t → (w +ℤ s +ℤ i +ℤ b) ≤ℤ t
+caller_within x y w s i b t h g l = omega (arith, ints, h, g, l)
+
+back_below : (y w s t : ℤ) → y ≡ pos 0 → (w +ℤ s) ≤ℤ t → (y +ℤ w +ℤ s) ≤ℤ t
+back_below y w s t e h = omega (arith, ints, e, h)
+
+back_within : (y w s i b t : ℤ) → y ≡ pos 0 → (w +ℤ s +ℤ i +ℤ b) ≤ℤ t → (y +ℤ w +ℤ s +ℤ i +ℤ b) ≤ℤ t
+back_within y w s i b t e h = omega (arith, ints, e, h)
+
+both_amount : (id : Identity) (x y : Val) → amount_in id (v.both x y) ≡ amount_in id x +ℤ amount_in id y
+both_amount id x y = among_append id (tickets x) (tickets y)
+
+-- a view begins on its input and a copy of the storage
+pub in_view : {u : Around} {c : Context} {ps : List Pending} {a : Kind} {A : List Kind} {x address : Val} {W : List Val} {is : List Issued} {cs : List Change} (b : Kind) (seen_view : Viewed) → Seeing (at u c) a b seen_view → packable b ≡ true →
+    AllTypes (k.option b ∷ A) → IsFine u c ps (a ∷ t.address ∷ A) (x ∷ address ∷ W) is cs →
+    IsFine (viewing_at u seen_view is cs) place.view (p.viewing (at u c) u.burnt is cs b (k.option b ∷ A) W ∷ ps) (k.pair a seen_view.storage ∷ []) (v.both x seen_view.contract.storage ∷ []) is cs
+in_view {u = u} {c = c} {ps = ps} {a = a} {A = A} {x = x} {address = address} {W = W} {is = is} {cs = cs} b seen_view s output types h =
+    let K : Known = known u.contract_at is in
+    let storage : Val = seen_view.contract.storage in
+    let fresh : Knows (known u.contract_at []) K = record { contracts = λ c r h. h; issued = λ n h. absurd cc } in
+    let stored : Fits K seen_view.storage storage = subst (λ z. Fits K z storage) s.stored (fits_grow (known u.contract_at []) K fresh s.good.reading.storage storage s.good.fits) in
+    let no_tickets : (id : Identity) → amount_in id x ≡ pos 0 = λ id. no_amount id K a x (packable_duplicable a s.packs) h.fits.0 in
+    record {
+      good = good_in_view (at u c) h.good a b seen_view s;
+      types = (s.whole, tt);
+      fits = ((h.fits.0, stored), tt);
+      pending = (
+        record {
+          good = h.good;
+          output = output;
+          below = A;
+          kinds = refl;
+          types = types;
+          fits = h.fits.1.1;
+          well = h.well;
+          mints = h.mints;
+          most = h.most;
+          within_minted = λ id.
+              caller_below (amount_in id x) (amount_in id address) (amount_on id W) (stock id ps) (minted_by u cs id) (positive id K a x h.fits.0) (positive id K t.address address h.fits.1.0) (h.below id);
+          within = λ id.
+              caller_within (amount_in id x) (amount_in id address) (amount_on id W) (stock id ps) (amount_issued id is) (burnt_by u cs id) (minted_by u cs id)
+              (positive id K a x h.fits.0) (positive id K t.address address h.fits.1.0) (h.within id);
+        },
+        h.pending,
+      );
+      well = h.well;
+      mints = h.mints;
+      most = h.most;
+      below = λ id.
+          subst (λ z. (z +ℤ pos 0 +ℤ pos 0) ≤ℤ (u.minted id +ℤ minted_in id cs)) (sym (both_amount id x storage))
+          (view_below (amount_in id x) (amount_in id storage) (u.minted id) (minted_in id cs) (no_tickets id) (s.good.tickets id) (h.mints id));
+      within = λ id.
+          subst (λ z. (z +ℤ pos 0 +ℤ pos 0 +ℤ amount_issued id is +ℤ ((pos 0 -ℤ (amount_issued id is +ℤ burnt_in id cs)) +ℤ burnt_in id cs)) ≤ℤ (u.minted id +ℤ minted_in id cs)) (sym (both_amount id x storage))
+          (view_within (amount_in id x) (amount_in id storage) (u.minted id) (minted_in id cs) (amount_issued id is) (burnt_in id cs) (no_tickets id) (s.good.tickets id) (h.mints id));
+    }
+
+-- what it gives comes on top of the caller's stack
+pub viewed_back : {u u' : Around} {c c' : Context} {ps : List Pending} {b : Kind} {B : List Kind} {is is' : List Issued} {cs cs' : List Change} {y : Val} {X W : List Val} → u'.contract_at ≡ u.contract_at →
+    IsFine u c (p.viewing (at u' c') u'.burnt is cs b B W ∷ ps) (b ∷ []) (y ∷ X) is' cs' → IsFine u' c' ps B (v.some y ∷ W) is cs
+viewed_back {u = u} {u' = u'} {c' = c'} {ps = ps} {b = b} {B = B} {is = is} {is' = is'} {cs = cs} {y = y} {W = W} same h =
+    let g = h.pending.0 in
+    let K : Known = known u'.contract_at is in
+    let fit : Fits K b y = fits_packed (known u.contract_at is') K (λ d a t. subst (λ l. is_contract_of l a d ≡ true) (sym same) t) b y g.output h.fits.0 in
+    let none : (id : Identity) → amount_in id y ≡ pos 0 = λ id. no_amount id K b y (packable_duplicable b g.output) fit in
+    record {
+      good = g.good;
+      types = g.types;
+      fits = subst (λ A. AllFit K A (v.some y ∷ W)) (sym g.kinds) (fit, g.fits);
+      pending = h.pending.1;
+      well = g.well;
+      mints = g.mints;
+      most = g.most;
+      below = λ id. back_below (amount_in id y) (amount_on id W) (stock id ps) (minted_by u' cs id) (none id) (g.within_minted id);
+      within = λ id. back_within (amount_in id y) (amount_on id W) (stock id ps) (amount_issued id is) (burnt_by u' cs id) (minted_by u' cs id) (none id) (g.within id);
+    }
 
 -- ---- a node that ends
 

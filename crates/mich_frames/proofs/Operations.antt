@@ -1,28 +1,41 @@
 -- Instructions on contracts and operations.
-use Rattle.std.proofs.Common.{◌≡◌, ℕ, List, [], ◌∷◌, None, refl, ap}
-use Rattle.rules_base.specs.Tree.{Tree}
+use Rattle.std.proofs.Common.{◌≡◌, ℕ, List, [], ◌∷◌, Some, None, refl, sym, ap, ◌∙◌, subst, Bool, true, false, ◌^◌}
+use Rattle.rules_base.specs.Tree.{Tree, seq, Trees}
 use Rattle.rules_types.specs.Kind.{Kind}
+use Rattle.rules_types.specs.Kind as k
+use Rattle.rules_instructions.specs.Context.{Context}
+use Rattle.rules_instructions.specs.Context as place
 use Rattle.rules_values.specs.Val.{Val, Vals, no_val, more_vals}
 use Rattle.rules_values.specs.Val as v
 use Rattle.rules_steps.specs.Failure as f
 use Rattle.rules_evaluation.specs.Surroundings.{Surroundings}
 use Rattle.rules_evaluation.specs.Operations.{Tally}
-use Rattle.rules_evaluation.specs.Outcome.{Outcome, stack, failed, stuck}
+use Rattle.rules_evaluation.specs.Outcome.{Outcome, stack, failed, stuck, Go, after, only_if}
 use Rattle.rules_evaluation.specs.Evaluation.{eval_task}
 use Rattle.mich_instr.specs.Code.{Code, Codes}
 use Rattle.mich_instr.specs.Code as made
 use Rattle.mich_frames.specs.Around.{Around, at, less, Pays}
-use Rattle.mich_frames.specs.Frames.{Frame}
-use Rattle.mich_frames.specs.Stands.{StandsAt, MeetsAt}
+use Rattle.mich_frames.specs.Pending.{Pending, depth_of, block_run, resume}
+use Rattle.mich_frames.specs.Pending as p
+use Rattle.mich_frames.specs.Frames.{Frame, Rests}
+use Rattle.mich_frames.specs.Frames as fr
+use Rattle.mich_frames.specs.Stands.{StandsAt, MeetsAt, OpensAt}
+use Rattle.mich_frames.proofs.Paying.{after_after}
+use Rattle.mich_frames.proofs.Made.{opens_of, block_of}
 use Rattle.rules_instructions.specs.Straight.{Straight, OperationRow, on_stack, on_pairs, on_unions, on_collections, on_numbers, on_truth, on_text, on_hashes, on_environment, on_operations, on_tickets}
+use Rattle.rules_instructions.specs.Same.{same_kinds}
 use Rattle.rules_values.specs.Tickets.{tickets}
 use Rattle.rules_steps.specs.Failure.{Failure}
 use Rattle.rules_steps.specs.Changes.{burns}
 use Rattle.rules_steps.specs.Costs.{kind_of, weight_of}
 use Rattle.rules_evaluation.specs.Outcome.{with_changes}
-use Rattle.rules_evaluation.specs.Contracts.{viewed}
+use Rattle.rules_evaluation.specs.Shapes.{on_top}
+use Rattle.rules_evaluation.specs.Contracts.{Viewed, viewed}
 use Rattle.rules_evaluation.specs.Operating.{view_run}
 use Rattle.rules_evaluation.specs.Evaluation.{node}
+use Rattle.laws_evaluation.proofs.Levels.{eval_is}
+use Rattle.mich_instr.specs.Typed.{AreCode}
+use Rattle.mich_frames.specs.Around.{viewing_at, returned}
 use Rattle.rules_instructions.specs.Straight.{HashRow}
 use Rattle.rules_instructions.specs.Straight as i
 use Rattle.rules_steps.specs.Step.{optional}
@@ -35,7 +48,25 @@ use Rattle.rules_evaluation.specs.Issuing.{operation_limit, with_operation}
 use Rattle.mich_frames.specs.Shapes.{HasTop, HasBytes, HasTransfer, HasViewing}
 use Rattle.mich_frames.specs.Rows.{IsPlace, placed}
 use Rattle.mich_frames.proofs.Creating.{issue_is, issue_over}
-use Rattle.mich_frames.proofs.Straights.{row_acts, row_fails, row_sound}
+use Rattle.mich_frames.proofs.Straights.{row_by, row_same, row_acts, row_fails, row_sound}
+use Rattle.std.specs.Prelude.{if◌then◌else◌}
+use Rattle.rules_base.specs.Tree.{size}
+use Rattle.rules_types.specs.Attributes.{packable}
+use Rattle.rules_instructions.specs.Types as t
+use Rattle.rules_instructions.specs.Same.{same_kind}
+use Rattle.rules_instructions.specs.Change.{makes}
+use Rattle.rules_instructions.specs.Change.{after as after_change}
+use Rattle.rules_instructions.specs.OtherChanges.{operation_change}
+use Rattle.rules_typing.specs.Nodes.{tree_type}
+use Rattle.rules_typing.specs.Fits.{Leads}
+use Rattle.laws_types.proofs.SameKinds.{same_kind_true}
+use Rattle.laws_stacks.specs.Sound.{AllTypes}
+use Rattle.laws_typed.proofs.TypedRules.{Taken}
+use Rattle.laws_safety.proofs.Views.{Seeing, SeesIf, sees}
+use Rattle.laws_code.proofs.Leading.{seq_leads}
+use Rattle.mich_frames.specs.Frames.{IsBlock}
+use Rattle.mich_frames.specs.Fine.{IsFine}
+use Rattle.mich_frames.proofs.Fine.{in_view}
 
 -- ---- ADDRESS, IMPLICIT_ACCOUNT and CONTRACT
 
@@ -143,3 +174,61 @@ module _ {fs : List Frame} {u : Around} {m : Tally} {d : ℕ} {Z : List Kind} {o
     -- there is no such view
     pub view_none : viewed u.contract_at name a b address ≡ None → StandsAt fs u (v.nothing ∷ W) (with_changes (view_paid u m name a b x address W) (burns (tickets x))) d Z o
     view_none e = row_acts (view_row name a b) h pays _ _ (λ c d B. ap (λ w. view_run (λ t. eval_task (node t)) (at u c) d a b w x B W (view_paid u m name a b x address W)) e)
+
+    view_same : (w : Viewed) → viewed u.contract_at name a b address ≡ Some w → (c : Context) (ps : List Pending) (B : List Kind) →
+        after (does (view_row name a b) (at u c) (depth_of ps) B (x ∷ v.bytes address ∷ W) (view_paid u m name a b x address W)) (resume ps (at u c)) ≡ o →
+        after (view_run (λ t. eval_task (node t)) (at u c) (depth_of ps) a b (Some w) x B W (view_paid u m name a b x address W)) (resume ps (at u c)) ≡ o
+    view_same w e c ps B same = sym (ap (λ w. after (view_run (λ t. eval_task (node t)) (at u c) (depth_of ps) a b w x B W (view_paid u m name a b x address W)) (resume ps (at u c))) e) ∙ same
+
+    -- the stack is of an input of the view's type and an address
+    viewed_by : {P : Type 0} (c : Context) (ps : List Pending) (S B : List Kind) (w : Viewed) → viewed u.contract_at name a b address ≡ Some w → Taken (view_row name a b) S B →
+        IsFine u c ps S (x ∷ v.bytes address ∷ W) m.issued m.changes →
+        ((A : List Kind) → B ≡ k.option b ∷ A → Seeing (at u c) a b w → packable b ≡ true → AllTypes (k.option b ∷ A) → IsFine u c ps (a ∷ t.address ∷ A) (x ∷ v.bytes address ∷ W) m.issued m.changes → P) → P
+    viewed_by {P = P} c ps S B w e taken holds go = by S holds taken.changes
+      where
+        sees_it : (A : List Kind) → IsFine u c ps (a ∷ t.address ∷ A) (x ∷ v.bytes address ∷ W) m.issued m.changes → Seeing (at u c) a b w
+        sees_it A holds = subst (SeesIf (at u c) a b) e (sees (at u c) holds.good a b name address holds.fits.1.0)
+
+        by_kind : (j : Kind) (A : List Kind) → IsFine u c ps (j ∷ t.address ∷ A) (x ∷ v.bytes address ∷ W) m.issued m.changes → (q : Bool) → same_kind a j ≡ q → (if q then makes (k.option b) A else None) ≡ Some taken.effect → P
+        by_kind j A holds true same changes =
+            let effect : record { made = k.option b ∷ []; kept = A } ≡ taken.effect = cc in
+            let next : B ≡ k.option b ∷ A = taken.stack ∙ sym (ap after_change effect) in
+            let here : IsFine u c ps (a ∷ t.address ∷ A) (x ∷ v.bytes address ∷ W) m.issued m.changes =
+            subst (λ z. IsFine u c ps (z ∷ t.address ∷ A) (x ∷ v.bytes address ∷ W) m.issued m.changes) (sym (same_kind_true a j same)) holds in
+            go A next (sees_it A here) taken.carries.0 (subst AllTypes next taken.types) here
+        by_kind j A holds false same changes = absurd cc
+
+        by : (S : List Kind) → IsFine u c ps S (x ∷ v.bytes address ∷ W) m.issued m.changes → operation_change (i.view name a b) S ≡ Some taken.effect → P
+        by (j ∷ t.address ∷ A) holds changes = by_kind j A holds (same_kind a j) refl changes
+        by _ holds changes = absurd cc
+
+    viewed_block : (c : Context) (ps : List Pending) (S B : List Kind) (w : Viewed) (ts : Trees) (is : Codes) → viewed u.contract_at name a b address ≡ Some w → w.body ≡ seq ts →
+        AreCode place.view ts is (k.pair a w.storage ∷ []) (b ∷ []) → Taken (view_row name a b) S B → IsFine u c ps S (x ∷ v.bytes address ∷ W) m.issued m.changes →
+        IsBlock place.view ts is (k.pair a w.storage ∷ []) (b ∷ [])
+    viewed_block c ps S B w ts is e is_body code taken holds = viewed_by c ps S B w e taken holds (λ A next s output types here.
+        block_of code (seq_leads ts place.view (k.pair a w.storage ∷ []) (b ∷ []) (subst (λ n. Leads (tree_type n place.view (k.pair a w.storage ∷ [])) (b ∷ [])) is_body s.leads))
+        (subst (λ n. size n < 2 ^ 32) is_body s.small))
+
+    viewed_holds : (c : Context) (ps : List Pending) (S B : List Kind) (w : Viewed) → viewed u.contract_at name a b address ≡ Some w → Taken (view_row name a b) S B →
+        IsFine u c ps S (x ∷ v.bytes address ∷ W) m.issued m.changes →
+        IsFine (viewing_at u w m.issued m.changes) place.view (p.viewing (at u c) u.burnt m.issued m.changes b B W ∷ ps) (k.pair a w.storage ∷ []) (v.both x w.contract.storage ∷ []) m.issued m.changes
+    viewed_holds c ps S B w e taken holds = viewed_by c ps S B w e taken holds (λ A next s output types here.
+        subst (λ B. IsFine (viewing_at u w m.issued m.changes) place.view (p.viewing (at u c) u.burnt m.issued m.changes b B W ∷ ps) (k.pair a w.storage ∷ []) (v.both x w.contract.storage ∷ []) m.issued m.changes) (sym next)
+        (in_view b w s output types here))
+
+    -- the view's body runs on its input and the storage
+    pub view_opens : (w : Viewed) (ts : Trees) (is : Codes) → viewed u.contract_at name a b address ≡ Some w → w.body ≡ seq ts → AreCode place.view ts is (k.pair a w.storage ∷ []) (b ∷ []) →
+        OpensAt is (fr.viewing u.environment u.burnt m.issued m.changes W ∷ fs) (viewing_at u w m.issued m.changes) (v.both x w.contract.storage ∷ []) (view_paid u m name a b x address W) d Z o
+    view_opens w ts is e is_body fine = row_by (view_row name a b) h (λ c ps S B rests depth same ends taken holds.
+        let A : List Kind = k.pair a w.storage ∷ [] in
+        let X : List Val = v.both x w.contract.storage ∷ [] in
+        let y : Surroundings = at (viewing_at u w m.issued m.changes) place.view in
+        let on_result : Go = λ C Y n. only_if (same_kinds C (b ∷ [])) (on_top C Y (λ _ _ y _. stack B (v.some y ∷ W) (returned m.issued m.changes n))) in
+        let one : after (after (eval_task (node w.body) y (depth_of ps) A X (view_paid u m name a b x address W)) on_result) (resume ps (at u c)) ≡ o = view_same w e c ps B (row_same (view_row name a b) h pays c ps B same) in
+        let two : after (after (eval_task (node (seq ts)) y (depth_of ps) A X (view_paid u m name a b x address W)) on_result) (resume ps (at u c)) ≡ o =
+        sym (ap (λ t. after (after (eval_task (node t) y (depth_of ps) A X (view_paid u m name a b x address W)) on_result) (resume ps (at u c))) is_body) ∙ one in
+        opens_of record { charged = h.runs.charged; sound = h.runs.sound } (p.viewing (at u c) u.burnt m.issued m.changes b B W ∷ ps) place.view ts A (b ∷ []) (viewed_block c ps S B w ts is e is_body fine taken holds) (fr.rests_viewing {u' = u} refl rests) depth
+        (sym (after_after (block_run ts y (depth_of ps) A X (view_paid u m name a b x address W)) on_result (resume ps (at u c)))
+        ∙ ap (λ z. after (after z on_result) (resume ps (at u c))) (sym (eval_is (node (seq ts)) y h.runs.charged (depth_of ps) A X (view_paid u m name a b x address W)))
+        ∙ two)
+        (viewed_holds c ps S B w e taken holds))

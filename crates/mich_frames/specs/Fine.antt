@@ -1,13 +1,16 @@
 -- What holds while typed code runs: the values on the stack and in what is pending fit their types, and their tickets, with those
 -- of issued operations and those that were burnt, are within what was minted (Octez "Tickets").
-use Rattle.std.specs.Prelude.{◌≡◌, ◌+◌, ◌++◌, ℕ, suc, ℤ, pos, ◌+ℤ◌, ◌≤ℤ◌, List, [], ◌∷◌, length}
+use Rattle.std.specs.Prelude.{true, ◌≡◌, ◌+◌, ◌++◌, ℕ, suc, ℤ, pos, ◌+ℤ◌, ◌≤ℤ◌, List, [], ◌∷◌, length}
 use Rattle.std.specs.List.{AllByRecursion}
 use Rattle.rules_types.specs.Kind.{Kind}
+use Rattle.rules_types.specs.Kind as k
+use Rattle.rules_types.specs.Attributes.{packable}
 use Rattle.rules_instructions.specs.Context.{Context}
 use Rattle.rules_values.specs.Val.{Val}
 use Rattle.rules_values.specs.Tickets.{Identity}
 use Rattle.rules_typing.specs.Fits.{Known, Fits, AllFit}
 use Rattle.rules_steps.specs.Changes.{Change, minted_in, burnt_in}
+use Rattle.rules_evaluation.specs.Surroundings.{Surroundings}
 use Rattle.rules_evaluation.specs.Operations.{Issued}
 use Rattle.rules_evaluation.specs.Items.{with_items, rebuilt}
 use Rattle.laws_evaluation.specs.Laws.{known, IsType, IsGood, most_tickets, amount_on, amount_issued}
@@ -31,7 +34,7 @@ stock id (p.mapping m ys xs ∷ ps) = amount_on id ys +ℤ amount_on id xs +ℤ 
 stock id (p.making m ys xs ∷ ps) = amount_on id ys +ℤ amount_on id xs +ℤ stock id ps
 stock id (p.under A W ∷ ps) = amount_on id W +ℤ stock id ps
 stock id (p.call e r A W ∷ ps) = amount_on id W +ℤ stock id ps
-stock id (p.viewing e is cs b A W ∷ ps) = pos 0
+stock id (p.viewing e burnt is cs b A W ∷ ps) = pos 0
 
 -- what was minted of an identity by now, and what was burnt
 abbrev pub minted_by : Around → List Change → Identity → ℤ
@@ -55,7 +58,22 @@ pub record IsMapping (w : Known) (m : Mapping) (left : ℕ) (ys xs : List Val) :
   pub results : AllByRecursion (Fits w m.result) ys
   pub items : AllByRecursion (Fits w m.item) xs
 
--- the values that are pending fit their types, and calls come from good surroundings; no view is pending yet
+-- The caller of a view, whose stack and pending values stand apart while the view runs: an option of what the view gives comes
+-- on top of it, and that holds no ticket and no operation.
+pub record IsCaller (e : Surroundings) (burnt : Identity → ℤ) (is : List Issued) (cs : List Change) (b : Kind) (A : List Kind) (W : List Val) (held : Identity → ℤ) : Type 0 where
+  pub good : IsGood e
+  pub output : packable b ≡ true
+  pub below : List Kind
+  pub kinds : A ≡ k.option b ∷ below
+  pub types : AllTypes A
+  pub fits : AllFit (known e.contract_at is) below W
+  pub well : IsWell (seen e) is cs
+  pub mints : (id : Identity) → pos 0 ≤ℤ minted_in id cs
+  pub most : (id : Identity) → (e.minted id +ℤ minted_in id cs) ≤ℤ most_tickets
+  pub within_minted : (id : Identity) → (amount_on id W +ℤ held id) ≤ℤ (e.minted id +ℤ minted_in id cs)
+  pub within : (id : Identity) → (amount_on id W +ℤ held id +ℤ amount_issued id is +ℤ (burnt id +ℤ burnt_in id cs)) ≤ℤ (e.minted id +ℤ minted_in id cs)
+
+-- the values that are pending fit their types, and calls and views come from good surroundings
 abbrev pub PendingFits : Known → List Pending → Type 0
 PendingFits w [] = Unit {0}
 PendingFits w (p.rest ts ∷ ps) = PendingFits w ps
@@ -66,7 +84,7 @@ PendingFits w (p.mapping m ys xs ∷ ps) = IsMapping w m (length xs) ys xs × Pe
 PendingFits w (p.making m ys xs ∷ ps) = IsMapping w m (suc (length xs)) ys xs × PendingFits w ps
 PendingFits w (p.under A W ∷ ps) = AllTypes A × AllFit w A W × PendingFits w ps
 PendingFits w (p.call e r A W ∷ ps) = IsGood e × AllTypes A × AllFit w A W × PendingFits w ps
-PendingFits w (p.viewing e is cs b A W ∷ ps) = ⊥
+PendingFits w (p.viewing e burnt is cs b A W ∷ ps) = IsCaller e burnt is cs b A W (λ id. stock id ps) × PendingFits (known e.contract_at is) ps
 
 -- ---- all of it
 

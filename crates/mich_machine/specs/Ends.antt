@@ -1,95 +1,47 @@
--- How an instruction ends.
-use Rattle.std.specs.Prelude.{◌≡◌, ◌≤◌, ◌<◌, ◌-◌, ℕ, Bool, true, false, List, ◌∷◌, Option, Some, None, Result, IfOk}
-use Rattle.mich_base.specs.declared.memory.Memory.{Memory}
-use Rattle.rules_gas.specs.declared.Kind.{Kind as Priced}
-use Rattle.rules_gas.specs.Prices.{Listed, cost}
-use Rattle.rules_types.specs.Kind.{Kind}
-use Rattle.rules_values.specs.Val.{Val}
-use Rattle.rules_steps.specs.Failure.{Failure}
-use Rattle.rules_steps.specs.Failure as f
-use Rattle.rules_evaluation.specs.Operations.{Tally}
-use Rattle.rules_evaluation.specs.Outcome.{Outcome, failed}
-use Rattle.mich_gas.specs.declared.costs.Costs.{Costs}
-use Rattle.mich_base.specs.TypeView.{kind}
-use Rattle.mich_stack.specs.Views.{Sight, seen}
-use Rattle.mich_instr.specs.Code.{Code}
-use Rattle.mich_instr.specs.View.{codes}
-use Rattle.mich_frames.specs.Around.{Around}
-use Rattle.mich_frames.specs.Frames as fr
-use Rattle.mich_frames.specs.Stands.{StandsAt, MeetsAt, OpensAt}
-use Rattle.mich_machine.specs.declared.act.Act.{Act}
-use Rattle.mich_machine.specs.declared.act.Act.TheVariants as a
-use Rattle.mich_machine.specs.declared.act.Failed.{Failed}
-use Rattle.mich_machine.specs.declared.act.Failed.TheVariants as x
-use Rattle.mich_machine.specs.declared.frame.Frame.{Frame}
-use Rattle.mich_machine.specs.declared.state.State.{State}
-use Rattle.mich_machine.specs.View.{Beyond, tops, frame, around, tally}
+-- How a run ends, by the end of its code.
+use Rattle.std.specs.Prelude.{◌≡◌, ℕ, List, map, Result, Ok, Err}
+use Rattle.std.specs.List.{AllByRecursion}
+use Rattle.rules_world.specs.Runs.{Ended, finished, run_failed, run_stuck, run_in}
+use Rattle.rules_world.specs.World.{World as PlainWorld}
+use Rattle.mich_instr.specs.declared.issued.Issued.{Issued}
+use Rattle.mich_ops.specs.Told.{told}
+use Rattle.mich_ops.specs.View.{failure}
+use Rattle.mich_ops.specs.declared.failure.Failure.{Failure}
+use Rattle.mich_term.specs.declared.value.Value.{Value}
+use Rattle.mich_tickets.specs.Effects.{change}
+use Rattle.mich_world.specs.Standing.{StandsFor}
+use Rattle.mich_world.specs.World.{World}
+use Rattle.mich_machine.specs.Calls.{issued_in, IsHanded}
+use Rattle.mich_machine.specs.Endings.{IsEnding}
+use Rattle.mich_machine.specs.declared.running.Finished.{Finished}
+use Rattle.mich_machine.specs.declared.running.RunError.{RunError}
+use Rattle.mich_machine.specs.declared.running.RunError.TheVariants.{Failed, Memory}
 
--- what a kind costs at a weight was taken, or there isn't so much gas
-abbrev pub IsPaid : Bool → Listed → Priced → ℕ → ℕ → ℕ → Type 0
-IsPaid true prices kind weight old new = (cost prices kind weight ≤ old) × (new ≡ old - cost prices kind weight)
-IsPaid false prices kind weight old new = old < cost prices kind weight
+-- a failure is the one that the definitions tell
+abbrev pub FailsSo : Ended → Failure → Type 0
+FailsSo (run_failed why) f = failure f ≡ told why
+FailsSo o f = ⊥
 
--- the failure that one of the code stands for
-abbrev pub failure : Sight → Failed → Failure
-failure big (x.With ty value) = f.failed_with (kind ty) (seen big value)
-failure big x.OutOfGas = f.out_of_gas
-failure big x.IntegerLimit = f.integer_limit
-failure big x.MutezOverflow = f.mutez_overflow
-failure big x.ShiftLimit = f.shift_limit
-failure big x.SizeLimit = f.size_limit
-failure big x.DepthLimit = f.depth_limit
-failure big x.TooManyOperations = f.too_many_operations
+module _ {v : World} {to : List ℕ} {stack : List Value} {issued : List Issued} where
+  -- the run that the definitions give
+  abbrev pub run_at : IsEnding v to stack issued → Ended
+  run_at e = run_in e.e e.s e.w e.t e.argument e.gas e.counts
 
--- frames below another one, or below none
-abbrev pub over : Sight → Option Frame → List fr.Frame → List fr.Frame
-over big None fs = fs
-over big (Some below) fs = frame big below ∷ fs
+  -- it came to its end, with the gas and the counts that the code left
+  pub record EndsWith (e : IsEnding v to stack issued) (z : World) (r : Finished) : Type 0 where
+    pub world : PlainWorld
+    pub stands : StandsFor z world
+    pub same :
+        run_at e ≡ finished (record {
+          world = world;
+          returned = map (issued_in z.store.bases.present) r.returned;
+          changes = map change r.changes;
+          gas = e.tally.gas;
+          counts = record { operations = e.tally.operations; originations = e.tally.originations };
+        })
+    pub handed : AllByRecursion (IsHanded z.store.bases.present) r.returned
 
-abbrev pub ActsAt : Sight → Act → List fr.Frame → Around → List Val → Tally → ℕ → List Kind → Outcome → Type 0
-ActsAt big a.On fs u V m d Z o = StandsAt fs u V m d Z o
-ActsAt big (a.Open below body) fs u V m d Z o = OpensAt (codes body) (over big below fs) u V m d Z o
-ActsAt big (a.Failed why) fs u V m d Z o = o ≡ failed (failure big why)
-
--- what was paid for leaves less gas
-abbrev pub Spends : Act → ℕ → ℕ → Type 0
-Spends (a.Failed why) old new = Unit {0}
-Spends _ old new = new < old
-
--- what comes after a turn costs nothing where there is no further one
-abbrev pub Turns : Act → ℕ → ℕ → Type 0
-Turns (a.Failed why) old new = Unit {0}
-Turns a.On old new = new ≡ old
-Turns _ old new = new < old
-
--- this instruction comes first, and these frames are below it
-abbrev pub Meets : Code → Beyond → Costs → State → List fr.Frame → ℕ → List Kind → Outcome → Type 0
-Meets i x costs m fs d Z o = MeetsAt i fs (around x costs m) (tops x.sight m.stack) (tally x m) d Z o
-
--- this frame comes first
-abbrev pub Stands : Frame → Beyond → Costs → State → List fr.Frame → ℕ → List Kind → Outcome → Type 0
-Stands f x costs m fs d Z o = StandsAt (frame x.sight f ∷ fs) (around x costs m) (tops x.sight m.stack) (tally x m) d Z o
-
--- what came first has acted
-abbrev pub Acts : Act → Beyond → Costs → State → List fr.Frame → ℕ → List Kind → Outcome → Type 0
-Acts a x costs m fs d Z o = ActsAt x.sight a fs (around x costs m) (tops x.sight m.stack) (tally x m) d Z o
-
--- a state is met, in which this instruction comes first
-abbrev pub Comes : Code → Costs → State → Type 0
-Comes i costs m = (x : Beyond) × (fs : List fr.Frame) × (d : ℕ) × (Z : List Kind) × (o : Outcome) × Meets i x costs m fs d Z o
-
--- or this frame
-abbrev pub Waits : Frame → Costs → State → Type 0
-Waits f costs m = (x : Beyond) × (fs : List fr.Frame) × (d : ℕ) × (Z : List Kind) × (o : Outcome) × Stands f x costs m fs d Z o
-
--- wherever the instruction comes first, the outcome of the whole stays as it acts
-abbrev pub Carries : Code → Costs → State → State → Result Act Memory → Type 0
-Carries i costs old new r =
-    (x : Beyond) (fs : List fr.Frame) (d : ℕ) (Z : List Kind) (o : Outcome) → Meets i x costs old fs d Z o →
-    IfOk r (λ a. Acts a x costs new fs d Z o)
-
--- wherever the frame does
-abbrev pub Resumes : Frame → Costs → State → State → Result Act Memory → Type 0
-Resumes f costs old new r =
-    (x : Beyond) (fs : List fr.Frame) (d : ℕ) (Z : List Kind) (o : Outcome) → Stands f x costs old fs d Z o →
-    IfOk r (λ a. Acts a x costs new fs d Z o)
+  abbrev pub EndsSo : IsEnding v to stack issued → World → Result Finished RunError → Type 0
+  EndsSo e z (Ok r) = EndsWith e z r
+  EndsSo e z (Err (Failed f)) = FailsSo (run_at e) f
+  EndsSo e z (Err Memory) = Unit {0}

@@ -1,22 +1,13 @@
-//! The machine: it runs the typed code of a contract with frames of its own.
+//! Runs of contracts: an entrypoint is called in a world, and what its code leaves is kept there.
 #![tactic(auto)]
 
-mod act;
-mod branches;
-mod calls;
-mod dipping;
-mod frame;
-mod giving;
-mod items;
-mod iterating;
-mod loops;
-mod machine;
-mod paying;
-mod run;
-mod stack;
-mod state;
+mod beginning;
+mod burning;
+mod ending;
+mod lending;
+mod returning;
+mod running;
+mod telling;
 
-pub use act::Failed;
-pub use machine::Ended;
-pub use run::run_code;
-pub use state::{Counts, State};
+pub use mich_interpreter::{Bodies, Counts};
+pub use running::{Finished, RunError, run};

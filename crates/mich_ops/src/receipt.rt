@@ -30,7 +30,7 @@ pub enum Status {
     /// It stood before the one that failed.
     Backtracked,
     /// It failed: how many of its operations were applied before the one that failed, and why that one did.
-    Failed(u32, Failure),
+    Failed(u64, Failure),
     /// It stood behind the one that failed.
     Skipped,
 }

@@ -1,168 +1,191 @@
--- Mutez is conserved by each statement, and so by a file.
-use Rattle.std.proofs.Common.{◌≡◌, inl, inr, ◌≤◌, ℕ, ◌+◌, ◌-◌, nat_le, ℤ, List, [], ◌∷◌, Bool, true, false, cond, unwrap_or, is_some, None, Some, refl, sym, ap, subst, ◌∙◌, arith}
+-- What holds behind each statement of a file, and so at its end.
+use Rattle.std.proofs.Common.{◌≡◌, ◌≢◌, ◌≤◌, ◌<◌, ◌+◌, ◌-◌, ◌^◌, ℕ, inl, inr, List, [], ◌∷◌, ◌++◌, length, drop, Some, None, refl, sym, ap, ◌∙◌, subst, arith}
+use Rattle.std.specs.Prelude.{ℤ, pos, ◌+ℤ◌, ◌-ℤ◌}
 use Rattle.std.specs.declared.option.Option.{Option}
-use Rattle.std.specs.Ordering.{nat_cmp, is_eq}
-use Rattle.std.specs.Cmp.{tied_itself}
-use Rattle.std.specs.Cmp.Lexicographic.{slice_cmp}
-use Rattle.std.specs.BTreeMap.{is_at}
-use Rattle.std.specs.Map.{lookup, keys_of}
-use Rattle.std.specs.List.Sorted.{IsStrictlySortedBy}
-use Rattle.std.proofs.lemmas.Cmp.{nat_list_cmp_total}
-use borrow.Author.Tests.{leb-true}
-use Rattle.rules_replay.specs.Places.{Placed, IsEndAt}
-use Rattle.rules_world.specs.Balances.{most_mutez}
-use Rattle.rules_replay.specs.Statements.{Statement, Chain, Account, Group, Action, Call, Content, form}
-use Rattle.rules_replay.specs.Receipts.{Receipt, GroupFault, Failure}
-use Rattle.rules_replay.specs.World.{World, new_world, balance_of, balance_in, with_balance, Granted, Repeated, TooMuch, granted_to, left_after_fee, fee_taken, moved, acted, refusal_of, failure_of, admitted, tried, world_by, world_after, supply}
-use Rattle.rules_replay.specs.Replay.{Replay, Closes, State, step_by, granting, Run, going, stopped, continued, run_one, run_all}
-use Rattle.mich_replay.specs.Laws.{granted_by, granted_in, ConservesMutez}
-use Rattle.mich_replay.proofs.Entries.{sorted-insert_entry, lookup-insert_entry}
-use Rattle.mich_replay.proofs.Sums.{sum-with_balance}
-use Rattle.mich_replay.proofs.Verdicts.{admitted-fee, amount_of, passed-amount}
-
--- what each statement keeps
-record Sound (w : World) : Type 0 where
-  sorted : IsStrictlySortedBy (slice_cmp nat_cmp) (keys_of w.accounts)
-  whole : supply w ≡ w.granted
-  small : w.granted ≤ most_mutez
-
-sorted-with_balance : (accounts : List (List ℕ × ℕ)) (who : List ℕ) (n : ℕ) → IsStrictlySortedBy (slice_cmp nat_cmp) (keys_of accounts)
-    → IsStrictlySortedBy (slice_cmp nat_cmp) (keys_of (with_balance accounts who n))
-sorted-with_balance accounts who n sorted = sorted-insert_entry (slice_cmp nat_cmp) nat_list_cmp_total accounts who n sorted
-
--- the balance that was set
-pub balance_in-with_balance : (accounts : List (List ℕ × ℕ)) (who : List ℕ) (n : ℕ) → balance_in (with_balance accounts who n) who ≡ n
-balance_in-with_balance accounts who n =
-    ap (λ (o : Option ℕ). unwrap_or o 0) (lookup-insert_entry (slice_cmp nat_cmp) nat_list_cmp_total who accounts who n)
-    ∙ ap (λ (b : Bool). unwrap_or (cond b (Some n) (lookup (is_at (slice_cmp nat_cmp who)) accounts)) 0) (ap is_eq (tied_itself nat_list_cmp_total who))
-
--- ---- groups
-
-fee_taken-sound : (w : World) (source : List ℕ) (c : Content) → c.fee ≤ balance_in w.accounts source → Sound w → Sound (fee_taken w source c)
-fee_taken-sound w source c enough s =
-    let set = sum-with_balance w.accounts source (left_after_fee w source c) s.sorted in
-    record {
-      sorted = sorted-with_balance w.accounts source (left_after_fee w source c) s.sorted;
-      whole = omega (arith, set, s.whole);
-      small = s.small;
-    }
-
-moved-sound : (w : World) (from to : List ℕ) (amount : ℕ) → amount ≤ balance_in w.accounts from → Sound w → Sound (moved w from to amount)
-moved-sound w from to amount enough s =
-    let left = balance_in w.accounts from - amount in
-    let one : List (List ℕ × ℕ) = with_balance w.accounts from left in
-    let sorted_one = sorted-with_balance w.accounts from left s.sorted in
-    let debit = sum-with_balance w.accounts from left s.sorted in
-    let credit = sum-with_balance one to (balance_in one to + amount) sorted_one in
-    record {
-      sorted = sorted-with_balance one to (balance_in one to + amount) sorted_one;
-      whole = omega (arith, debit, credit, s.whole, enough);
-      small = s.small;
-    }
-
-acted-sound : (w : World) (source : List ℕ) (a : Action) → amount_of a ≤ balance_in w.accounts source → Sound w → Sound (acted w source a) × ((acted w source a).granted ≡ w.granted)
-acted-sound w source (Call amount destination entrypoint argument) enough s = (moved-sound w source _ amount enough s, refl)
-
-world_after-sound : (w : World) (source : List ℕ) (c : Content) → Sound w → Sound (world_after w source c) × ((world_after w source c).granted ≡ w.granted)
-world_after-sound w source c s = by (refusal_of w source c) refl
-  where
-    tried-sound : c.fee ≤ balance_in w.accounts source → (o : Option Failure) → failure_of (left_after_fee w source c) c.gas c.action ≡ o
-        → Sound (world_by w source c (tried o)) × ((world_by w source c (tried o)).granted ≡ w.granted)
-    tried-sound enough (Some f) p = (fee_taken-sound w source c enough s, refl)
-    tried-sound enough None p =
-        acted-sound (fee_taken w source c) source c.action
-        (subst (λ (n : ℕ). amount_of c.action ≤ n) (sym (balance_in-with_balance w.accounts source (left_after_fee w source c))) (passed-amount (left_after_fee w source c) c.gas c.action p))
-        (fee_taken-sound w source c enough s)
-
-    by : (o : Option GroupFault) → refusal_of w source c ≡ o → Sound (world_by w source c (admitted w source c o)) × ((world_by w source c (admitted w source c o)).granted ≡ w.granted)
-    by (Some f) p = (s, refl)
-    by None p = tried-sound (admitted-fee w source c p) (failure_of (left_after_fee w source c) c.gas c.action) refl
-
--- ---- grants
-
-none_zero : (o : Option ℕ) → is_some o ≡ false → unwrap_or o 0 ≡ 0
-none_zero None e = refl
-none_zero (Some n) e = absurd cc
-
-abbrev made : World → List ℕ → ℕ → World
-made w who n = record w { accounts = with_balance w.accounts who n; granted = w.granted + n }
-
-made-sound : (w : World) (who : List ℕ) (n : ℕ) → is_some (balance_of w who) ≡ false → w.granted + n ≤ most_mutez → Sound w → Sound (made w who n)
-made-sound w who n new small s =
-    let set = sum-with_balance w.accounts who n s.sorted in
-    let zero : balance_in w.accounts who ≡ 0 = none_zero (balance_of w who) new in
-    record {
-      sorted = sorted-with_balance w.accounts who n s.sorted;
-      whole = omega (arith, set, zero, s.whole);
-      small = small;
-    }
+use Rattle.std.specs.List.{AllByRecursion}
+use Rattle.std.proofs.lemmas.Int.{ints}
+use Rattle.std.proofs.lemmas.List.{length-append, length-drop}
+use Rattle.rules_base.specs.Tree.{Tree, size}
+use Rattle.rules_course.specs.Course.{Course, Step, goes_on, stops, stuck_step}
+use Rattle.rules_course.specs.Ranges.{IsStatement}
+use Rattle.rules_text.specs.Fault.{file_limit}
+use Rattle.rules_text.specs.declared.TextKind.{TextKind}
+use Rattle.rules_replay.specs.Places.{Placed, IsNodeAt, IsEndAt, AreStatements}
+use Rattle.rules_replay.specs.Replay.{Replay, Closes, FileFault, TextFault, BadOrder, State, RefusedAt, IsReplay, Run, going, stopped, stuck_run, step, continued, taken, run_one, run_all, ending_of}
+use Rattle.rules_statements.specs.Statements.{Statement, form}
+use Rattle.rules_values.specs.Tickets.{Identity}
+use Rattle.rules_world.specs.Balances.{most_mutez, supply}
+use Rattle.rules_world.specs.Holdings.{held, minted_ever, burnt_ever}
+use Rattle.rules_world.specs.Receipts.{Receipt}
+use Rattle.rules_world.specs.World.{World}
+use Rattle.laws_runs.specs.Worlds.{IsWhole}
+use Rattle.laws_course.specs.Laws as course
+use Rattle.laws_course.specs.Laws.{IsGoodCourse, StaysGood}
+use Rattle.laws_course.proofs.Fields.{statements_have_ranges}
+use Rattle.laws_course.proofs.Good.{courses_begin_good, courses_stay_good}
+use Rattle.mich_answers.proofs.Shorter.{further}
+use Rattle.mich_reader.proofs.Holding.{limit_le}
+use Rattle.mich_replay.specs.Laws.{granted_by, granted_in, ConservesMutez, ConservesTickets, NoGroupIsStuck}
 
 -- ---- runs
 
--- the world of a run is sound, and so much was granted
-abbrev IsSoundRun : ℕ → Run → Type 0
-IsSoundRun n (going rs None) = n ≡ 0
-IsSoundRun n (going rs (Some w)) = Sound w × (w.granted ≡ n)
-IsSoundRun n (stopped rs f place) = Unit {0}
+abbrev IsGoodIf : ℕ → ℕ → Option Course → Type 0
+IsGoodIf groups granted None = (groups ≡ 0) × (granted ≡ 0)
+IsGoodIf groups granted (Some c) = IsGoodCourse c × (c.groups ≡ groups) × (c.world.granted ≡ granted)
 
-new-sound : (id : List ℕ) (level : ℕ) (moment : ℤ) → Sound (new_world id level moment)
-unfolding IsStrictlySortedBy
-new-sound id level moment = record { sorted = tt; whole = refl; small = omega arith }
+-- behind statements that granted so much
+abbrev IsGoodRun : ℕ → Run → Type 0
+IsGoodRun granted (going receipts c) = IsGoodIf (length receipts) granted c
+IsGoodRun granted (stopped receipts f place) = Unit {0}
+IsGoodRun granted stuck_run = ⊥
 
-granting-sound : (w : World) (who : List ℕ) (n : ℕ) (rs : List Receipt) (place : ℕ) → Sound w
-    → IsSoundRun (w.granted + n) (continued rs place (granting (granted_to w who n)))
-granting-sound w who n rs place s = by (is_some (balance_of w who)) (nat_le (w.granted + n) most_mutez) refl refl
-  where
-    by : (a b : Bool) → is_some (balance_of w who) ≡ a → nat_le (w.granted + n) most_mutez ≡ b
-        → IsSoundRun (w.granted + n) (continued rs place (granting (cond a Repeated (cond b (Granted (made w who n)) TooMuch))))
-    by true b p q = tt
-    by false true p q = (made-sound w who n p (leb-true (w.granted + n) most_mutez q) s, refl)
-    by false false p q = tt
+-- it goes on with at most so many receipts
+abbrev HasAtMost : ℕ → Run → Type 0
+HasAtMost most (going receipts c) = length receipts ≤ most
+HasAtMost most (stopped receipts f place) = Unit {0}
+HasAtMost most stuck_run = Unit {0}
 
-step-sound : (n : ℕ) (rs : List Receipt) (w : Option World) (place : ℕ) (f : Option Statement) → IsSoundRun n (going rs w)
-    → IsSoundRun (n + granted_by f) (continued rs place (step_by w f))
-step-sound n rs w place None s = tt
-step-sound n rs None place (Some (Chain id level moment)) s = (new-sound id level moment, omega (arith, s))
-step-sound n rs None place (Some (Account who mutez)) s = tt
-step-sound n rs None place (Some (Group source c)) s = tt
-step-sound n rs (Some w) place (Some (Chain id level moment)) s = tt
-step-sound n rs (Some w) place (Some (Account who mutez)) s =
-    subst (λ (k : ℕ). IsSoundRun (k + mutez) (continued rs place (granting (granted_to w who mutez)))) s.1 (granting-sound w who mutez rs place s.0)
-step-sound n rs (Some w) place (Some (Group source c)) s =
-    let after = world_after-sound w source c s.0 in
-    (after.0, omega (arith, after.1, s.1))
+record Stays (granted most : ℕ) (r : Run) : Type 0 where
+  good : IsGoodRun granted r
+  few : HasAtMost most r
 
-run_one-sound : (n : ℕ) (r : Run) (s : Placed) → IsSoundRun n r → IsSoundRun (n + granted_by (form s.node)) (run_one r s)
-run_one-sound n (going rs w) s sound = step-sound n rs w s.place (form s.node) sound
-run_one-sound n (stopped rs f place) s sound = tt
+-- a step of a statement from a good course
+stepped : (groups granted : ℕ) (c : Option Course) (s : Statement) → IsGoodIf groups granted c → groups + 1 < 2 ^ 64 → IsStatement s →
+    StaysGood groups granted (course.granted_by s) (step c s)
+stepped groups granted None s h few i =
+    subst (λ (n : ℕ). StaysGood n granted (course.granted_by s) (step None s)) (sym h.0)
+    (subst (λ (n : ℕ). StaysGood 0 n (course.granted_by s) (step None s)) (sym h.1) (courses_begin_good s i))
+stepped groups granted (Some c) s h few i =
+    subst (λ (n : ℕ). StaysGood n granted (course.granted_by s) (step (Some c) s)) h.1
+    (subst (λ (n : ℕ). StaysGood c.groups n (course.granted_by s) (step (Some c) s)) h.2
+    (courses_stay_good c s h.0 (subst (λ (n : ℕ). n + 1 < 2 ^ 64) (sym h.1) few) i))
 
-run_all-sound : (n : ℕ) (r : Run) (ss : List Placed) → IsSoundRun n r → IsSoundRun (n + granted_in ss) (run_all r ss)
-run_all-sound n r [] sound = subst (λ (k : ℕ). IsSoundRun k r) (omega arith) sound
-run_all-sound n r (s ∷ ss) sound =
-    subst (λ (k : ℕ). IsSoundRun k (run_all (run_one r s) ss)) (omega arith) (run_all-sound (n + granted_by (form s.node)) (run_one r s) ss (run_one-sound n r s sound))
+continued_stays : (receipts : List Receipt) (place granted more most : ℕ) (x : Step) → StaysGood (length receipts) granted more x →
+    length receipts ≤ most → Stays (granted + more) (most + 1) (continued receipts place x)
+continued_stays receipts place granted more most (goes_on q rs) h few = record {
+  good = (h.0, h.1 ∙ sym (length-append receipts rs), h.2);
+  few = omega (arith, length-append receipts rs, h.3, few);
+}
+continued_stays receipts place granted more most (stops why) h few = record { good = tt; few = tt }
+continued_stays receipts place granted more most stuck_step h few = absurd h
+
+taken_stays : (receipts : List Receipt) (c : Option Course) (place granted most : ℕ) (o : Option Statement) →
+    ((s : Statement) → o ≡ Some s → IsStatement s) → IsGoodIf (length receipts) granted c → length receipts ≤ most → most + 1 < 2 ^ 64 →
+    Stays (granted + granted_by o) (most + 1) (taken receipts c place o)
+taken_stays receipts c place granted most (Some s) ranges good few small =
+    continued_stays receipts place granted (course.granted_by s) most (step c s)
+    (stepped (length receipts) granted c s good (omega (arith, few, small)) (ranges s refl)) few
+taken_stays receipts c place granted most None ranges good few small = record { good = tt; few = tt }
+
+one_stays : (s : Placed) (granted most : ℕ) (r : Run) → size s.node < 2 ^ 32 → most + 1 < 2 ^ 64 → Stays granted most r →
+    Stays (granted + granted_by (form s.node)) (most + 1) (run_one r s)
+one_stays s granted most (going receipts c) small room h =
+    taken_stays receipts c s.place granted most (form s.node) (λ x e. statements_have_ranges s.node x e small) h.good h.few room
+one_stays s granted most (stopped receipts f place) small room h = record { good = tt; few = tt }
+one_stays s granted most stuck_run small room h = absurd h.good
+
+all_stay : (ss : List Placed) (granted most : ℕ) (r : Run) → AllByRecursion (λ s. size s.node < 2 ^ 32) ss → most + length ss < 2 ^ 64 →
+    Stays granted most r → Stays (granted + granted_in ss) (most + length ss) (run_all r ss)
+all_stay [] granted most r small room h =
+    let same : granted ≡ granted + 0 = omega arith in
+    let count : most ≡ most + 0 = omega arith in
+    subst (λ (n : ℕ). Stays n (most + 0) r) same (subst (λ (n : ℕ). Stays granted n r) count h)
+all_stay (s ∷ ss) granted most r small room h =
+    let here = one_stays s granted most r small.0 (omega (arith, room)) h in
+    let rest = all_stay ss (granted + granted_by (form s.node)) (most + 1) (run_one r s) small.1 (omega (arith, room)) here in
+    let sums : granted + granted_by (form s.node) + granted_in ss ≡ granted + (granted_by (form s.node) + granted_in ss) = omega arith in
+    let counts : most + 1 + length ss ≡ most + length (s ∷ ss) = omega arith in
+    subst (λ (n : ℕ). Stays n (most + length (s ∷ ss)) (run_all (run_one r s) ss)) sums
+    (subst (λ (n : ℕ). Stays (granted + granted_by (form s.node) + granted_in ss) n (run_all (run_one r s) ss)) counts rest)
 
 -- ---- files
 
-record Ended (file : List ℕ) (to : ℕ) (r : Run) (w : World) : Type 0 where
+-- statements have fewer nodes than bytes, and there are fewer of them than bytes
+record AreSmall (place : ℕ) (ss : List Placed) (to : ℕ) : Type 0 where
+  nodes : AllByRecursion (λ s. size s.node < 2 ^ 32) ss
+  count : place + length ss ≤ to
+  within : to ≤ file_limit
+
+small : (file : List ℕ) (place : ℕ) (ss : List Placed) (to : ℕ) → place ≤ file_limit → place ≤ length file → AreStatements file place ss to →
+    AreSmall place ss to
+small file place [] to before within e = record { nodes = tt; count = omega (arith, e); within = omega (arith, e, before) }
+small file place (s ∷ ss) to before within (behind, n, tail) =
+    let f = further file place s.node s.place behind within n in
+    let at : behind + n.1 ≡ place + length (drop place file) = omega (arith, n.4, length-drop place file, within) in
+    let near : behind ≤ file_limit = limit_le place (drop place file) s.node n.0 n.1 behind before n.2 at in
+    let rest = small file behind ss to near f.2 tail in
+    record { nodes = (omega (arith, f.1, near), rest.nodes); count = omega (arith, f.0, rest.count); within = rest.within }
+
+nothing_yet : Stays 0 0 (going [] None)
+nothing_yet = record { good = (refl, refl); few = omega arith }
+
+file_stays : (file : List ℕ) (ss : List Placed) (to : ℕ) → AreStatements file 0 ss to → Stays (granted_in ss) (length ss) (run_all (going [] None) ss)
+file_stays file ss to stand =
+    let s = small file 0 ss to (omega arith) (omega arith) stand in
+    all_stay ss 0 0 (going [] None) s.nodes (omega (arith, s.count, s.within)) nothing_yet
+
+pub no_group_is_stuck : NoGroupIsStuck
+no_group_is_stuck file ss to stand stuck = (subst (Stays (granted_in ss) (length ss)) stuck (file_stays file ss to stand)).good
+
+-- ---- a file that ends in a world
+
+record EndsGood (file : List ℕ) (w : World) : Type 0 where
+  statements : List Placed
+  to : ℕ
+  stand : AreStatements file 0 statements to
   end : IsEndAt file to
-  receipts : List Receipt
-  run : r ≡ going receipts (Some w)
+  whole : IsWhole w
+  granted : w.granted ≡ granted_in statements
 
-state_is : (v w : World) → State v ≡ State w → v ≡ w
-state_is v w e = cc
+ended : (file : List ℕ) (to granted : ℕ) (ss : List Placed) (receipts : List Receipt) (c : Option Course) (done : Replay) (w : World) →
+    AreStatements file 0 ss to → granted ≡ granted_in ss → IsGoodIf (length receipts) granted c → IsEndAt file to →
+    done ≡ record { receipts = receipts; ending = ending_of (length file) c } → done.ending ≡ State w → EndsGood file w
+ended file to granted ss receipts (Some c) done w stand all good end is h =
+    let same : c.world ≡ w = world_of (sym (ap (λ (d : Replay). d.ending) is) ∙ h) in
+    record {
+      statements = ss;
+      to = to;
+      stand = stand;
+      end = end;
+      whole = subst IsWhole same good.0.whole;
+      granted = sym (ap (λ (v : World). v.granted) same) ∙ good.2 ∙ all;
+    }
+  where
+    world_of : State c.world ≡ State w → c.world ≡ w
+    world_of e = cc
+ended file to granted ss receipts None done w stand all good end is h = absurd (no_world (sym (ap (λ (d : Replay). d.ending) is) ∙ h))
+  where
+    no_world : RefusedAt BadOrder (length file) ≡ State w → ⊥
+    no_world e = absurd cc
 
-ended-in : (file : List ℕ) (to : ℕ) (r : Run) (done : Replay) (w : World) → Closes file to r done → done.ending ≡ State w → Ended file to r w
-ended-in file to (stopped rs f place) done w c e = let h = ap (λ (d : Replay). d.ending) c in absurd cc
-ended-in file to (going rs None) done w (inl c) e = let h = ap (λ (d : Replay). d.ending) c.1 in absurd cc
-ended-in file to (going rs (Some v)) done w (inl c) e =
-    let h = ap (λ (d : Replay). d.ending) c.1 in
-    let same : v ≡ w = state_is v w (sym h ∙ e) in
-    record { end = c.0; receipts = rs; run = ap (λ (x : World). going rs (Some x)) same }
-ended-in file to (going rs v) done w (inr c) e = let h = ap (λ (d : Replay). d.ending) c.3 in absurd cc
+closed : (file : List ℕ) (to granted : ℕ) (ss : List Placed) (r : Run) (done : Replay) (w : World) → AreStatements file 0 ss to →
+    granted ≡ granted_in ss → IsGoodRun granted r → Closes file to r done → done.ending ≡ State w → EndsGood file w
+closed file to granted ss (going receipts c) done w stand all good (inl e) h = ended file to granted ss receipts c done w stand all good e.0 e.1 h
+closed file to granted ss (going receipts c) done w stand all good (inr f) h =
+    absurd (no_world (TextFault f.0) f.1 (sym (ap (λ (d : Replay). d.ending) f.3) ∙ h))
+  where
+    no_world : (x : FileFault) (at : ℕ) → RefusedAt x at ≡ State w → ⊥
+    no_world x at e = absurd cc
+closed file to granted ss (stopped receipts f place) done w stand all good e h = absurd (no_world (sym (ap (λ (d : Replay). d.ending) e) ∙ h))
+  where
+    no_world : RefusedAt f place ≡ State w → ⊥
+    no_world x = absurd cc
+closed file to granted ss stuck_run done w stand all good e h = absurd e
+
+ends_good : (file : List ℕ) (done : Replay) (w : World) → IsReplay file done → done.ending ≡ State w → EndsGood file w
+ends_good file done w r h =
+    closed file r.to (granted_in r.statements) r.statements (run_all (going [] None) r.statements) done w r.stand refl
+    (file_stays file r.statements r.to r.stand).good r.closes h
 
 pub conserves_mutez : ConservesMutez
-conserves_mutez file done w replay e =
-    let last = ended-in file replay.to (run_all (going [] None) replay.statements) done w replay.closes e in
-    let sound : IsSoundRun (0 + granted_in replay.statements) (run_all (going [] None) replay.statements) = run_all-sound 0 (going [] None) replay.statements refl in
-    let s = subst (IsSoundRun (0 + granted_in replay.statements)) last.run sound in
-    (replay.statements, replay.to, replay.stand, last.end, omega (arith, s.0.whole, s.1), omega (arith, s.0.whole, s.0.small))
+conserves_mutez file done w r h =
+    let e = ends_good file done w r h in
+    (e.statements, e.to, e.stand, e.end, e.whole.mutez ∙ e.granted, e.whole.good.sound.mutez)
+
+pub conserves_tickets : ConservesTickets
+conserves_tickets file done w r h id =
+    let e = ends_good file done w r h in
+    nothing_more (held w id) ∙ e.whole.good.tickets id
+  where
+    nothing_more : (n : ℤ) → n ≡ n +ℤ pos 0
+    nothing_more n = omega (arith, ints)

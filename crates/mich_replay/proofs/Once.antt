@@ -5,8 +5,8 @@ use Rattle.rules_text.specs.declared.TextKind.{TextKind}
 use Rattle.mich_text.proofs.Unique.{one_statement}
 use Rattle.mich_text.proofs.OneReading.{one_fault, no_fault_at_node, no_node_at_end, no_fault_at_end}
 use Rattle.rules_replay.specs.Places.{Placed, IsNodeAt, IsFaultAt, IsEndAt, AreStatements, EndsIn}
-use Rattle.rules_replay.specs.Receipts.{Receipt}
-use Rattle.rules_replay.specs.Replay.{Replay, Closes, FileFault, TextFault, RefusedAt, Run, going, stopped, run_one, run_all}
+use Rattle.rules_world.specs.Receipts.{Receipt}
+use Rattle.rules_replay.specs.Replay.{Replay, Closes, FileFault, TextFault, RefusedAt, Run, going, stopped, stuck_run, run_one, run_all}
 use Rattle.rules_replay.specs.Answers.{Answer, replay_answer}
 use Rattle.rules_replay.specs.Codec.{of_text, IsCodecAnswer, of_listing, encode_node, decode_node}
 use Rattle.rules_replay.specs.Scripts.{check_statements, IsCheckAnswer}
@@ -50,6 +50,7 @@ stays rs f place (s ∷ ss) = stays rs f place ss
 
 closes-one : (file : List ℕ) (p : ℕ) (r : Run) (a b : Replay) → Closes file p r a → Closes file p r b → a ≡ b
 closes-one file p (stopped rs f place) a b c d = c ∙ sym d
+closes-one file p stuck_run a b c d = absurd c
 closes-one file p (going rs w) a b (inl c) (inl d) = c.1 ∙ sym d.1
 closes-one file p (going rs w) a b (inl c) (inr d) = absurd (fault-and-end file p d.0 d.1 d.2 c.0)
 closes-one file p (going rs w) a b (inr c) (inl d) = absurd (fault-and-end file p c.0 c.1 c.2 d.0)
@@ -63,6 +64,7 @@ closes-early : (file : List ℕ) (p : ℕ) (r : Run) (a b : Replay) (s : Placed)
     → IsNodeAt file p s.node s.place behind → Closes file to (run_all r (s ∷ ss)) b → a ≡ b
 closes-early file p (stopped rs f place) a b s behind ss to c node d =
     c ∙ sym (subst (λ (x : Run). Closes file to x b) (stays rs f place (s ∷ ss)) d)
+closes-early file p stuck_run a b s behind ss to c node d = absurd c
 closes-early file p (going rs w) a b s behind ss to (inl c) node d = absurd (node-and-end file p s.node s.place behind node c.0)
 closes-early file p (going rs w) a b s behind ss to (inr c) node d = absurd (node-and-fault file p s.node s.place behind c.0 c.1 node c.2)
 

@@ -1,14 +1,16 @@
 -- Laws of what a file comes to.
-use Rattle.std.specs.Prelude.{◌≡◌, ◌≢◌, ◌≤◌, ℕ, ◌+◌, List, [], ◌∷◌, Some, None}
+use Rattle.std.specs.Prelude.{◌≡◌, ◌≢◌, ◌≤◌, ℕ, ◌+◌, ◌-ℤ◌, List, [], ◌∷◌, Some, None}
 use Rattle.std.specs.declared.option.Option.{Option}
 use Rattle.rules_replay.specs.Places.{Placed, AreStatements, IsEndAt}
-use Rattle.rules_world.specs.Balances.{most_mutez}
-use Rattle.rules_replay.specs.Statements.{Statement, Chain, Account, Group, Content, form}
-use Rattle.rules_replay.specs.Receipts.{GroupFault, Failure, Refused, Done, Failed}
-use Rattle.rules_replay.specs.World.{World, balance_of, balance_in, receipt_of, world_after, supply}
-use Rattle.rules_replay.specs.Replay.{Replay, State, IsReplay}
+use Rattle.rules_statements.specs.Statements.{Statement, form}
+use Rattle.rules_values.specs.Tickets.{Identity}
+use Rattle.rules_world.specs.Balances.{most_mutez, supply}
+use Rattle.rules_world.specs.Holdings.{held, minted_ever, burnt_ever}
+use Rattle.rules_world.specs.World.{World}
+use Rattle.rules_replay.specs.Replay.{Replay, State, IsReplay, going, stuck_run, run_all}
 use Rattle.rules_replay.specs.Answers.{Answer}
 use Rattle.rules_replay.specs.Commands.{Command, IsAnswer}
+use Rattle.laws_course.specs.Laws as course
 
 -- ---- answers
 
@@ -16,14 +18,16 @@ use Rattle.rules_replay.specs.Commands.{Command, IsAnswer}
 abbrev pub HasOneAnswer : Command → Type 0
 HasOneAnswer command = (content : List ℕ → Option (List ℕ)) (a b : Answer) → IsAnswer command content a → IsAnswer command content b → a ≡ b
 
+-- the groups of a file all have outcomes: accepted code is never stuck
+abbrev pub NoGroupIsStuck : Type 0
+NoGroupIsStuck = (file : List ℕ) (ss : List Placed) (to : ℕ) → AreStatements file 0 ss to → run_all (going [] None) ss ≢ stuck_run
+
 -- ---- mutez
 
 -- what a statement grants
 abbrev pub granted_by : Option Statement → ℕ
 granted_by None = 0
-granted_by (Some (Account who mutez)) = mutez
-granted_by (Some (Chain id level moment)) = 0
-granted_by (Some (Group source content)) = 0
+granted_by (Some s) = course.granted_by s
 
 -- what the accounts among statements are granted
 abbrev pub granted_in : List Placed → ℕ
@@ -35,20 +39,9 @@ abbrev pub ConservesMutez : Type 0
 ConservesMutez = (file : List ℕ) (done : Replay) (w : World) → IsReplay file done → done.ending ≡ State w
     → (ss : List Placed) × (to : ℕ) × AreStatements file 0 ss to × IsEndAt file to × (supply w ≡ granted_in ss) × (supply w ≤ most_mutez)
 
--- ---- groups that come to nothing
+-- ---- tickets
 
--- a fee went from the source to the fees, and all else stands as before
-pub record FeeAlone (source : List ℕ) (fee : ℕ) (before now : World) : Type 0 where
-  pub payer : balance_in now.accounts source + fee ≡ balance_in before.accounts source
-  pub others : (who : List ℕ) → who ≢ source → balance_of now who ≡ balance_of before who
-  pub fees : now.fees ≡ before.fees + fee
-  pub rest : now ≡ record before { accounts = now.accounts; fees = now.fees }
-
--- a group that is refused changes nothing
-abbrev pub RefusalChangesNothing : Type 0
-RefusalChangesNothing = (w : World) (source : List ℕ) (c : Content) (fault : GroupFault) → receipt_of w source c ≡ Refused fault → world_after w source c ≡ w
-
--- a group that fails changes its fee alone
-abbrev pub FailureTakesFeeAlone : Type 0
-FailureTakesFeeAlone = (w : World) (source : List ℕ) (c : Content) (count : ℕ) (failure : Failure)
-    → receipt_of w source c ≡ Done (Failed count failure ∷ []) → FeeAlone source c.fee w (world_after w source c)
+-- and of each ticket its owners hold what was minted less what was burnt
+abbrev pub ConservesTickets : Type 0
+ConservesTickets = (file : List ℕ) (done : Replay) (w : World) → IsReplay file done → done.ending ≡ State w
+    → (id : Identity) → held w id ≡ minted_ever w id -ℤ burnt_ever w id

@@ -12,5 +12,4 @@ pub use Rattle.rules_replay.specs.Packs
 pub mod Laws
 pub mod Steps
 pub mod View
-pub mod Transfers
 pub mod Fronts

@@ -6,13 +6,21 @@ ghost use Rattle.rules_replay.specs.Answers.{Answer};
 ghost use Rattle.rules_replay.specs.Codec.{IsCodecAnswer};
 ghost use Rattle.rules_replay.specs.Replay.{Replay, State, IsReplay};
 ghost use Rattle.rules_replay.specs.Scripts.{IsCheckAnswer};
-ghost use Rattle.rules_replay.specs.World.{World};
+ghost use Rattle.rules_world.specs.Laws.{FailedGroupsMoveFees, RefusedGroupsMoveNothing};
+ghost use Rattle.rules_world.specs.World.{World};
 ghost use Rattle.rules_replay.specs.Commands.{Command};
-ghost use Rattle.mich_replay.specs.Laws.{ConservesMutez, HasOneAnswer, RefusalChangesNothing, FailureTakesFeeAlone};
+ghost use Rattle.mich_replay.specs.Laws.{ConservesMutez, ConservesTickets, HasOneAnswer, NoGroupIsStuck};
+
+use laws_world::{failed_groups_move_fees, refused_groups_move_nothing};
 
 /// A command has one answer: whatever the files hold, no two statuses and texts are answers to it.
 pub fn commands_have_one_answer()
     ensures { (command : Command) → HasOneAnswer command }
+{}
+
+/// Each group of a file has an outcome: code that was accepted is never stuck.
+pub fn no_group_is_stuck()
+    ensures { NoGroupIsStuck }
 {}
 
 /// Mutez is neither made nor lost: at the end of a file, balances and fees are together what its accounts were granted.
@@ -20,11 +28,20 @@ pub fn mutez_is_conserved()
     ensures { ConservesMutez }
 {}
 
-/// A group is all or nothing: one that is refused changes nothing, and one that fails changes its fee alone.
-pub fn groups_are_all_or_nothing()
-    ensures refused { RefusalChangesNothing }
-    ensures failed { FailureTakesFeeAlone }
+/// Tickets are neither made nor lost but by minting and burning: at the end of a file, the owners of each hold what was minted of it
+/// less what was burnt (Octez "Tickets").
+pub fn tickets_are_conserved()
+    ensures { ConservesTickets }
 {}
+
+/// A group is all or nothing: one that is refused changes nothing, and one with a content that failed moves its fees alone.
+pub fn groups_are_all_or_nothing()
+    ensures refused { RefusedGroupsMoveNothing }
+    ensures failed { FailedGroupsMoveFees }
+{
+    refused_groups_move_nothing();
+    failed_groups_move_fees();
+}
 
 /// A file that is longer than a file may be is refused, and its answer doesn't depend on the bytes behind the first one too many: it
 /// may be cut there.

@@ -3,7 +3,6 @@
 
 mod answer;
 mod command;
-mod failing;
 mod honest;
 mod laws;
 mod lines;
@@ -12,13 +11,11 @@ mod reading;
 mod replaying;
 mod steps;
 mod top;
-mod transfers;
-mod world;
 
 pub use honest::replay_bytes;
 pub use laws::{
     commands_have_one_answer, groups_are_all_or_nothing, long_files_are_decided_by_their_fronts,
-    mutez_is_conserved,
+    mutez_is_conserved, no_group_is_stuck, tickets_are_conserved,
 };
 pub use top::mich;
 

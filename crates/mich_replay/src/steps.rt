@@ -1,94 +1,118 @@
-// One statement of a file, in the world so far.
-ghost use Rattle.std.specs.Prelude.{◌≡◌, ◌<◌, ◌≤◌, ◌+◌, ◌-◌, ◌^◌, ◌++◌, ◌∷◌, [], ℕ, length, map, Some, None, IfOk, OnOk, IfSome};
+// One statement of a file, behind others or as the first.
+ghost use Rattle.std.specs.Prelude.{◌≡◌, ◌<◌, ◌≤◌, ◌+◌, ◌-◌, ◌^◌, ℕ, List, [], ◌∷◌, ◌++◌, length, Option, Some, OnOk};
+ghost use Rattle.rules_base.specs.Tree.{size};
+ghost use Rattle.rules_course.specs.Course.{Course as PlainCourse};
+ghost use Rattle.rules_course.specs.Ranges.{IsStatement};
+ghost use Rattle.rules_replay.specs.Replay.{step, taken};
+ghost use Rattle.rules_statements.specs.Statements.{form};
+ghost use Rattle.rules_world.specs.Receipts.{Receipt};
 ghost use Rattle.mich_base.specs.View.{tree};
-ghost use Rattle.rules_replay.specs.Statements.{form};
-ghost use Rattle.rules_replay.specs.World.{receipt_of, world_after, granted_to};
-ghost use Rattle.rules_replay.specs.Replay.{step, step_by, granting};
-ghost use Rattle.rules_replay.specs.Lines.{group_line};
-ghost use Rattle.mich_replay.specs.Transfers.{built_said, content_said};
-ghost use Rattle.mich_replay.specs.View.{file_fault_seen};
-ghost use Rattle.mich_replay.specs.Steps.{IsGranting, IsTaken};
+ghost use Rattle.rules_lines.specs.Nodes.{line, group_node};
+ghost use Rattle.mich_ops.specs.Told.{told_receipt};
+ghost use Rattle.mich_ops.specs.View.{receipt};
+ghost use Rattle.mich_scenario.specs.View.{said};
+ghost use Rattle.mich_replay.specs.Steps.{FollowsIf, HasRoom, IsTaken, Leads, Stands, groups_of};
 
-use crate::lines::group_line;
-use crate::outcome::{FileFault, Grant};
-use crate::transfers::{BuiltStatement, Group, built};
-use crate::world::World;
-use mich_answers::as_text;
+use crate::outcome::FileFault;
 use mich_base::{Memory, Node, Texts};
-use mich_forms::KeyHash;
-use mich_scenario::{FormError, take_form};
+use mich_course::{Course, CourseError, begin};
+use mich_machine::Bodies;
+use mich_ops::GroupReceipt;
+use mich_report::receipt_text;
+use mich_scenario::{FormError, Statement, take_form};
 use std::alloc::Global;
 
-// Makes an account, or says why it can't be made.
-fn grant(world: &mut World, who: KeyHash, mutez: u64) -> Result<Option<FileFault>, Memory>
-    ensures { IfOk result (λ fault. IsGranting (granting (granted_to world.old who mutez)) world.new fault) }
+// Goes on with a statement, or begins with it.
+fn go_on(
+    alloc: Global,
+    course: &mut Option<Course>,
+    bodies: &mut Bodies,
+    statement: &Statement,
+) -> Result<Option<GroupReceipt>, CourseError>
+    requires follows { (p : Option PlainCourse) × FollowsIf course.old p }
+    requires room { HasRoom course.old }
+    requires ranges { IsStatement (said statement.now) }
+    ensures { (p : Option PlainCourse) → FollowsIf course.old p → Leads (step p (said statement.entry.now)) course.new result }
 {
-    match world.grant(who, mutez)? {
-        Grant::Granted => Ok(None),
-        Grant::Repeated => Ok(Some(FileFault::RepeatedAccount)),
-        Grant::TooMuch => Ok(Some(FileFault::SupplyLimit)),
+    match course {
+        None => {
+            *course = Some(begin(alloc, statement)?);
+            Ok(None)
+        }
+        Some(found) => found.take(alloc, statement, bodies),
     }
 }
 
-// Applies a group, and adds its line.
-fn apply(alloc: Global, world: &mut World, group: &Group, lines: &mut Texts) -> Result<(), Memory>
-    requires { length lines.old < 2 ^ 64 - 1 }
-    ensures count { OnOk result (length lines.new ≤ length lines.old + 1) }
-    ensures line { OnOk result (lines.new ≡ lines.old ++ group_line (length lines.old + 1) (receipt_of world.old group.now.source (content_said group.now.content)) ∷ []) }
-    ensures world { OnOk result (world.new ≡ world_after world.old group.now.source (content_said group.now.content)) }
+// The number of the last group.
+fn last_number(course: &Option<Course>) -> u64
+    ensures { result ≡ groups_of course.now }
 {
-    let verdict = world.apply(group)?;
-    let number = lines.len() as u64 + 1;
-    lines.push(as_text(group_line(alloc, number, group, verdict)?))?;
-    Ok(())
+    match course {
+        None => 0,
+        Some(found) => found.groups,
+    }
 }
 
+// Adds the line of the group that was the last.
+fn tell(
+    alloc: Global,
+    course: &Option<Course>,
+    lines: &mut Texts,
+    receipt: &GroupReceipt,
+) -> Result<(), Memory>
+    ensures { (found : Receipt) → told_receipt found ≡ receipt receipt.entry.now → OnOk result (lines.new ≡ lines.old ++ line (group_node (groups_of course.entry.now) found) ∷ []) }
+{
+    let line = receipt_text(alloc, last_number(course), receipt)?;
+    lines.push(line)
+}
+
+// Goes on with a statement, and adds a line where it is a group.
 fn step(
     alloc: Global,
-    world: &mut Option<World>,
+    course: &mut Option<Course>,
+    bodies: &mut Bodies,
     lines: &mut Texts,
-    statement: &BuiltStatement,
+    statement: &Statement,
 ) -> Result<Option<FileFault>, Memory>
-    requires { length lines.old < 2 ^ 64 - 1 }
-    ensures taken { IsTaken (step world.old (built_said statement.now)) lines.old world.new lines.new result }
+    requires stands { (receipts : List Receipt) × (p : Option PlainCourse) × Stands receipts p course.old lines.old }
+    requires few { length lines.old < 2 ^ 64 - 1 }
+    requires ranges { IsStatement (said statement.now) }
+    ensures taken { (receipts : List Receipt) (p : Option PlainCourse) (place : ℕ) → Stands receipts p course.old lines.old
+        → IsTaken (taken receipts p place (Some (said statement.entry.now))) place course.new lines.new result }
     ensures count { OnOk result (length lines.new ≤ length lines.old + 1) }
 {
-    match world {
-        None => match statement {
-            BuiltStatement::Chain(id, level, moment) => {
-                *world = Some(World::new(alloc, *id, *level, *moment));
-                Ok(None)
-            }
-            _ => Ok(Some(FileFault::BadOrder)),
-        },
-        Some(found) => match statement {
-            BuiltStatement::Chain(_, _, _) => Ok(Some(FileFault::BadOrder)),
-            BuiltStatement::Account(who, mutez) => grant(found, *who, *mutez),
-            BuiltStatement::Group(group) => {
-                apply(alloc, found, group, lines)?;
-                Ok(None)
-            }
-        },
+    match go_on(alloc, course, bodies, statement) {
+        Ok(None) => Ok(None),
+        Ok(Some(receipt)) => {
+            tell(alloc, course, lines, &receipt)?;
+            Ok(None)
+        }
+        Err(CourseError::BadOrder) => Ok(Some(FileFault::BadOrder)),
+        Err(CourseError::BadCosts) => Ok(Some(FileFault::BadCosts)),
+        Err(CourseError::RepeatedAccount) => Ok(Some(FileFault::RepeatedAccount)),
+        Err(CourseError::SupplyLimit) => Ok(Some(FileFault::SupplyLimit)),
+        Err(CourseError::Memory) => Err(Memory),
     }
 }
 
-/// Takes a node as a statement: the world and the lines of the groups go on, or it is why the file is refused. After an
-/// `Err` both are given up.
+/// Takes a node as the next statement: the course and the lines of the groups go on, or it is why the file is refused. After Memory
+/// all is given up.
 pub(crate) fn take(
     alloc: Global,
-    world: &mut Option<World>,
+    course: &mut Option<Course>,
+    bodies: &mut Bodies,
     lines: &mut Texts,
     node: Node,
 ) -> Result<Option<FileFault>, Memory>
-    requires { length lines.old < 2 ^ 64 - 1 }
-    ensures taken { IsTaken (step_by world.old (form (tree node))) lines.old world.new lines.new result }
+    requires stands { (receipts : List Receipt) × (p : Option PlainCourse) × Stands receipts p course.old lines.old }
+    requires few { length lines.old < 2 ^ 64 - 1 }
+    requires small { size (tree node) < 2 ^ 32 }
+    ensures taken { (receipts : List Receipt) (p : Option PlainCourse) (place : ℕ) → Stands receipts p course.old lines.old
+        → IsTaken (taken receipts p place (form (tree node))) place course.new lines.new result }
     ensures count { OnOk result (length lines.new ≤ length lines.old + 1) }
 {
     match take_form(alloc, node) {
-        Ok(statement) => match built(statement) {
-            Some(statement) => step(alloc, world, lines, &statement),
-            None => Ok(Some(FileFault::BadStatement)),
-        },
+        Ok(statement) => step(alloc, course, bodies, lines, &statement),
         Err(FormError::BadStatement) => Ok(Some(FileFault::BadStatement)),
         Err(FormError::Memory) => Err(Memory),
     }

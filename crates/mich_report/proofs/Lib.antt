@@ -1,2 +1,5 @@
 mod Same
 mod Loops
+mod Written
+mod Walks
+mod Rest

@@ -1,15 +1,21 @@
-//! What is written of a replay: the lines of groups.
+//! What is written of a replay: the lines of groups, and of the world at the end.
 #![tactic(auto)]
 
+mod amounts;
 mod changes;
 mod effects;
 mod failures;
+mod gathering;
 mod line;
 mod parts;
 mod receipts;
+mod state;
 
 pub use line::node_line;
 pub use receipts::receipt_text;
+pub use state::{state_lines, state_text};
 
+#[cfg(test)]
+mod state_tests;
 #[cfg(test)]
 mod tests;

@@ -23,7 +23,10 @@ mod writing;
 
 pub use carrying::Collector;
 pub use errors::{DebitError, MintError};
+pub use holdings::Holdings;
 pub use ledger::Ledger;
+pub use line::Line;
+pub use lines::Lines;
 pub use totals::Totals;
 
 #[cfg(test)]

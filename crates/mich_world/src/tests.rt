@@ -1,14 +1,22 @@
 // What no clause says: that the calls answer with ample memory, and that a mark and undoing to it cost little.
+ghost use Rattle.std.specs.Prelude.{◌≡◌, ◌≤ℤ◌, ℕ, List, pos, IfOk};
+ghost use Rattle.rules_values.specs.Tickets.{Identity};
+ghost use Rattle.mich_tickets.specs.Sums.{held_of};
+ghost use Rattle.mich_world.specs.Marks.{KeepsWorld};
+
 use crate::{Contract, GrantError, MoveError, World};
 use mich_base::{Memory, Node, Rows, Shared, Ty};
+use mich_bigmap::settle;
 use mich_forms::{ChainId, KeyHash, Place};
 use mich_instr::Script;
-use mich_term::Value;
+use mich_term::{BigMap, Datum, Ticket, TicketId, Value};
 use mich_types::Parameter;
 use std::alloc::Global;
 use std::test::Fail;
 
 const HASH: [u8; 20] = [7; 20];
+
+const OTHER: [u8; 20] = [9; 20];
 
 fn key_hash(number: u32) -> KeyHash {
     let bytes = number.to_be_bytes();
@@ -162,17 +170,238 @@ fn keys_stand_in_order(rt: HostRuntime) -> Result<(), Fail> {
     Ok(())
 }
 
+// What a world tells.
+#[derive(Clone, Copy, Debug, PartialEq)]
+struct Told {
+    first: Option<u64>,
+    second: Option<u64>,
+    third: Option<u64>,
+    contract: Option<u64>,
+    other: Option<u64>,
+    fees: u64,
+    granted: u64,
+    supply: u64,
+    level: u32,
+    stored: i128,
+    minted: i128,
+    burnt: i128,
+    held: i128,
+    bases: u64,
+}
+
+// A ticket's identity: nat content.
+fn identity() -> TicketId {
+    TicketId {
+        issuer: Place::Contract(HASH),
+        ty: Ty::Nat,
+        content: Datum::Number(7),
+    }
+}
+
+fn tell(world: &World) -> Told {
+    let id = identity();
+    let totals = world.ledger().totals(&id);
+    Told {
+        first: world.balance(account(1)),
+        second: world.balance(account(2)),
+        third: world.balance(account(3)),
+        contract: world.balance(Place::Contract(HASH)),
+        other: world.balance(Place::Contract(OTHER)),
+        fees: world.fees(),
+        granted: world.granted(),
+        supply: world.supply(),
+        level: world.clock().1,
+        stored: stored(world),
+        minted: totals.minted,
+        burnt: totals.burnt,
+        held: world.ledger().balance(&id, account(1)),
+        bases: world.store().height(),
+    }
+}
+
+// A write of each kind, without contracts that are made or have new storages.
+#[derive(Clone, Copy, Debug)]
+enum Write {
+    Grant,
+    Move,
+    MoveToContract,
+    Fee,
+    Clock,
+    Mint,
+    Burn,
+    Credit,
+    Settle,
+}
+
+// So many tickets.
+#[tactic(auto, using(crate::proofs::Marks::world_same, crate::proofs::Marks::world_trans, crate::proofs::Marks::ledger_lent, crate::proofs::Marks::store_lent))]
+fn minted(alloc: Global, world: &mut World, n: i128) -> Result<Option<Ticket>, Memory>
+    requires { pos 0 ≤ℤ n }
+    ensures { KeepsWorld world.old world.new }
+{
+    match world.ledger_mut().mint(alloc, identity(), n) {
+        Ok(ticket) => Ok(ticket),
+        Err(_) => Err(Memory),
+    }
+}
+
+// A ticket is burnt, where no more would be burnt than was minted.
+#[tactic(auto, using(crate::proofs::Marks::world_same, crate::proofs::Marks::world_trans, crate::proofs::Marks::ledger_lent, crate::proofs::Marks::store_lent))]
+fn burn(alloc: Global, world: &mut World, ticket: Ticket) -> Result<(), Memory>
+    ensures { KeepsWorld world.old world.new }
+{
+    let totals = world.ledger().totals(&ticket.id);
+    let Some(burnt) = totals.burnt.checked_add(ticket.amount) else {
+        return Ok(());
+    };
+    if ticket.amount <= 0 || burnt > totals.minted {
+        return Ok(());
+    }
+    world.ledger_mut().burn(alloc, ticket)
+}
+
+// A ticket comes to the first account, where there is room for it.
+#[tactic(auto, using(crate::proofs::Marks::world_same, crate::proofs::Marks::world_trans, crate::proofs::Marks::ledger_lent, crate::proofs::Marks::store_lent))]
+fn credit(alloc: Global, world: &mut World, ticket: Ticket) -> Result<(), Memory>
+    ensures { KeepsWorld world.old world.new }
+{
+    let amount = ticket.amount;
+    let held = world.ledger().balance(&ticket.id, account(1));
+    if amount <= 0 || held.checked_add(amount).is_none() {
+        return Ok(());
+    }
+    world.ledger_mut().credit(alloc, account(1), ticket)
+}
+
+// A big map of one entry is settled.
+#[tactic(auto, using(crate::proofs::Marks::world_same, crate::proofs::Marks::world_trans, crate::proofs::Marks::ledger_lent, crate::proofs::Marks::store_lent))]
+fn settle_one(alloc: Global, world: &mut World) -> Result<(), Memory>
+    ensures { KeepsWorld world.old world.new }
+{
+    let mut overlay = Rows::new(alloc);
+    overlay.push((Datum::Number(1), Some(Value::Unit)))?;
+    let m = BigMap {
+        shares: true,
+        base: None,
+        overlay,
+    };
+    let settled = settle(alloc, world.store_mut(), m)?;
+    drop(settled);
+    Ok(())
+}
+
+#[tactic(auto, using(crate::proofs::Marks::world_same, crate::proofs::Marks::world_trans, crate::proofs::Marks::ledger_lent, crate::proofs::Marks::store_lent))]
+fn apply(alloc: Global, world: &mut World, write: Write) -> Result<(), Fail>
+    ensures { KeepsWorld world.old world.new }
+{
+    let first = Place::Implicit(key_hash(1));
+    match write {
+        Write::Grant => world.grant(key_hash(3), 7)?,
+        Write::Move => world.move_mutez(first, account(3), 5)?,
+        Write::MoveToContract => world.move_mutez(first, Place::Contract(HASH), 5)?,
+        Write::Fee => world.take_fee(key_hash(1), 5)?,
+        Write::Clock => world.set_moment(9, -4),
+        Write::Mint => {
+            minted(alloc, world, 3)?;
+        }
+        Write::Burn => {
+            if let Some(ticket) = minted(alloc, world, 3)? {
+                burn(alloc, world, ticket)?;
+            }
+        }
+        Write::Credit => {
+            if let Some(ticket) = minted(alloc, world, 3)? {
+                credit(alloc, world, ticket)?;
+            }
+        }
+        Write::Settle => settle_one(alloc, world)?,
+    }
+    Ok(())
+}
+
+// A world of two accounts, with 40 and 5 mutez, and a contract with 60 that stores 4. Nobody holds a ticket.
+fn with_contract(alloc: Global) -> Result<World, Fail>
+    ensures { IfOk result (λ w. (j : Identity) (o : List ℕ) → held_of w.ledger.books.present j o ≡ pos 0) }
+{
+    let mut world = World::new(alloc, ChainId { body: [0; 4] }, 0, 0);
+    world.grant(key_hash(1), 100)?;
+    world.grant(key_hash(2), 5)?;
+    let script = script(alloc)?;
+    let from = Place::Implicit(key_hash(1));
+    world.install(alloc, HASH, from, 60, script, Value::Number(4))?;
+    Ok(world)
+}
+
+const WRITES: [Write; 9] = [
+    Write::Grant,
+    Write::Move,
+    Write::MoveToContract,
+    Write::Fee,
+    Write::Clock,
+    Write::Mint,
+    Write::Burn,
+    Write::Credit,
+    Write::Settle,
+];
+
+#[test]
+fn each_write_is_undone(rt: HostRuntime) -> Result<(), Fail> {
+    let alloc = rt.alloc();
+    let mut world = with_contract(alloc)?;
+    let before = tell(&world);
+    for kind in WRITES {
+        let mark = world.mark();
+        apply(alloc, &mut world, kind)?;
+        assert!(rt; tell(&world) != before);
+        world.undo_to(mark);
+        assert!(rt; tell(&world) == before);
+    }
+    Ok(())
+}
+
+#[test]
+fn a_contract_that_is_made_is_undone(rt: HostRuntime) -> Result<(), Fail> {
+    let alloc = rt.alloc();
+    let mut world = with_contract(alloc)?;
+    let before = tell(&world);
+    if world.contract(&OTHER).is_some() {
+        return Ok(());
+    }
+    let mark = world.mark();
+    let script = script(alloc)?;
+    let from = Place::Implicit(key_hash(1));
+    world.install(alloc, OTHER, from, 30, script, Value::Number(5))?;
+    assert!(rt; world.balance(Place::Contract(OTHER)) == Some(30));
+    world.undo_to(mark);
+    assert!(rt; tell(&world) == before);
+    Ok(())
+}
+
+#[test]
+fn a_storage_is_kept_and_undone(rt: HostRuntime) -> Result<(), Fail> {
+    let alloc = rt.alloc();
+    let mut world = with_contract(alloc)?;
+    let before = tell(&world);
+    assert!(rt; stored(&world) == 4);
+    let mark = world.mark();
+    world.commit(alloc, &HASH, Value::Number(5))?;
+    assert!(rt; stored(&world) == 5);
+    world.undo_to(mark);
+    assert!(rt; tell(&world) == before);
+    Ok(())
+}
+
 // 5,000 accounts with 1 mutez each.
 fn many_accounts(alloc: Global) -> Result<World, GrantError> {
     let mut world = World::new(alloc, ChainId { body: [0; 4] }, 0, 0);
-    for number in 0..5_000 {
+    for number in 0..50_000 {
         world.grant(key_hash(number), 1)?;
     }
     Ok(world)
 }
 
 fn rounds(world: &mut World) -> Result<(), MoveError> {
-    for _ in 0..10_000 {
+    for _ in 0..1_000_000 {
         let mark = world.mark();
         world.take_fee(key_hash(0), 1)?;
         world.undo_to(mark);
@@ -185,7 +414,7 @@ fn rounds(world: &mut World) -> Result<(), MoveError> {
 fn many_marks_are_undone(rt: HostRuntime) -> Result<(), Fail> {
     let mut world = many_accounts(rt.alloc())?;
     rounds(&mut world)?;
-    assert!(rt; world.fees() == 0 && world.supply() == 5_000);
-    assert!(rt; world.balance(account(0)) == Some(1) && world.balance(account(4_999)) == Some(1));
+    assert!(rt; world.fees() == 0 && world.supply() == 50_000);
+    assert!(rt; world.balance(account(0)) == Some(1) && world.balance(account(49_999)) == Some(1));
     Ok(())
 }

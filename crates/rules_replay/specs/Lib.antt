@@ -1,7 +1,4 @@
 pub mod Places
-pub mod Statements
-pub mod Receipts
-pub mod World
 pub mod Replay
 pub mod Lines
 pub mod Answers

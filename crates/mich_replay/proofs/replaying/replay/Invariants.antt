@@ -6,7 +6,7 @@ abbrev pub invariant-statements : goal.invariant-statements
 invariant-statements l = record {
   within : l.place ≤ length l.file;
   count : length l.lines ≤ l.place;
-  reached : Reached l.file l.place l.world l.lines;
+  reached : Reached l.file l.place l.course l.lines;
 }
 
 abbrev pub decreases-statements : goal.decreases-statements

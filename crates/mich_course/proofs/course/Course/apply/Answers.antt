@@ -1,0 +1,15 @@
+use Rattle.std.proofs.Common.{refl}
+use Rattle.mich_ops.specs.View.{contents as contents_of}
+use Rattle.mich_course.proofs.Steps.{applied, may_apply}
+use Rattle.mich_course.proofs.course.Course.apply.Goals as goal
+
+pub apply_group-requires-clause-good : goal.apply_group-requires-clause-good
+apply_group-requires-clause-good c =
+    let f = c.requires.follows.1 in
+    (c.requires.follows.0.world, f.stands, may_apply c.args.group.now.source (contents_of c.args.group.now) f c.requires.few c.requires.ranges)
+
+pub returns : goal.returns
+returns c = λ p f.
+    let may = may_apply c.args.group.now.source (contents_of c.args.group.now) f c.requires.few c.requires.ranges in
+    applied c.args.self.now _ c.args.group.now.source (contents_of c.args.group.now) c.in_ok-receipt.receipt f c.requires.few c.requires.ranges
+    (c.in_ok-receipt.ensures.settled p.world f.stands may) c.in_ok-receipt.ensures.hosting refl refl refl

@@ -1,0 +1,5 @@
+pub mod Sending
+pub mod Stepping
+pub mod Turns
+pub mod Walks
+pub mod Fees

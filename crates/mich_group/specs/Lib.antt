@@ -1,0 +1,4 @@
+pub mod Waiting
+pub mod Trees
+pub mod Turns
+pub mod Settled

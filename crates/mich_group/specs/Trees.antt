@@ -1,0 +1,99 @@
+-- Operations with all that they emit, on their way and at their end (Octez "Operations", the order of internal operations).
+use Rattle.std.specs.Prelude.{◌≡◌, ◌≤◌, ◌+◌, ℕ, List, ◌∷◌, ◌++◌, map, Result, Ok, Err, Bool, true, false}
+use Rattle.rules_world.specs.Receipts.{Effect}
+use Rattle.rules_world.specs.World.{World as PlainWorld}
+use Rattle.rules_world.specs.Outcomes.{Setting, Waiting, Counts as PlainCounts, Success, applied, failed}
+use Rattle.rules_world.specs.Application.{apply}
+use Rattle.rules_world.specs.Trees.{Walk, completed, broken_off, stuck_walk}
+use Rattle.rules_steps.specs.Failure.{Failure}
+use Rattle.laws_runs.specs.Going.{IsSetting, IsGoing}
+use Rattle.mich_machine.specs.Calls.{counts_of}
+use Rattle.mich_interpreter.specs.declared.state.Counts.{Counts}
+use Rattle.mich_operations.specs.declared.applied.ApplyError.{ApplyError}
+use Rattle.mich_operations.specs.declared.applied.ApplyError.TheVariants as one
+use Rattle.mich_ops.specs.Told.{told}
+use Rattle.mich_ops.specs.declared.failure.Failure.{Failure as Failed}
+use Rattle.mich_ops.specs.View.{effect, failure}
+use Rattle.mich_ops.specs.declared.receipt.Effect.{Effect as Done}
+use Rattle.mich_world.specs.Standing.{StandsFor}
+use Rattle.mich_world.specs.World.{World}
+use Rattle.mich_group.specs.Waiting.{all_sent}
+use Rattle.mich_group.specs.declared.tree.TreeError.{TreeError}
+use Rattle.mich_group.specs.declared.tree.TreeError.TheVariants as tree
+use Rattle.mich_group.specs.declared.waiting.Sent.{Sent}
+
+-- ---- on its way
+
+-- A world of the code stands for one in which a group, which began in a start and is at so many contents, has these operations waiting.
+pub record Goes (start : PlainWorld) (s : Setting) (contents : ℕ) (v : World) (w : PlainWorld) (waiting : List Waiting) (counts : PlainCounts) : Type 0 where
+  pub few : contents ≤ 1000
+  pub setting : IsSetting s
+  pub stands : StandsFor v w
+  pub going : IsGoing start s.group contents w waiting counts
+
+-- The next operation was applied: what it emitted goes before the others, and what it did behind what was done.
+pub record IsStep (s : Setting) (w : PlainWorld) (waiting : List Waiting) (gas : ℕ) (counts : PlainCounts) (v : World) (left : ℕ) (now : PlainCounts) (ss : List Sent) (before after : List Done) : Type 0 where
+  pub op : Waiting
+  pub others : List Waiting
+  pub first : waiting ≡ op ∷ others
+  pub behind : Success
+  pub same : apply s w op gas counts ≡ applied behind
+  pub stands : StandsFor v behind.world
+  pub sent : all_sent v.store.bases.present ss ≡ behind.emitted ++ others
+  pub done : map effect after ≡ map effect before ++ behind.effects
+  pub units : left ≡ behind.gas
+  pub counted : now ≡ behind.counts
+
+-- the next operation failed
+pub record IsFailed (s : Setting) (w : PlainWorld) (waiting : List Waiting) (gas : ℕ) (counts : PlainCounts) (f : Failed) : Type 0 where
+  pub op : Waiting
+  pub others : List Waiting
+  pub first : waiting ≡ op ∷ others
+  pub why : Failure
+  pub same : apply s w op gas counts ≡ failed why
+  pub told : failure f ≡ told why
+
+-- it was applied, or failed; after want of memory nothing is said
+abbrev pub StepsAs : {U : Type 0} → Setting → PlainWorld → List Waiting → ℕ → PlainCounts → World → ℕ → PlainCounts → List Sent → List Done → List Done → Result U ApplyError → Type 0
+StepsAs s w waiting gas counts v left now ss before after (Ok _) = IsStep s w waiting gas counts v left now ss before after
+StepsAs s w waiting gas counts v left now ss before after (Err (one.Failed f)) = IsFailed s w waiting gas counts f
+StepsAs s w waiting gas counts v left now ss before after (Err one.Memory) = Unit {0}
+
+-- the same where an operation waited
+abbrev pub StepsTo : Setting → PlainWorld → List Waiting → ℕ → PlainCounts → World → ℕ → PlainCounts → List Sent → List Done → List Done → Result Bool ApplyError → Type 0
+StepsTo s w waiting gas counts v left now ss before after (Ok true) = IsStep s w waiting gas counts v left now ss before after
+StepsTo s w waiting gas counts v left now ss before after (Ok false) = Unit {0}
+StepsTo s w waiting gas counts v left now ss before after (Err (one.Failed f)) = IsFailed s w waiting gas counts f
+StepsTo s w waiting gas counts v left now ss before after (Err one.Memory) = Unit {0}
+
+-- what holds where memory sufficed
+abbrev pub OnStep : {U : Type 0} → Result U ApplyError → Type 0 → Type 0
+OnStep (Err one.Memory) a = Unit {0}
+OnStep r a = a
+
+-- ---- at its end
+
+-- all operations were applied, and the world stands for the one behind them
+pub record IsWalked (t : Walk) (v : World) (gas : ℕ) (old new : Counts) (effects : List Done) : Type 0 where
+  pub world : PlainWorld
+  pub stands : StandsFor v world
+  pub same : t ≡ completed (record { world = world; effects = map effect effects; gas = gas; counts = counts_of new })
+  pub group : new.group ≡ old.group
+
+-- all were applied, or one failed behind so many; after want of memory nothing is said
+abbrev pub WalksAs : {U : Type 0} → Walk → World → ℕ → Counts → Counts → List Done → Result U TreeError → Type 0
+WalksAs t v gas old new effects (Ok _) = IsWalked t v gas old new effects
+WalksAs (broken_off n why) v gas old new effects (Err (tree.Failed m f)) = (m ≡ n) × (failure f ≡ told why)
+WalksAs t v gas old new effects (Err (tree.Failed m f)) = ⊥
+WalksAs t v gas old new effects (Err tree.Memory) = Unit {0}
+
+-- so many operations were applied before, with these effects
+abbrev pub behind_all : List Effect → ℕ → Walk → Walk
+behind_all effects n (completed last) = completed (record { world = last.world; effects = effects ++ last.effects; gas = last.gas; counts = last.counts })
+behind_all effects n (broken_off count failure) = broken_off (n + count) failure
+behind_all effects n stuck_walk = stuck_walk
+
+-- what holds where memory sufficed
+abbrev pub WithMemory : {U : Type 0} → Result U TreeError → Type 0 → Type 0
+WithMemory (Err tree.Memory) a = Unit {0}
+WithMemory r a = a

@@ -1,0 +1,34 @@
+use Rattle.std.proofs.Common.{true, false}
+use Rattle.rules_gas.specs.declared.Kind.TheVariants as g
+use Rattle.mich_gas.specs.View.{listed}
+use Rattle.mich_frames.proofs.Branches.{if_top, if_opens}
+use Rattle.mich_interpreter.proofs.Any.{if_any_broke}
+use Rattle.mich_interpreter.proofs.Paid.{opens_paid, paid_less}
+use Rattle.mich_interpreter.proofs.branches.act_if.Goals as goal
+
+pub returns-then-not-pay-clause-acts : goal.returns-then-not-pay-clause-acts
+returns-then-not-pay-clause-acts c = λ x fs d Z o h.
+    if_any_broke _ (rw c.if-not-pay.true at c.pay.ensures) h (if_top h)
+
+pub pop_truth-requires : goal.pop_truth-requires
+pop_truth-requires c = (c.requires.0.sight, if_top c.requires.5)
+
+pub returns-in_ok-body-clause-acts : goal.returns-in_ok-body-clause-acts
+returns-in_ok-body-clause-acts c = λ x fs d Z o h.
+    let p = rw c.if-not-pay.false at c.pay.ensures in
+    rw c.in_ok-body.ensures (opens_paid g.If 0 _ c.pay.new.meter p.1 (if_opens true p.0 (rw (c.pop_truth.ensures x.sight, c.if-pop_truth.true) at h)))
+
+pub returns-in_ok-body-2-clause-acts : goal.returns-in_ok-body-2-clause-acts
+returns-in_ok-body-2-clause-acts c = λ x fs d Z o h.
+    let p = rw c.if-not-pay.false at c.pay.ensures in
+    rw c.in_ok-body-2.ensures (opens_paid g.If 0 _ c.pay.new.meter p.1 (if_opens false p.0 (rw (c.pop_truth.ensures x.sight, c.if-pop_truth.false) at h)))
+
+pub returns-in_ok-body-clause-less : goal.returns-in_ok-body-clause-less
+returns-in_ok-body-clause-less c =
+    let p = rw c.if-not-pay.false at c.pay.ensures in
+    paid_less (listed c.args.costs.now) g.If 0 _ _ c.requires.5.runs.charged p.0 p.1
+
+pub returns-in_ok-body-2-clause-less : goal.returns-in_ok-body-2-clause-less
+returns-in_ok-body-2-clause-less c =
+    let p = rw c.if-not-pay.false at c.pay.ensures in
+    paid_less (listed c.args.costs.now) g.If 0 _ _ c.requires.5.runs.charged p.0 p.1

@@ -1,0 +1,37 @@
+use Rattle.std.proofs.Common.{◌∙◌}
+use Rattle.rules_gas.specs.declared.Kind.TheVariants as g
+use Rattle.mich_gas.specs.View.{listed}
+use Rattle.mich_frames.proofs.Branches.{if_left_top}
+use Rattle.mich_interpreter.proofs.Any.{union_broke, left_opens, right_opens}
+use Rattle.mich_interpreter.proofs.Paid.{opens_paid, paid_less}
+use Rattle.mich_interpreter.proofs.branches.act_if_left.Goals as goal
+
+pub returns-then-not-pay-clause-acts : goal.returns-then-not-pay-clause-acts
+returns-then-not-pay-clause-acts c = λ x fs d Z o h.
+    union_broke _ (rw c.if-not-pay.true at c.pay.ensures) h (if_left_top h)
+
+pub is_left-left-requires : goal.is_left-left-requires
+is_left-left-requires c = (c.requires.0.sight, if_left_top c.requires.5)
+
+pub open_union-requires : goal.open_union-requires
+open_union-requires c = (c.requires.0.sight, if_left_top c.requires.5)
+
+pub returns-in_ok-body-clause-acts : goal.returns-in_ok-body-clause-acts
+returns-in_ok-body-clause-acts c = λ x fs d Z o h.
+    let p = rw c.if-not-pay.false at c.pay.ensures in
+    rw (c.in_ok-body.ensures, c.in_ok-open_union.ensures x.sight) (opens_paid g.IfLeft 0 _ c.pay.new.meter p.1 (left_opens _ (c.is_left-left.ensures x.sight ∙ c.if-left.true) p.0 h))
+
+pub returns-in_ok-body-2-clause-acts : goal.returns-in_ok-body-2-clause-acts
+returns-in_ok-body-2-clause-acts c = λ x fs d Z o h.
+    let p = rw c.if-not-pay.false at c.pay.ensures in
+    rw (c.in_ok-body-2.ensures, c.in_ok-open_union.ensures x.sight) (opens_paid g.IfLeft 0 _ c.pay.new.meter p.1 (right_opens _ (c.is_left-left.ensures x.sight ∙ c.if-left.false) p.0 h (if_left_top h)))
+
+pub returns-in_ok-body-clause-less : goal.returns-in_ok-body-clause-less
+returns-in_ok-body-clause-less c =
+    let p = rw c.if-not-pay.false at c.pay.ensures in
+    paid_less (listed c.args.costs.now) g.IfLeft 0 _ _ c.requires.5.runs.charged p.0 p.1
+
+pub returns-in_ok-body-2-clause-less : goal.returns-in_ok-body-2-clause-less
+returns-in_ok-body-2-clause-less c =
+    let p = rw c.if-not-pay.false at c.pay.ensures in
+    paid_less (listed c.args.costs.now) g.IfLeft 0 _ _ c.requires.5.runs.charged p.0 p.1

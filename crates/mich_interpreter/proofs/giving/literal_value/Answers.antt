@@ -1,0 +1,8 @@
+use Rattle.mich_base.specs.TypeView.{kind}
+use Rattle.mich_base.specs.View.{tree}
+use Rattle.mich_interpreter.proofs.Pushed.{pushed_is}
+use Rattle.mich_interpreter.proofs.giving.literal_value.Goals as goal
+
+pub returns-in-Ok : goal.returns-in-Ok
+returns-in-Ok c = λ big at.
+    pushed_is (kind c.args.ty.now) (tree c.args.literal.now) c.in-Ok.read.value _ c.requires c.in-Ok.ensures.whole c.in-Ok.ensures.literal big at

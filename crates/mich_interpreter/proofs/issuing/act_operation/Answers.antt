@@ -1,0 +1,28 @@
+use Rattle.std.proofs.Common.{subst}
+use Rattle.rules_base.specs.Tree.{Tree}
+use Rattle.rules_instructions.specs.Straight.{on_operations}
+use Rattle.mich_instr.specs.Code as made
+use Rattle.mich_overload.specs.View.{operation_row}
+use Rattle.mich_overload.specs.declared.simple.OperationRow.{OperationRow}
+use Rattle.mich_interpreter.specs.Ends.{Comes, Meets}
+use Rattle.mich_interpreter.proofs.issuing.act_operation.Goals as goal
+
+pub act_transfer-requires : goal.act_transfer-requires
+act_transfer-requires c =
+    subst (λ (row : OperationRow). (app : Tree) × Comes (made.straight (on_operations (operation_row row)) app) c.args.costs.now c.args.m.now)
+    c.in-TransferTokens.is c.requires
+
+pub act_emit-requires : goal.act_emit-requires
+act_emit-requires c =
+    subst (λ (row : OperationRow). (app : Tree) × Comes (made.straight (on_operations (operation_row row)) app) c.args.costs.now c.args.m.now)
+    c.in-Emit.is c.requires
+
+pub returns-in_ok-act_transfer-in-TransferTokens-clause-acts : goal.returns-in_ok-act_transfer-in-TransferTokens-clause-acts
+returns-in_ok-act_transfer-in-TransferTokens-clause-acts c = λ app x fs d Z o h.
+    c.in_ok-act_transfer-in-TransferTokens.ensures.acts app x fs d Z o
+    (subst (λ (row : OperationRow). Meets (made.straight (on_operations (operation_row row)) app) x c.args.costs.now c.args.m.now fs d Z o) c.in-TransferTokens.is h)
+
+pub returns-in_ok-act_emit-in-Emit-clause-acts : goal.returns-in_ok-act_emit-in-Emit-clause-acts
+returns-in_ok-act_emit-in-Emit-clause-acts c = λ app x fs d Z o h.
+    c.in_ok-act_emit-in-Emit.ensures.acts app x fs d Z o
+    (subst (λ (row : OperationRow). Meets (made.straight (on_operations (operation_row row)) app) x c.args.costs.now c.args.m.now fs d Z o) c.in-Emit.is h)

@@ -1,0 +1,18 @@
+use Rattle.std.proofs.Common.{◌≡◌, ◌≤◌, length, ap, ◌∙◌, arith}
+use Rattle.mich_interpreter.proofs.Left.{ends_behind}
+use Rattle.mich_interpreter.proofs.machine.advance.Goals as goal
+
+pub leave-requires : goal.leave-requires
+leave-requires c =
+    let n : c.len.result ≡ length c.args.m.now.block = c.len.ensures ∙ ap length c.get.ensures in
+    let over = c.if-m-len.false in
+    let le : length c.args.m.now.block ≤ c.args.m.now.at = omega (arith, n, over) in
+    let r = c.requires in
+    (r.0, r.1, r.2, ends_behind r.0 c.args.costs.now r.1 r.2 c.args.m.now r.3 le)
+
+pub returns-in_ok-step-2-clause-stays : goal.returns-in_ok-step-2-clause-stays
+returns-in_ok-step-2-clause-stays c = λ x Z o h.
+    let n : c.len.result ≡ length c.args.m.now.block = c.len.ensures ∙ ap length c.get.ensures in
+    let over = c.if-m-len.false in
+    let le : length c.args.m.now.block ≤ c.args.m.now.at = omega (arith, n, over) in
+    c.in_ok-step-2.ensures.stays x Z o (ends_behind x c.args.costs.now Z o c.args.m.now h le)

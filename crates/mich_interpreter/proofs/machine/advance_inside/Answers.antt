@@ -1,0 +1,72 @@
+use Rattle.std.proofs.Common.{◌≡◌, ◌+◌, ◌∷◌, drop, Some, None, sym, ap, ◌∙◌, refl}
+use Rattle.std.specs.List.{slice_get}
+use Rattle.mich_instr.specs.Code as made
+use Rattle.mich_instr.specs.View.{code, codes}
+use Rattle.mich_frames.specs.Frames as fr
+use Rattle.mich_frames.proofs.Branches.{seq_opens}
+use Rattle.mich_interpreter.specs.View.{frames}
+use Rattle.mich_interpreter.specs.Runs.{HasActedIn}
+use Rattle.mich_interpreter.specs.declared.act.Act.TheVariants as a
+use Rattle.mich_interpreter.specs.declared.machine.Machine.{Machine}
+use Rattle.mich_interpreter.proofs.Begun.{opens_inside, deep_inside}
+use Rattle.mich_interpreter.proofs.Codes.{code_seq}
+use Rattle.mich_interpreter.proofs.Keeping.{keeps_to}
+use Rattle.mich_interpreter.proofs.Left.{meets_at}
+use Rattle.mich_interpreter.proofs.Listed.{code_at}
+use Rattle.mich_interpreter.proofs.Stepped.{seq_smaller, paid_spent}
+use Rattle.mich_interpreter.proofs.machine.advance_inside.Goals as goal
+
+pub perform-requires : goal.perform-requires
+perform-requires c =
+    let m = c.args.m.now in
+    let e : slice_get c.args.m.now.block c.args.m.now.at ≡ Some c.at-instr.result.now = ap (λ b. slice_get b c.args.m.now.at) (sym c.get.ensures) ∙ c.at-instr.ensures in
+    let r = c.requires.stands in
+    record {
+      charged = c.in_default.not-Seq;
+      comes = (
+        r.0,
+        fr.rest (codes (drop (c.args.m.now.at + 1) c.args.m.now.block)) ∷ frames r.0.sight c.args.m.now.frames,
+        c.args.m.now.depth,
+        r.1,
+        r.2,
+        meets_at r.0 c.args.costs.now r.1 r.2 c.args.m.now r.3 c.at-instr.result.now c.requires.within e,
+      );
+    }
+
+pub returns-then-begun-clause-stays : goal.returns-then-begun-clause-stays
+returns-then-begun-clause-stays c = λ x Z o h.
+    let e : slice_get c.args.m.now.block c.args.m.now.at ≡ Some c.at-instr.result.now = ap (λ b. slice_get b c.args.m.now.at) (sym c.get.ensures) ∙ c.at-instr.ensures in
+    let mid : Machine = record c.args.m.now { at = c.args.m.now.at + 1 } in
+    let meets = rw (ap code c.in-Seq.is ∙ code_seq c.in-Seq.inner) at (meets_at x c.args.costs.now Z o c.args.m.now h c.at-instr.result.now c.requires.within e) in
+    let opens : HasActedIn (a.Open None c.in_ok-inner.inner) x c.args.costs.now mid Z o = rw c.in_ok-inner.ensures (seq_opens meets) in
+    let begun = rw c.if-begun.true at c.in_ok-begun.ensures.begun in
+    opens_inside x c.args.costs.now Z o None c.in_ok-inner.inner mid c.begin_inside.new.m begun c.begin_inside.ensures.state opens
+
+pub returns-then-begun-clause-spent : goal.returns-then-begun-clause-spent
+returns-then-begun-clause-spent c =
+    let e : slice_get c.args.m.now.block c.args.m.now.at ≡ Some c.at-instr.result.now = ap (λ b. slice_get b c.args.m.now.at) (sym c.get.ensures) ∙ c.at-instr.ensures in
+    let mid : Machine = record c.args.m.now { at = c.args.m.now.at + 1 } in
+    let begun = rw c.if-begun.true at c.in_ok-begun.ensures.begun in
+    let one = code_at c.args.m.now.block c.args.m.now.at c.at-instr.result.now c.requires.within e in
+    let two = ap (λ i. made.more i (codes (drop (c.args.m.now.at + 1) c.args.m.now.block))) (ap code c.in-Seq.is ∙ code_seq c.in-Seq.inner ∙ ap (λ b. made.seq (codes b)) (sym c.in_ok-inner.ensures)) in
+    (ap (λ s. s.meter) c.begin_inside.ensures.state, seq_smaller c.args.m.now mid c.begin_inside.new.m c.in_ok-inner.inner (one ∙ two) refl begun)
+
+pub returns-else-begun-clause-stays : goal.returns-else-begun-clause-stays
+returns-else-begun-clause-stays c = λ x Z o h.
+    let e : slice_get c.args.m.now.block c.args.m.now.at ≡ Some c.at-instr.result.now = ap (λ b. slice_get b c.args.m.now.at) (sym c.get.ensures) ∙ c.at-instr.ensures in
+    let mid : Machine = record c.args.m.now { at = c.args.m.now.at + 1 } in
+    let meets = rw (ap code c.in-Seq.is ∙ code_seq c.in-Seq.inner) at (meets_at x c.args.costs.now Z o c.args.m.now h c.at-instr.result.now c.requires.within e) in
+    let opens : HasActedIn (a.Open None c.in_ok-inner.inner) x c.args.costs.now mid Z o = rw c.in_ok-inner.ensures (seq_opens meets) in
+    let begun = rw c.if-begun.false at c.in_ok-begun.ensures.begun in
+    deep_inside x c.args.costs.now Z o None c.in_ok-inner.inner mid begun opens
+
+pub returns-in_ok-step : goal.returns-in_ok-step
+returns-in_ok-step c =
+    let e : slice_get c.args.m.now.block c.args.m.now.at ≡ Some c.at-instr.result.now = ap (λ b. slice_get b c.args.m.now.at) (sym c.get.ensures) ∙ c.at-instr.ensures in
+    record {
+      stays = λ x Z o h. c.in_ok-step.ensures.stays x c.args.costs.now Z o
+          (c.in_ok-act.ensures.acts x (fr.rest (codes (drop (c.args.m.now.at + 1) c.args.m.now.block)) ∷ frames x.sight c.args.m.now.frames) c.args.m.now.depth Z o
+          (meets_at x c.args.costs.now Z o c.args.m.now h c.at-instr.result.now c.requires.within e));
+      spent = paid_spent c.in_ok-step.step c.args.m.now c.follow.new.m (c.in_ok-step.ensures.spent c.args.m.now.state.meter c.in_ok-act.ensures.less);
+      keeps = keeps_to _ _ _ c.in_ok-act.ensures.keeps c.follow.ensures.state;
+    }

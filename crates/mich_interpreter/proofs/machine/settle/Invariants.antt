@@ -1,0 +1,18 @@
+use Rattle.std.proofs.Common.{◌≡◌, List}
+use Rattle.rules_types.specs.Kind.{Kind}
+use Rattle.rules_evaluation.specs.Outcome.{Outcome}
+use Rattle.mich_interpreter.specs.View.{Beyond}
+use Rattle.mich_interpreter.specs.Ends.{KeepsState}
+use Rattle.mich_interpreter.specs.Runs.{InBlock, SomeRun, size_of}
+use Rattle.mich_interpreter.proofs.machine.settle.Given as goal
+
+abbrev pub invariant-free : goal.invariant-free
+invariant-free l = record {
+  some : SomeRun l.costs l.m;
+  keeps : (x : Beyond) (Z : List Kind) (o : Outcome) → InBlock x l.costs l.initial.m Z o → InBlock x l.costs l.m Z o;
+  gas : l.m.state.meter ≡ l.initial.m.state.meter;
+  state : KeepsState l.initial.m.state l.m.state;
+}
+
+abbrev pub decreases-free : goal.decreases-free
+decreases-free l = size_of l.m

@@ -1,0 +1,50 @@
+use Rattle.std.proofs.Common.{true, Err, ◌∙◌, refl, sym, ap, subst}
+use Rattle.mich_gas.specs.View.{listed}
+use Rattle.mich_overload.specs.View.{straight}
+use Rattle.mich_stack.specs.Views.{values}
+use Rattle.mich_stack.specs.declared.error.StepError.{StepError}
+use Rattle.mich_step.specs.Tells.{IsDone}
+use Rattle.mich_interpreter.specs.View.{tops}
+use Rattle.mich_interpreter.proofs.Capped.{paid_is, broke_is}
+use Rattle.mich_interpreter.proofs.Keeping.{same_keeps}
+use Rattle.mich_interpreter.proofs.Paid.{paid_less}
+use Rattle.mich_interpreter.proofs.Suited.{suits_plain, ready_plain}
+use Rattle.mich_interpreter.proofs.Straightened.{heavy, ends, step_fits, step_stands, step_failed}
+use Rattle.mich_frames.proofs.Straights.{row_broke}
+use Rattle.mich_interpreter.proofs.straights.act_step.Goals as goal
+
+pub step-requires : goal.step-requires
+step-requires c =
+    let t = c.requires.comes in
+    let x = t.1.0 in
+    let r = straight c.args.instr.now in
+    let p = paid_is _ _ _ _ _ _ _ c.if-not-pay_capped.false c.price.ensures (c.pay_capped.ensures (heavy x c.args.costs.now c.args.m.now r c.requires.in_step t.1.5) (c.in_ok-weight.ensures x.sight) t.1.5.runs.charged) in
+    record {
+      in_step = c.requires.in_step;
+      fits = step_fits x c.args.costs.now c.args.m.now r c.requires.in_step t.1.5 p.0;
+      suits = suits_plain x c.args.costs.now c.args.m.now r t.1.5;
+      ready = ready_plain x c.args.costs.now c.args.m.now r t.1.5;
+    }
+
+pub returns-then-not-pay_capped-clause-acts : goal.returns-then-not-pay_capped-clause-acts
+returns-then-not-pay_capped-clause-acts c = λ app x fs d Z o h.
+    let r = straight c.args.instr.now in
+    row_broke r h (broke_is _ _ _ _ _ _ _ c.if-not-pay_capped.true c.price.ensures (c.pay_capped.ensures (heavy x c.args.costs.now c.args.m.now r c.requires.in_step h) (c.in_ok-weight.ensures x.sight) h.runs.charged))
+
+pub returns-in-Ok-clause-acts : goal.returns-in-Ok-clause-acts
+returns-in-Ok-clause-acts c = λ app x fs d Z o h.
+    let r = straight c.args.instr.now in
+    let p = paid_is _ _ _ _ _ _ _ c.if-not-pay_capped.false c.price.ensures (c.pay_capped.ensures (heavy x c.args.costs.now c.args.m.now r c.requires.in_step h) (c.in_ok-weight.ensures x.sight) h.runs.charged) in
+    step_stands x c.args.costs.now c.args.m.now r c.requires.in_step h p.0 c.step.new.stack c.pay_capped.new.meter c.step.new.ledger
+    (c.in-Ok.ensures.ends x.sight) (c.in-Ok.ensures.tells x.sight (x.shows c.args.m.now.stack)) p.1
+
+pub returns-in-Err-Failed-clause-acts : goal.returns-in-Err-Failed-clause-acts
+returns-in-Err-Failed-clause-acts c = λ app x fs d Z o h.
+    let r = straight c.args.instr.now in
+    let p = paid_is _ _ _ _ _ _ _ c.if-not-pay_capped.false c.price.ensures (c.pay_capped.ensures (heavy x c.args.costs.now c.args.m.now r c.requires.in_step h) (c.in_ok-weight.ensures x.sight) h.runs.charged) in
+    let ended = subst (λ (e : StepError). IsDone (ends x c.args.costs.now c.args.m.now r c.requires.in_step h) (values x.sight c.step.new.stack) (Err e))
+        c.in-Err-Failed.field-0-is (c.in-Err-Failed.ensures.ends x.sight) in
+    rw (c.failed.ensures x.sight) (step_failed x c.args.costs.now c.args.m.now r c.requires.in_step h p.0 _ ended)
+
+pub returns-then-not-pay_capped-clause-keeps : goal.returns-then-not-pay_capped-clause-keeps
+returns-then-not-pay_capped-clause-keeps c = same_keeps _ _ refl refl

@@ -1,0 +1,113 @@
+-- How an instruction ends.
+use Rattle.std.specs.Prelude.{◌≡◌, ◌≤◌, ◌<◌, ◌-◌, ℕ, Bool, true, false, List, ◌∷◌, Option, Some, None, Result, IfOk}
+use Rattle.mich_base.specs.declared.memory.Memory.{Memory}
+use Rattle.rules_gas.specs.declared.Kind.{Kind as Priced}
+use Rattle.rules_gas.specs.Prices.{Listed, cost}
+use Rattle.rules_types.specs.Kind.{Kind}
+use Rattle.rules_values.specs.Val.{Val}
+use Rattle.rules_steps.specs.Failure.{Failure}
+use Rattle.rules_steps.specs.Failure as f
+use Rattle.rules_evaluation.specs.Operations.{Tally}
+use Rattle.rules_evaluation.specs.Outcome.{Outcome, failed}
+use Rattle.mich_gas.specs.declared.costs.Costs.{Costs}
+use Rattle.mich_base.specs.TypeView.{kind}
+use Rattle.mich_undo.specs.History.{Keeps as KeepsBooks}
+use Rattle.mich_stack.specs.Views.{Sight, seen}
+use Rattle.mich_instr.specs.Code.{Code}
+use Rattle.mich_instr.specs.View.{codes}
+use Rattle.mich_frames.specs.Around.{Around}
+use Rattle.mich_frames.specs.Frames as fr
+use Rattle.mich_frames.specs.Stands.{StandsAt, MeetsAt, OpensAt}
+use Rattle.mich_interpreter.specs.declared.act.Act.{Act}
+use Rattle.mich_interpreter.specs.declared.act.Act.TheVariants as a
+use Rattle.mich_interpreter.specs.declared.act.Failed.{Failed}
+use Rattle.mich_interpreter.specs.declared.act.Failed.TheVariants as x
+use Rattle.mich_interpreter.specs.declared.frame.Frame.{Frame}
+use Rattle.mich_interpreter.specs.declared.state.State.{State}
+use Rattle.mich_interpreter.specs.View.{Beyond, tops, frame, around, tally}
+
+-- what a kind costs at a weight was taken, or there isn't so much gas
+abbrev pub IsPaid : Bool → Listed → Priced → ℕ → ℕ → ℕ → Type 0
+IsPaid true prices kind weight old new = (cost prices kind weight ≤ old) × (new ≡ old - cost prices kind weight)
+IsPaid false prices kind weight old new = old < cost prices kind weight
+
+-- the failure that one of the code stands for
+abbrev pub failure : Sight → Failed → Failure
+failure big (x.With ty value) = f.failed_with (kind ty) (seen big value)
+failure big x.OutOfGas = f.out_of_gas
+failure big x.IntegerLimit = f.integer_limit
+failure big x.MutezOverflow = f.mutez_overflow
+failure big x.ShiftLimit = f.shift_limit
+failure big x.SizeLimit = f.size_limit
+failure big x.DepthLimit = f.depth_limit
+failure big x.TooManyOperations = f.too_many_operations
+
+-- frames below another one, or below none
+abbrev pub over : Sight → Option Frame → List fr.Frame → List fr.Frame
+over big None fs = fs
+over big (Some below) fs = frame big below ∷ fs
+
+abbrev pub ActsAt : Sight → Act → List fr.Frame → Around → List Val → Tally → ℕ → List Kind → Outcome → Type 0
+ActsAt big a.On fs u V m d Z o = StandsAt fs u V m d Z o
+ActsAt big (a.Open below body) fs u V m d Z o = OpensAt (codes body) (over big below fs) u V m d Z o
+ActsAt big (a.Failed why) fs u V m d Z o = o ≡ failed (failure big why)
+
+-- what was paid for leaves less gas
+abbrev pub Spends : Act → ℕ → ℕ → Type 0
+Spends (a.Failed why) old new = Unit {0}
+Spends _ old new = new < old
+
+-- what comes after a turn costs nothing where there is no further one
+abbrev pub Turns : Act → ℕ → ℕ → Type 0
+Turns (a.Failed why) old new = Unit {0}
+Turns a.On old new = new ≡ old
+Turns _ old new = new < old
+
+-- what was written to the books can be taken back, and the group has its number still
+pub record KeepsState (old new : State) : Type 0 where
+  pub books : KeepsBooks old.ledger.books new.ledger.books
+  pub group : new.counts.group ≡ old.counts.group
+
+-- this instruction comes first, and these frames are below it
+abbrev pub Meets : Code → Beyond → Costs → State → List fr.Frame → ℕ → List Kind → Outcome → Type 0
+Meets i x costs m fs d Z o = MeetsAt i fs (around x costs m) (tops x.sight m.stack) (tally x m) d Z o
+
+-- this frame comes first
+abbrev pub Stands : Frame → Beyond → Costs → State → List fr.Frame → ℕ → List Kind → Outcome → Type 0
+Stands f x costs m fs d Z o = StandsAt (frame x.sight f ∷ fs) (around x costs m) (tops x.sight m.stack) (tally x m) d Z o
+
+-- what came first has acted
+abbrev pub Acts : Act → Beyond → Costs → State → List fr.Frame → ℕ → List Kind → Outcome → Type 0
+Acts a x costs m fs d Z o = ActsAt x.sight a fs (around x costs m) (tops x.sight m.stack) (tally x m) d Z o
+
+-- a state is met, in which this instruction comes first
+abbrev pub Comes : Code → Costs → State → Type 0
+Comes i costs m = (x : Beyond) × (fs : List fr.Frame) × (d : ℕ) × (Z : List Kind) × (o : Outcome) × Meets i x costs m fs d Z o
+
+-- or this frame
+abbrev pub Waits : Frame → Costs → State → Type 0
+Waits f costs m = (x : Beyond) × (fs : List fr.Frame) × (d : ℕ) × (Z : List Kind) × (o : Outcome) × Stands f x costs m fs d Z o
+
+-- wherever the instruction comes first, the outcome of the whole stays as it acts
+abbrev pub Carries : Code → Costs → State → State → Result Act Memory → Type 0
+Carries i costs old new r =
+    (x : Beyond) (fs : List fr.Frame) (d : ℕ) (Z : List Kind) (o : Outcome) → Meets i x costs old fs d Z o →
+    IfOk r (λ a. Acts a x costs new fs d Z o)
+
+-- wherever the frame does
+abbrev pub Resumes : Frame → Costs → State → State → Result Act Memory → Type 0
+Resumes f costs old new r =
+    (x : Beyond) (fs : List fr.Frame) (d : ℕ) (Z : List Kind) (o : Outcome) → Stands f x costs old fs d Z o →
+    IfOk r (λ a. Acts a x costs new fs d Z o)
+
+-- the same of a plain frame, by what big maps stand for
+abbrev pub StandsOn : (Sight → fr.Frame) → Beyond → Costs → State → List fr.Frame → ℕ → List Kind → Outcome → Type 0
+StandsOn f x costs m fs d Z o = StandsAt (f x.sight ∷ fs) (around x costs m) (tops x.sight m.stack) (tally x m) d Z o
+
+abbrev pub WaitsOn : (Sight → fr.Frame) → Costs → State → Type 0
+WaitsOn f costs m = (x : Beyond) × (fs : List fr.Frame) × (d : ℕ) × (Z : List Kind) × (o : Outcome) × StandsOn f x costs m fs d Z o
+
+abbrev pub ResumesOn : (Sight → fr.Frame) → Costs → State → State → Result Act Memory → Type 0
+ResumesOn f costs old new r =
+    (x : Beyond) (fs : List fr.Frame) (d : ℕ) (Z : List Kind) (o : Outcome) → StandsOn f x costs old fs d Z o →
+    IfOk r (λ a. Acts a x costs new fs d Z o)

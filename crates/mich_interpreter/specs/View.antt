@@ -1,0 +1,76 @@
+-- The plain frames, values and counts that those of the code stand for.
+use Rattle.std.specs.Prelude.{ℕ, ℤ, ◌-ℤ◌, List, map, reverse, drop, Option}
+use Rattle.rules_values.specs.Val.{Val}
+use Rattle.rules_values.specs.Tickets.{Identity}
+use Rattle.rules_evaluation.specs.Surroundings.{Contract}
+use Rattle.rules_evaluation.specs.Operations.{Tally}
+use Rattle.mich_gas.specs.declared.costs.Costs.{Costs}
+use Rattle.mich_gas.specs.View.{listed}
+use Rattle.mich_term.specs.declared.value.Value.{Value}
+use Rattle.mich_stack.specs.Views.{Sight, seen}
+use Rattle.mich_instr.specs.View.{codes}
+use Rattle.mich_frames.specs.Around.{Around}
+use Rattle.mich_frames.specs.Frames as fr
+use Rattle.rules_steps.specs.Changes.{minted_in, burnt_in}
+use Rattle.mich_step.specs.Shown.{ShowsTickets}
+use Rattle.mich_step.specs.Views.{environment}
+use Rattle.mich_tickets.specs.Books.{State as Ledger}
+use Rattle.mich_tickets.specs.Effects.{change}
+use Rattle.mich_tickets.specs.Sums.{minted_of, burnt_of}
+use Rattle.mich_interpreter.specs.Issues.{issued_by}
+use Rattle.mich_interpreter.specs.Items.{items_left}
+use Rattle.mich_interpreter.specs.Made.{making_of}
+use Rattle.mich_interpreter.specs.declared.frame.Frame.{Frame}
+use Rattle.mich_interpreter.specs.declared.frame.Frame.TheVariants as f
+use Rattle.mich_interpreter.specs.declared.state.State.{State}
+
+-- what a run sees that its own state doesn't hold: a sight of big maps, which shows in each the tickets that lie in it, and the
+-- contracts
+pub record Beyond : Type 0 where
+  pub sight : Sight
+  pub shows : (vs : List Value) → ShowsTickets sight vs
+  pub contract_at : List ℕ → Option Contract
+
+-- a stack of values, whose last element is on top, as it is written: the top first
+abbrev pub tops : Sight → List Value → List Val
+tops big vs = map (seen big) (reverse vs)
+
+abbrev pub frame : Sight → Frame → fr.Frame
+frame big (f.Rest block at) = fr.rest (codes (drop at block))
+frame big (f.Turns body) = fr.turns (codes body)
+frame big (f.LeftTurns body) = fr.left_turns (codes body)
+frame big (f.Each body items) = fr.each (codes body) (items_left big items)
+frame big (f.Making body making) = making_of big (codes body) making
+frame big (f.Under above) = fr.under (tops big above)
+frame big (f.Call below) = fr.call (tops big below)
+
+-- frames, the last one first
+abbrev pub frames : Sight → List Frame → List fr.Frame
+frames big fs = map (frame big) (reverse fs)
+
+-- what was minted of an identity before the changes that a ledger lists, and what was burnt
+abbrev pub minted_before : Ledger → Identity → ℤ
+minted_before l id = minted_of l.books.present id -ℤ minted_in id (map change l.changes)
+
+abbrev pub burnt_before : Ledger → Identity → ℤ
+burnt_before l id = burnt_of l.books.present id -ℤ burnt_in id (map change l.changes)
+
+abbrev pub around : Beyond → Costs → State → Around
+around x costs m = record {
+  environment = environment m.env;
+  group = m.counts.group;
+  prices = listed costs;
+  contract_at = x.contract_at;
+  minted = minted_before m.ledger;
+  burnt = burnt_before m.ledger;
+}
+
+-- the ledger lists the changes of the run
+abbrev pub tally : Beyond → State → Tally
+tally x m = record {
+  gas = m.meter;
+  operations = m.counts.issued;
+  originations = m.counts.originated;
+  issued = map (issued_by x.sight) m.issued;
+  changes = map change m.ledger.changes;
+}

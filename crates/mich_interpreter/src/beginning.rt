@@ -1,0 +1,34 @@
+// A run of code from its beginning.
+ghost use Rattle.std.specs.Prelude.{List, IfOk};
+ghost use Rattle.rules_types.specs.Kind.{Kind};
+ghost use Rattle.rules_evaluation.specs.Outcome.{Outcome};
+ghost use Rattle.mich_interpreter.specs.View.{Beyond};
+ghost use Rattle.mich_interpreter.specs.Begins.{Opens};
+ghost use Rattle.mich_interpreter.specs.Ends.{KeepsState};
+ghost use Rattle.mich_interpreter.specs.Runs.{IsEnd, state_of};
+
+use crate::machine::{Ended, Machine, work};
+use crate::state::State;
+use mich_base::{Memory, Rows};
+use mich_gas::Costs;
+use mich_instr::Block;
+use std::alloc::Global;
+
+/// Runs typed code from a state: it ends as the evaluation of the nodes that the code is of says, with the same values, gas and
+/// counts or with the same failure. It has no answer for a stack of the wrong type. Memory where there is no room for it, and,
+/// so far, at instructions that aren't built (Michelson reference, "Semantics").
+pub fn run_code(alloc: Global, code: Block, state: State, costs: &Costs) -> Result<Ended, Memory>
+    requires { (x : Beyond) × (Z : List Kind) × (o : Outcome) × Opens x costs.now code state Z o }
+    ensures ends { (x : Beyond) (Z : List Kind) (o : Outcome) → Opens x costs.now code state Z o → IfOk result (λ e. IsEnd e x Z o) }
+    ensures keeps { IfOk result (λ e. KeepsState state (state_of e)) }
+{
+    let m = Machine {
+        state,
+        block: code,
+        at: 0,
+        frames: Rows::new(alloc),
+        depth: 1,
+    };
+    let ended = work(alloc, m, costs)?;
+    Ok(ended)
+}

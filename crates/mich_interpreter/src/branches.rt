@@ -1,0 +1,115 @@
+// Branches.
+ghost use Rattle.std.specs.Prelude.{◌≡◌, IfOk};
+ghost use Rattle.mich_instr.specs.Code as made;
+ghost use Rattle.mich_instr.specs.View.{codes};
+ghost use Rattle.mich_interpreter.specs.Ends.{Comes, Carries, Spends};
+
+use crate::act::{Act, Failed};
+use crate::paying::pay;
+use crate::stack::{is_cons, is_left, is_none, open_list, open_option, open_union, pop_truth};
+use crate::state::State;
+use mich_base::Memory;
+use mich_gas::{Costs, Kind};
+use mich_instr::Block;
+
+pub(crate) fn act_if(
+    m: &mut State,
+    costs: &Costs,
+    first: &Block,
+    second: &Block,
+) -> Result<Act, Memory>
+    requires { Comes (made.if_bool (codes first.now) (codes second.now)) costs.now m.old }
+    ensures acts { Carries (made.if_bool (codes first.now) (codes second.now)) costs.now m.old m.new result }
+    ensures less { IfOk result (λ a. Spends a m.old.meter m.new.meter) }
+    ensures ledger { m.new.ledger ≡ m.old.ledger }
+    ensures counts { m.new.counts ≡ m.old.counts }
+{
+    if !pay(&mut m.meter, costs, Kind::If, 0) {
+        return Ok(Act::Failed(Failed::OutOfGas));
+    }
+    if pop_truth(&mut m.stack) {
+        let body = first.share()?;
+        Ok(Act::Open(None, body))
+    } else {
+        let body = second.share()?;
+        Ok(Act::Open(None, body))
+    }
+}
+
+pub(crate) fn act_if_none(
+    m: &mut State,
+    costs: &Costs,
+    first: &Block,
+    second: &Block,
+) -> Result<Act, Memory>
+    requires { Comes (made.if_none (codes first.now) (codes second.now)) costs.now m.old }
+    ensures acts { Carries (made.if_none (codes first.now) (codes second.now)) costs.now m.old m.new result }
+    ensures less { IfOk result (λ a. Spends a m.old.meter m.new.meter) }
+    ensures ledger { m.new.ledger ≡ m.old.ledger }
+    ensures counts { m.new.counts ≡ m.old.counts }
+{
+    if !pay(&mut m.meter, costs, Kind::IfNone, 0) {
+        return Ok(Act::Failed(Failed::OutOfGas));
+    }
+    let none = is_none(&m.stack);
+    open_option(&mut m.stack)?;
+    if none {
+        let body = first.share()?;
+        Ok(Act::Open(None, body))
+    } else {
+        let body = second.share()?;
+        Ok(Act::Open(None, body))
+    }
+}
+
+pub(crate) fn act_if_left(
+    m: &mut State,
+    costs: &Costs,
+    first: &Block,
+    second: &Block,
+) -> Result<Act, Memory>
+    requires { Comes (made.if_left (codes first.now) (codes second.now)) costs.now m.old }
+    ensures acts { Carries (made.if_left (codes first.now) (codes second.now)) costs.now m.old m.new result }
+    ensures less { IfOk result (λ a. Spends a m.old.meter m.new.meter) }
+    ensures ledger { m.new.ledger ≡ m.old.ledger }
+    ensures counts { m.new.counts ≡ m.old.counts }
+{
+    if !pay(&mut m.meter, costs, Kind::IfLeft, 0) {
+        return Ok(Act::Failed(Failed::OutOfGas));
+    }
+    let left = is_left(&m.stack);
+    open_union(&mut m.stack)?;
+    if left {
+        let body = first.share()?;
+        Ok(Act::Open(None, body))
+    } else {
+        let body = second.share()?;
+        Ok(Act::Open(None, body))
+    }
+}
+
+pub(crate) fn act_if_cons(
+    m: &mut State,
+    costs: &Costs,
+    first: &Block,
+    second: &Block,
+) -> Result<Act, Memory>
+    requires { Comes (made.if_cons (codes first.now) (codes second.now)) costs.now m.old }
+    ensures acts { Carries (made.if_cons (codes first.now) (codes second.now)) costs.now m.old m.new result }
+    ensures less { IfOk result (λ a. Spends a m.old.meter m.new.meter) }
+    ensures ledger { m.new.ledger ≡ m.old.ledger }
+    ensures counts { m.new.counts ≡ m.old.counts }
+{
+    if !pay(&mut m.meter, costs, Kind::IfCons, 0) {
+        return Ok(Act::Failed(Failed::OutOfGas));
+    }
+    let cons = is_cons(&m.stack);
+    open_list(&mut m.stack)?;
+    if cons {
+        let body = first.share()?;
+        Ok(Act::Open(None, body))
+    } else {
+        let body = second.share()?;
+        Ok(Act::Open(None, body))
+    }
+}

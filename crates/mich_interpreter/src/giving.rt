@@ -1,0 +1,124 @@
+// PUSH, LAMBDA, LAMBDA_REC and SELF.
+ghost use Rattle.std.specs.Prelude.{◌≡◌, ℕ, List, true, Some, IfOk};
+ghost use Rattle.rules_base.specs.Tree.{Tree, Trees};
+ghost use Rattle.rules_types.specs.Kind.{Kind as TypeKind};
+ghost use Rattle.rules_types.specs.Attributes.{pushable};
+ghost use Rattle.rules_forms.specs.Spelling.{contract_place, spelled_address};
+ghost use Rattle.rules_values.specs.Val.{bytes};
+ghost use Rattle.rules_values.specs.Literals.{read};
+ghost use Rattle.rules_evaluation.specs.Given.{value_of};
+ghost use Rattle.mich_base.specs.TypeView.{kind};
+ghost use Rattle.mich_base.specs.View.{tree};
+ghost use Rattle.mich_stack.specs.Views.{Sight, seen};
+ghost use Rattle.mich_frames.specs.Shapes.{lambda_price};
+ghost use Rattle.mich_instr.specs.Code as made;
+ghost use Rattle.mich_instr.specs.Code.{Codes};
+ghost use Rattle.mich_interpreter.specs.Ends.{Comes, Carries, Spends};
+
+use crate::act::{Act, Failed};
+use crate::paying::{pay, pay_capped};
+use crate::stack::push;
+use crate::state::State;
+use mich_base::{Bytes, Memory, Node, Shared, Ty, size_within};
+use mich_data::read_value;
+use mich_forms::{Address, Entrypoint, Place};
+use mich_gas::{Costs, Kind};
+use mich_term::{Value, weight};
+use std::alloc::Global;
+
+// The value of a literal of a type that can be pushed. Memory too where it has 2^32 nodes and more, or is none.
+fn literal_value(alloc: Global, ty: &Ty, literal: &Node) -> Result<Value, Memory>
+    requires { pushable (kind ty.now) ≡ true }
+    ensures { IfOk result (λ v. (big : Sight) (at : ℕ) → value_of (read (kind ty.now) at (tree literal.now)) ≡ Some (seen big v)) }
+{
+    if !size_within(literal, u32::MAX) {
+        return Err(Memory);
+    }
+    match read_value(alloc, ty, literal) {
+        Ok(read) => Ok(read.value),
+        Err(_) => Err(Memory),
+    }
+}
+
+pub(crate) fn act_push(
+    alloc: Global,
+    m: &mut State,
+    costs: &Costs,
+    ty: &Ty,
+    literal: &Node,
+) -> Result<Act, Memory>
+    requires { (written : Tree) × Comes (made.push (kind ty.now) written (tree literal.now)) costs.now m.old }
+    ensures acts { (written : Tree) → Carries (made.push (kind ty.now) written (tree literal.now)) costs.now m.old m.new result }
+    ensures less { IfOk result (λ a. Spends a m.old.meter m.new.meter) }
+    ensures ledger { m.new.ledger ≡ m.old.ledger }
+    ensures counts { m.new.counts ≡ m.old.counts }
+{
+    let value = literal_value(alloc, ty, literal)?;
+    if !pay_capped(&mut m.meter, costs, Kind::Push, weight(&value)) {
+        return Ok(Act::Failed(Failed::OutOfGas));
+    }
+    push(&mut m.stack, value)?;
+    Ok(Act::On)
+}
+
+fn lambda_kind(recursive: bool) -> Kind
+    ensures { result ≡ lambda_price recursive }
+{
+    if recursive {
+        Kind::LambdaRec
+    } else {
+        Kind::Lambda
+    }
+}
+
+pub(crate) fn act_lambda(
+    m: &mut State,
+    costs: &Costs,
+    recursive: bool,
+    body: &Shared<Node>,
+) -> Result<Act, Memory>
+    requires { (a : TypeKind) × (r : TypeKind) × (written : Trees) × (is : Codes) × Comes (made.lambda recursive a r written (tree body.now) is) costs.now m.old }
+    ensures acts { (a r : TypeKind) (written : Trees) (is : Codes) → Carries (made.lambda recursive a r written (tree body.now) is) costs.now m.old m.new result }
+    ensures less { IfOk result (λ a. Spends a m.old.meter m.new.meter) }
+    ensures ledger { m.new.ledger ≡ m.old.ledger }
+    ensures counts { m.new.counts ≡ m.old.counts }
+{
+    let kind = lambda_kind(recursive);
+    if !pay(&mut m.meter, costs, kind, 0) {
+        return Ok(Act::Failed(Failed::OutOfGas));
+    }
+    let body = body.share()?;
+    push(&mut m.stack, Value::Lambda(body, recursive))?;
+    Ok(Act::On)
+}
+
+// The address of a contract's entrypoint as a value.
+fn address_value(alloc: Global, hash: [u8; 20], entrypoint: &Entrypoint) -> Result<Value, Memory>
+    ensures { IfOk result (λ v. (big : Sight) → seen big v ≡ bytes (spelled_address (contract_place hash) entrypoint.now)) }
+{
+    let address = Address {
+        place: Place::Contract(hash),
+        entrypoint: *entrypoint,
+    };
+    Ok(Value::Bytes(Bytes::from_slice(alloc, address.bytes().as_slice())?))
+}
+
+pub(crate) fn act_self(
+    alloc: Global,
+    m: &mut State,
+    costs: &Costs,
+    entrypoint: &Entrypoint,
+) -> Result<Act, Memory>
+    requires { (annots : List (List ℕ)) × Comes (made.self entrypoint.now annots) costs.now m.old }
+    ensures acts { (annots : List (List ℕ)) → Carries (made.self entrypoint.now annots) costs.now m.old m.new result }
+    ensures less { IfOk result (λ a. Spends a m.old.meter m.new.meter) }
+    ensures ledger { m.new.ledger ≡ m.old.ledger }
+    ensures counts { m.new.counts ≡ m.old.counts }
+{
+    if !pay(&mut m.meter, costs, Kind::SelfContract, 0) {
+        return Ok(Act::Failed(Failed::OutOfGas));
+    }
+    let address = address_value(alloc, m.env.me, entrypoint)?;
+    push(&mut m.stack, address)?;
+    Ok(Act::On)
+}

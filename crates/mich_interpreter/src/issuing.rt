@@ -1,0 +1,141 @@
+// TRANSFER_TOKENS and EMIT.
+ghost use Rattle.std.specs.Prelude.{◌≡◌, ◌≤◌, ◌<◌, ◌+◌, ◌∷◌, pos, MatchOption, IfSome, IfOk};
+ghost use Rattle.rules_base.specs.Tree.{Tree};
+ghost use Rattle.rules_values.specs.Val.{number, bytes};
+ghost use Rattle.rules_instructions.specs.Straight.{on_operations};
+ghost use Rattle.rules_instructions.specs.Straight as i;
+ghost use Rattle.rules_evaluation.specs.Issuing.{operation_limit};
+ghost use Rattle.mich_base.specs.TypeView.{kind};
+ghost use Rattle.mich_forms.specs.Spelled.{address_bytes};
+ghost use Rattle.mich_instr.specs.Code as made;
+ghost use Rattle.mich_overload.specs.View.{operation_row};
+ghost use Rattle.mich_stack.specs.Views.{Sight};
+ghost use Rattle.mich_interpreter.specs.View.{tops};
+ghost use Rattle.mich_interpreter.specs.Parts.{HasAmount, HasAddress};
+ghost use Rattle.mich_interpreter.specs.Ends.{Comes, Carries, Spends};
+
+use crate::act::{Act, Failed};
+use crate::paying::pay;
+use crate::stack::{pop, push};
+use crate::state::{Counts, State};
+use mich_base::{Memory, Rows, Text, Ty, copy_type};
+use mich_forms::Address;
+use mich_gas::{Costs, Kind};
+use mich_instr::Issued;
+use mich_overload::OperationRow;
+use mich_term::Value;
+use std::alloc::Global;
+
+/// How many operations may be issued in a group.
+const MOST_ISSUED: u32 = 65_535;
+
+// Takes the amount of mutez on top. None where it is past 2^64-1.
+fn pop_amount(stack: &mut Rows<Value>) -> Option<u64>
+    requires { (big : Sight) × HasAmount (tops big stack.old) }
+    ensures { IfSome result (λ n. (big : Sight) → tops big stack.old ≡ number (pos n) ∷ tops big stack.new) }
+{
+    match stack.pop() {
+        Some(Value::Number(amount)) => u64::try_from(amount).ok(),
+        _ => unreachable!(),
+    }
+}
+
+// Takes the address on top. None where the bytes are none.
+fn pop_address(stack: &mut Rows<Value>) -> Option<Address>
+    requires { (big : Sight) × HasAddress (tops big stack.old) }
+    ensures { IfSome result (λ a. (big : Sight) → tops big stack.old ≡ bytes (address_bytes a) ∷ tops big stack.new) }
+{
+    match stack.pop() {
+        Some(Value::Bytes(spelled)) => Address::read(spelled.as_slice()),
+        _ => unreachable!(),
+    }
+}
+
+// Counts one more operation, and gives its number. None where there are as many as there may be.
+fn count_operation(counts: &mut Counts) -> Option<u32>
+    ensures number { MatchOption result (operation_limit ≤ counts.old.issued) (λ n. (n ≡ counts.old.issued) × (n < operation_limit) × (counts.new.issued ≡ n + 1)) }
+    ensures others { (counts.new.originated ≡ counts.old.originated) × (counts.new.group ≡ counts.old.group) }
+{
+    let number = counts.issued;
+    if number >= MOST_ISSUED {
+        return None;
+    }
+    counts.issued += 1;
+    Some(number)
+}
+
+fn act_transfer(m: &mut State, costs: &Costs) -> Result<Act, Memory>
+    requires { (app : Tree) × Comes (made.straight (on_operations i.transfer_tokens) app) costs.now m.old }
+    ensures acts { (app : Tree) → Carries (made.straight (on_operations i.transfer_tokens) app) costs.now m.old m.new result }
+    ensures less { IfOk result (λ a. Spends a m.old.meter m.new.meter) }
+    ensures ledger { m.new.ledger ≡ m.old.ledger }
+    ensures group { m.new.counts.group ≡ m.old.counts.group }
+{
+    if !pay(&mut m.meter, costs, Kind::TransferTokens, 0) {
+        return Ok(Act::Failed(Failed::OutOfGas));
+    }
+    let argument = pop(&mut m.stack);
+    let Some(amount) = pop_amount(&mut m.stack) else {
+        return Err(Memory);
+    };
+    let Some(to) = pop_address(&mut m.stack) else {
+        return Err(Memory);
+    };
+    let Some(number) = count_operation(&mut m.counts) else {
+        return Ok(Act::Failed(Failed::TooManyOperations));
+    };
+    m.issued.push(Issued::Transfer {
+        number,
+        argument,
+        amount,
+        to,
+    })?;
+    push(&mut m.stack, Value::Operation(number))?;
+    Ok(Act::On)
+}
+
+fn act_emit(alloc: Global, m: &mut State, costs: &Costs, tag: &Text, ty: &Ty) -> Result<Act, Memory>
+    requires { (app : Tree) × Comes (made.straight (on_operations (i.emit tag.now (kind ty.now))) app) costs.now m.old }
+    ensures acts { (app : Tree) → Carries (made.straight (on_operations (i.emit tag.now (kind ty.now))) app) costs.now m.old m.new result }
+    ensures less { IfOk result (λ a. Spends a m.old.meter m.new.meter) }
+    ensures ledger { m.new.ledger ≡ m.old.ledger }
+    ensures group { m.new.counts.group ≡ m.old.counts.group }
+{
+    if !pay(&mut m.meter, costs, Kind::Emit, 0) {
+        return Ok(Act::Failed(Failed::OutOfGas));
+    }
+    let value = pop(&mut m.stack);
+    let Some(number) = count_operation(&mut m.counts) else {
+        return Ok(Act::Failed(Failed::TooManyOperations));
+    };
+    let tag = tag.copy(alloc)?;
+    let ty = copy_type(alloc, ty)?;
+    m.issued.push(Issued::Event {
+        number,
+        tag,
+        ty,
+        value,
+    })?;
+    push(&mut m.stack, Value::Operation(number))?;
+    Ok(Act::On)
+}
+
+// An instruction on operations and contracts that isn't in a step. CONTRACT and VIEW answer Memory so far.
+pub(crate) fn act_operation(
+    alloc: Global,
+    m: &mut State,
+    costs: &Costs,
+    row: &OperationRow,
+) -> Result<Act, Memory>
+    requires { (app : Tree) × Comes (made.straight (on_operations (operation_row row.now)) app) costs.now m.old }
+    ensures acts { (app : Tree) → Carries (made.straight (on_operations (operation_row row.now)) app) costs.now m.old m.new result }
+    ensures less { IfOk result (λ a. Spends a m.old.meter m.new.meter) }
+    ensures ledger { m.new.ledger ≡ m.old.ledger }
+    ensures group { m.new.counts.group ≡ m.old.counts.group }
+{
+    match row {
+        OperationRow::TransferTokens => Ok(act_transfer(m, costs)?),
+        OperationRow::Emit(tag, ty) => Ok(act_emit(alloc, m, costs, tag, ty)?),
+        _ => Err(Memory),
+    }
+}

@@ -1,0 +1,28 @@
+//! The interpreter: it runs typed code with frames of its own.
+#![tactic(auto)]
+
+mod act;
+mod beginning;
+mod bodies;
+mod branches;
+mod calls;
+mod dipping;
+mod frame;
+mod giving;
+mod issuing;
+mod items;
+mod iterating;
+mod loops;
+mod machine;
+mod made;
+mod mapping;
+mod paying;
+mod stack;
+mod state;
+mod straights;
+
+pub use act::Failed;
+pub use beginning::run_code;
+pub use bodies::Bodies;
+pub use machine::Ended;
+pub use state::{Counts, State};

@@ -1,0 +1,285 @@
+// A run: its blocks, its frames and what they come to.
+ghost use Rattle.std.specs.Prelude.{◌≡◌, ◌+◌, ◌^◌, ◌<◌, ℕ, List, length, IfOk};
+ghost use Rattle.rules_types.specs.Kind.{Kind};
+ghost use Rattle.rules_evaluation.specs.Outcome.{Outcome};
+ghost use Rattle.mich_gas.specs.declared.costs.Costs.{Costs as Prices};
+ghost use Rattle.mich_instr.specs.View.{code};
+ghost use Rattle.mich_interpreter.specs.View.{Beyond};
+ghost use Rattle.mich_interpreter.specs.Ends.{Comes, Carries, Waits, Resumes, Spends, Turns, KeepsState};
+ghost use Rattle.mich_interpreter.specs.Runs.{InBlock, Behind, HasActedIn, IsStep, IsBegun, IsSpent, IsPaidStep, IsSettled, HasLeft, with_below, with_rest, SomeRun, SomeEnd, IsEnd, state_of, IsNoBlock, IsNoSequence};
+
+use crate::act::{Act, Failed};
+use crate::branches::{act_if, act_if_cons, act_if_left, act_if_none};
+use crate::calls::{act_failwith, act_never};
+use crate::dipping::act_dip;
+use crate::frame::Frame;
+use crate::giving::{act_lambda, act_push, act_self};
+use crate::iterating::{act_iter, next_each};
+use crate::loops::{act_loop, act_loop_left, next_left_turn, next_turn};
+use crate::mapping::{act_map, next_made};
+use crate::stack::{put_all, put_below};
+use crate::state::State;
+use crate::straights::act_straight;
+use mich_base::{Memory, Rows};
+use mich_gas::Costs;
+use mich_instr::{Block, Instr};
+use std::alloc::Global;
+
+/// How many blocks may be open.
+const MOST_OPEN: u32 = 100_000;
+
+// A run on its way: the block that runs with the place of its next instruction, and what is left to do behind it.
+#[derive(Debug, Drop)]
+pub(crate) struct Machine {
+    pub(crate) state: State,
+    pub(crate) block: Block,
+    pub(crate) at: usize,
+    pub(crate) frames: Rows<Frame>,
+    pub(crate) depth: u32,
+}
+
+// What a step came to.
+#[derive(Debug, Drop)]
+pub(crate) enum Step {
+    // Something that costs nothing.
+    Free,
+    // Something that was paid for.
+    Paid,
+    Done,
+    Failed(Failed),
+}
+
+/// How a run ends: with its last state, and where it failed with the reason.
+#[derive(Debug, Drop)]
+pub enum Ended {
+    Stack(State),
+    Failed(State, Failed),
+}
+
+// An instruction, which isn't a sequence.
+#[tactic(auto, using(crate::proofs::Keeping::same_keeps, crate::proofs::Keeping::keeps_state, crate::proofs::Keeping::keeps_on))]
+fn perform(alloc: Global, m: &mut State, costs: &Costs, instr: &Instr) -> Result<Act, Memory>
+    requires charged { IsNoSequence instr.now }
+    requires comes { Comes (code instr.now) costs.now m.old }
+    ensures acts { Carries (code instr.now) costs.now m.old m.new result }
+    ensures less { IfOk result (λ a. Spends a m.old.meter m.new.meter) }
+    ensures keeps { IfOk result (λ _. KeepsState m.old m.new) }
+{
+    match instr {
+        Instr::If(first, second) => Ok(act_if(m, costs, first, second)?),
+        Instr::IfNone(first, second) => Ok(act_if_none(m, costs, first, second)?),
+        Instr::IfLeft(first, second) => Ok(act_if_left(m, costs, first, second)?),
+        Instr::IfCons(first, second) => Ok(act_if_cons(m, costs, first, second)?),
+        Instr::Loop(body) => Ok(act_loop(m, costs, body)?),
+        Instr::LoopLeft(body) => Ok(act_loop_left(m, costs, body)?),
+        Instr::Iter(body) => Ok(act_iter(alloc, m, costs, body)?),
+        Instr::Map(body) => Ok(act_map(alloc, m, costs, body)?),
+        Instr::Dip { count, body, .. } => Ok(act_dip(alloc, m, costs, *count, body)?),
+        Instr::Failwith(ty) => Ok(act_failwith(alloc, m, costs, ty)?),
+        Instr::Lambda {
+            recursive,
+            body,
+            ..
+        } => Ok(act_lambda(m, costs, *recursive, body)?),
+        Instr::Never => Ok(act_never(m, costs)?),
+        Instr::Push { ty, literal, .. } => Ok(act_push(alloc, m, costs, ty, literal)?),
+        Instr::SelfContract { entrypoint, .. } => Ok(act_self(alloc, m, costs, entrypoint)?),
+        Instr::Straight(simple, _) => Ok(act_straight(alloc, m, costs, simple)?),
+        Instr::Seq(_) => unreachable!(),
+        _ => Err(Memory),
+    }
+}
+
+// A frame that isn't the rest of a block, taken off.
+#[tactic(auto, using(crate::proofs::Keeping::same_keeps, crate::proofs::Keeping::keeps_state, crate::proofs::Keeping::keeps_on))]
+fn unwind(alloc: Global, m: &mut State, costs: &Costs, frame: Frame) -> Result<Act, Memory>
+    requires no_block { IsNoBlock frame }
+    requires waits { Waits frame costs.now m.old }
+    ensures acts { Resumes frame costs.now m.old m.new result }
+    ensures gas { IfOk result (λ a. Turns a m.old.meter m.new.meter) }
+    ensures keeps { IfOk result (λ _. KeepsState m.old m.new) }
+{
+    match frame {
+        Frame::Turns(body) => Ok(next_turn(m, costs, body)?),
+        Frame::LeftTurns(body) => Ok(next_left_turn(m, costs, body)?),
+        Frame::Each(body, items) => Ok(next_each(alloc, m, costs, body, items)?),
+        Frame::Making(body, making) => Ok(next_made(alloc, m, costs, body, making)?),
+        Frame::Under(above) => {
+            put_all(&mut m.stack, above)?;
+            Ok(Act::On)
+        }
+        Frame::Call(below) => {
+            put_below(&mut m.stack, below)?;
+            Ok(Act::On)
+        }
+        Frame::Rest(_, _) => unreachable!(),
+    }
+}
+
+// Puts a frame, if there is one, behind the others.
+fn put_frame(frames: &mut Rows<Frame>, below: Option<Frame>) -> Result<(), Memory>
+    ensures { IfOk result (λ _. frames.new ≡ with_below frames.old below) }
+{
+    match below {
+        Some(frame) => frames.push(frame),
+        None => Ok(()),
+    }
+}
+
+// Opens a block over a frame or none, where there aren't too many.
+fn begin(m: &mut Machine, below: Option<Frame>, body: Block) -> Result<bool, Memory>
+    ensures begun { IfOk result (λ b. IsBegun b below body m.old.frames m.old m.new) }
+    ensures state { m.new.state ≡ m.old.state }
+{
+    if m.depth >= MOST_OPEN {
+        return Ok(false);
+    }
+    put_frame(&mut m.frames, below)?;
+    m.block = body;
+    m.at = 0;
+    m.depth += 1;
+    Ok(true)
+}
+
+// The same, over the rest of the block that runs.
+fn begin_inside(m: &mut Machine, below: Option<Frame>, body: Block) -> Result<bool, Memory>
+    ensures begun { IfOk result (λ b. IsBegun b below body (with_rest m.old) m.old m.new) }
+    ensures state { m.new.state ≡ m.old.state }
+{
+    let outer = m.block.share()?;
+    m.frames.push(Frame::Rest(outer, m.at))?;
+    let begun = begin(m, below, body)?;
+    Ok(begun)
+}
+
+// What has acted in the block that runs.
+fn follow(m: &mut Machine, act: Act) -> Result<Step, Memory>
+    ensures stays { (x : Beyond) (costs : Prices) (Z : List Kind) (o : Outcome) → HasActedIn act x costs m.old Z o → IfOk result (λ s. IsStep s x costs m.new Z o) }
+    ensures spent { (n : ℕ) → Spends act n m.old.state.meter → IfOk result (λ s. IsPaidStep s n m.new.state.meter) }
+    ensures state { m.new.state ≡ m.old.state }
+{
+    match act {
+        Act::On => Ok(Step::Paid),
+        Act::Failed(why) => Ok(Step::Failed(why)),
+        Act::Open(below, body) => {
+            let begun = begin_inside(m, below, body)?;
+            if begun {
+                Ok(Step::Paid)
+            } else {
+                Ok(Step::Failed(Failed::DepthLimit))
+            }
+        }
+    }
+}
+
+// Behind its block: frames are taken off until a block goes on or opens.
+#[tactic(auto, using(crate::proofs::Keeping::same_keeps, crate::proofs::Keeping::keeps_state, crate::proofs::Keeping::keeps_on))]
+fn leave(alloc: Global, m: &mut Machine, costs: &Costs) -> Result<Step, Memory>
+    requires { SomeEnd costs.now m.old }
+    ensures stays { (x : Beyond) (Z : List Kind) (o : Outcome) → Behind x costs.now m.old Z o → IfOk result (λ s. IsStep s x costs.now m.new Z o) }
+    ensures spent { IfOk result (λ s. HasLeft s m.old m.new) }
+    ensures keeps { IfOk result (λ _. KeepsState m.old.state m.new.state) }
+{
+    'frames: loop {
+        match m.frames.pop() {
+            None => return Ok(Step::Done),
+            Some(Frame::Rest(block, at)) => {
+                m.block = block;
+                m.at = at;
+                return Ok(Step::Free);
+            }
+            Some(frame) => match unwind(alloc, &mut m.state, costs, frame)? {
+                Act::On => {}
+                Act::Failed(why) => return Ok(Step::Failed(why)),
+                Act::Open(below, body) => {
+                    let begun = begin(m, below, body)?;
+                    return if begun {
+                        Ok(Step::Paid)
+                    } else {
+                        Ok(Step::Failed(Failed::DepthLimit))
+                    };
+                }
+            },
+        }
+    }
+}
+
+// The next instruction of the block, at a place within it.
+#[tactic(auto, using(crate::proofs::Keeping::same_keeps, crate::proofs::Keeping::keeps_state, crate::proofs::Keeping::keeps_on))]
+fn advance_inside(alloc: Global, m: &mut Machine, costs: &Costs) -> Result<Step, Memory>
+    requires within { m.old.at < length m.old.block }
+    requires fits { m.old.at + 1 < 2 ^ 64 }
+    requires stands { SomeRun costs.now m.old }
+    ensures stays { (x : Beyond) (Z : List Kind) (o : Outcome) → InBlock x costs.now m.old Z o → IfOk result (λ s. IsStep s x costs.now m.new Z o) }
+    ensures spent { IfOk result (λ s. IsSpent s m.old m.new) }
+    ensures keeps { IfOk result (λ _. KeepsState m.old.state m.new.state) }
+{
+    let instr = m.block.get().at(m.at);
+    if let Instr::Seq(inner) = instr {
+        let inner = inner.share()?;
+        m.at += 1;
+        let begun = begin_inside(m, None, inner)?;
+        if begun {
+            Ok(Step::Free)
+        } else {
+            Ok(Step::Failed(Failed::DepthLimit))
+        }
+    } else {
+        let act = perform(alloc, &mut m.state, costs, instr)?;
+        m.at += 1;
+        let step = follow(m, act)?;
+        Ok(step)
+    }
+}
+
+// The next step.
+#[tactic(auto, using(crate::proofs::Keeping::same_keeps, crate::proofs::Keeping::keeps_state, crate::proofs::Keeping::keeps_on))]
+fn advance(alloc: Global, m: &mut Machine, costs: &Costs) -> Result<Step, Memory>
+    requires { SomeRun costs.now m.old }
+    ensures stays { (x : Beyond) (Z : List Kind) (o : Outcome) → InBlock x costs.now m.old Z o → IfOk result (λ s. IsStep s x costs.now m.new Z o) }
+    ensures spent { IfOk result (λ s. IsSpent s m.old m.new) }
+    ensures keeps { IfOk result (λ _. KeepsState m.old.state m.new.state) }
+{
+    if m.at < m.block.get().len() {
+        let step = advance_inside(alloc, m, costs)?;
+        Ok(step)
+    } else {
+        m.depth -= 1;
+        let step = leave(alloc, m, costs)?;
+        Ok(step)
+    }
+}
+
+// Steps up to one that was paid for, or an end.
+#[tactic(auto, using(crate::proofs::Keeping::same_keeps, crate::proofs::Keeping::keeps_state, crate::proofs::Keeping::keeps_on))]
+fn settle(alloc: Global, m: &mut Machine, costs: &Costs) -> Result<Step, Memory>
+    requires { SomeRun costs.now m.old }
+    ensures stays { (x : Beyond) (Z : List Kind) (o : Outcome) → InBlock x costs.now m.old Z o → IfOk result (λ s. IsStep s x costs.now m.new Z o) }
+    ensures less { IfOk result (λ s. IsSettled s m.old m.new) }
+    ensures keeps { IfOk result (λ _. KeepsState m.old.state m.new.state) }
+{
+    'free: loop {
+        match advance(alloc, m, costs)? {
+            Step::Free => {}
+            other => return Ok(other),
+        }
+    }
+}
+
+// Runs to the end.
+#[tactic(auto, using(crate::proofs::Keeping::same_keeps, crate::proofs::Keeping::keeps_state, crate::proofs::Keeping::keeps_on))]
+pub(crate) fn work(alloc: Global, m: Machine, costs: &Costs) -> Result<Ended, Memory>
+    requires { SomeRun costs.now m }
+    ensures ends { (x : Beyond) (Z : List Kind) (o : Outcome) → InBlock x costs.now m Z o → IfOk result (λ e. IsEnd e x Z o) }
+    ensures keeps { IfOk result (λ e. KeepsState m.state (state_of e)) }
+{
+    let mut m = m;
+    'paid: loop {
+        match settle(alloc, &mut m, costs)? {
+            Step::Free => unreachable!(),
+            Step::Paid => {}
+            Step::Done => return Ok(Ended::Stack(m.state)),
+            Step::Failed(why) => return Ok(Ended::Failed(m.state, why)),
+        }
+    }
+}

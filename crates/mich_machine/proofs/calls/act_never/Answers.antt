@@ -1,5 +1,0 @@
-use Rattle.mich_frames.proofs.Calls.{never_meets}
-use Rattle.mich_machine.proofs.calls.act_never.Goals as goal
-
-pub unreachable-requires : goal.unreachable-requires
-unreachable-requires c = never_meets c.requires.5

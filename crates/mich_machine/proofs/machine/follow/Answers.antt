@@ -1,7 +1,0 @@
-use Rattle.mich_machine.proofs.Begun.{opens_inside}
-use Rattle.mich_machine.proofs.machine.follow.Goals as goal
-
-pub returns-then-begun-clause-stays : goal.returns-then-begun-clause-stays
-returns-then-begun-clause-stays c = λ x costs Z o h.
-    let begun = rw c.if-begun.true at c.in_ok-begun-in-Open.ensures.begun in
-    opens_inside x costs Z o _ _ c.args.m.now _ begun c.begin_inside.ensures.state (rw c.in-Open.is at h)

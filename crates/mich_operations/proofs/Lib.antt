@@ -1,0 +1,6 @@
+pub mod Hosting
+pub mod Paying
+pub mod Whole
+pub mod Foundings
+pub mod Issuing
+pub mod Calling

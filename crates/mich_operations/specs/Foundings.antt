@@ -1,0 +1,45 @@
+-- Contracts that are made (Octez "Operations", originations).
+use Rattle.std.specs.Prelude.{◌≡◌, ℕ, true, List, Result, Ok, Err}
+use Rattle.rules_base.specs.Tree.{Tree}
+use Rattle.rules_instructions.specs.Arguments.{fault}
+use Rattle.rules_typing.specs.Fits.{is_place}
+use Rattle.rules_typing.specs.Nodes.{script}
+use Rattle.rules_world.specs.Forms.{IsWorld}
+use Rattle.rules_world.specs.Originations.{Founding}
+use Rattle.rules_world.specs.World.{World as PlainWorld}
+use Rattle.mich_bigmap.specs.Bases.{Bases}
+use Rattle.mich_bigmap.specs.Standing.{val_in}
+use Rattle.mich_forms.specs.Spelled.{place_bytes}
+use Rattle.mich_forms.specs.declared.places.Place.{Place}
+use Rattle.mich_instr.specs.Scripts.{IsTypedScript}
+use Rattle.mich_instr.specs.View.{script_node}
+use Rattle.mich_instr.specs.declared.instr.Script.{Script}
+use Rattle.mich_ops.specs.declared.failure.Failure.TheVariants.{IllTyped}
+use Rattle.mich_term.specs.declared.value.Value.{Value}
+use Rattle.mich_world.specs.Standing.{StandsFor}
+use Rattle.mich_world.specs.World.{World}
+use Rattle.mich_operations.specs.declared.applied.ApplyError.{ApplyError}
+use Rattle.mich_operations.specs.declared.applied.ApplyError.TheVariants.{Failed, Memory}
+
+-- what a place makes
+abbrev pub founding : Bases → Place → List ℕ → ℕ → Script → Value → Founding
+founding bs from hash balance s storage = record {
+  sender = place_bytes from;
+  hash = hash;
+  balance = balance;
+  script = script_node s;
+  storage = val_in bs storage;
+}
+
+-- a world stands for one of the form of worlds, and there is such a place
+pub record IsPayer (v : World) (w : PlainWorld) (from : Place) : Type 0 where
+  pub stands : StandsFor v w
+  pub form : IsWorld w
+  pub payer : is_place (place_bytes from) ≡ true
+
+-- a node is this script, or has its first fault here
+abbrev pub IsScriptOf : Tree → Result Script ApplyError → Type 0
+IsScriptOf t (Ok s) = (script_node s ≡ t) × IsTypedScript s
+IsScriptOf t (Err (Failed (IllTyped l))) = script t ≡ fault l
+IsScriptOf t (Err (Failed why)) = ⊥
+IsScriptOf t (Err Memory) = Unit {0}

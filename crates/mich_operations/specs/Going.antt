@@ -1,0 +1,76 @@
+-- One operation of a group, and how its application ends (Octez "Operations", internal operations).
+use Rattle.std.specs.Prelude.{◌≡◌, ◌≤◌, ℕ, true, is_some, List, [], ◌∷◌, map, Result, Ok, Err}
+use Rattle.std.specs.List.{AllByRecursion}
+use Rattle.rules_forms.specs.Spelling.{contract_place}
+use Rattle.rules_world.specs.World.{World as PlainWorld}
+use Rattle.rules_world.specs.Outcomes.{Setting, Waiting, issued, Counts as PlainCounts, Outcome, applied, failed}
+use Rattle.laws_runs.specs.Going.{IsSetting, IsGoing}
+use Rattle.mich_base.specs.Counted.{IsNotEmpty}
+use Rattle.mich_bigmap.specs.Bases.{Bases}
+use Rattle.mich_instr.specs.declared.issued.Issued.{Issued}
+use Rattle.mich_machine.specs.Calls.{counts_of, issued_in, IsHanded}
+use Rattle.mich_interpreter.specs.declared.state.Counts.{Counts}
+use Rattle.mich_ops.specs.Told.{told}
+use Rattle.mich_ops.specs.View.{effect, failure}
+use Rattle.mich_world.specs.Holders.{contract_at}
+use Rattle.mich_world.specs.Standing.{StandsFor}
+use Rattle.mich_world.specs.World.{World}
+use Rattle.mich_operations.specs.declared.applied.Applied.{Applied}
+use Rattle.mich_operations.specs.declared.applied.ApplyError.{ApplyError}
+use Rattle.mich_operations.specs.declared.applied.ApplyError.TheVariants.{Failed, Memory}
+
+-- an operation that the contract of these 20 bytes issued, with its big maps over the bases of a store
+abbrev pub issued_by : Bases → List ℕ → Issued → Waiting
+issued_by bs hash i = issued (contract_place hash) (issued_in bs i).operation
+
+-- ---- before it
+
+-- A group comes to this operation: the world is as its operations so far left it, and others may wait behind it.
+pub record IsNext (s : Setting) (w : PlainWorld) (op : Waiting) (counts : PlainCounts) : Type 0 where
+  pub start : PlainWorld
+  pub contents : ℕ
+  pub few : contents ≤ 1000
+  pub behind : List Waiting
+  pub setting : IsSetting s
+  pub going : IsGoing start s.group contents w (op ∷ behind) counts
+
+-- and a world of the code stands for it
+pub record Begins (v : World) (w : PlainWorld) (s : Setting) (op : Waiting) (counts : PlainCounts) : Type 0 where
+  pub stands : StandsFor v w
+  pub next : IsNext s w op counts
+
+-- ---- behind it
+
+-- It was applied: the world stands for the world behind it; what it did, what it emitted, and the gas and the counts that are left are
+-- those of the definitions.
+pub record IsApplied (o : Outcome) (v : World) (gas : ℕ) (old new : Counts) (a : Applied) : Type 0 where
+  pub world : PlainWorld
+  pub stands : StandsFor v world
+  pub same :
+      o ≡ applied (record {
+        world = world;
+        emitted = map (issued_by v.store.bases.present a.by) a.emitted;
+        effects = effect a.effect ∷ [];
+        gas = gas;
+        counts = counts_of new;
+      })
+  pub group : new.group ≡ old.group
+  pub handed : AllByRecursion (IsHanded v.store.bases.present) a.emitted
+  -- the contract that issued them is there
+  pub there : IsNotEmpty a.emitted → is_some (contract_at v.funds.present a.by) ≡ true
+
+-- It was applied so, or failed as the definitions say. After want of memory nothing is said.
+abbrev pub EndsAs : Outcome → World → ℕ → Counts → Counts → Result Applied ApplyError → Type 0
+EndsAs o v gas old new (Ok a) = IsApplied o v gas old new a
+EndsAs (failed why) v gas old new (Err (Failed f)) = failure f ≡ told why
+EndsAs o v gas old new (Err (Failed f)) = ⊥
+EndsAs o v gas old new (Err Memory) = Unit {0}
+
+-- contracts that were there are there still
+abbrev pub KeepsContracts : World → World → Type 0
+KeepsContracts old new = (hash : List ℕ) → is_some (contract_at old.funds.present hash) ≡ true → is_some (contract_at new.funds.present hash) ≡ true
+
+-- what holds where memory sufficed
+abbrev pub WithMemory : Result Applied ApplyError → Type 0 → Type 0
+WithMemory (Err Memory) a = Unit {0}
+WithMemory r a = a

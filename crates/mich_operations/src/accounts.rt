@@ -1,0 +1,106 @@
+// Transfers to accounts.
+ghost use Rattle.std.specs.Prelude.{◌≡◌, ◌<◌, ◌^◌, [], ℕ, true, Some, None, IfOk};
+ghost use Rattle.rules_base.specs.Tree.{size};
+ghost use Rattle.rules_world.specs.Arguments.{Argument, node};
+ghost use Rattle.rules_world.specs.Transfers.{as_ticket, to_account, with_taken};
+ghost use Rattle.rules_world.specs.World.{World as PlainWorld};
+ghost use Rattle.mich_base.specs.View.{tree};
+ghost use Rattle.mich_bigmap.specs.Standing.{val_in};
+ghost use Rattle.mich_forms.specs.declared.places.Place.TheVariants as place;
+ghost use Rattle.mich_machine.specs.Calls.{counts_of, IsHosting};
+ghost use Rattle.mich_interpreter.specs.declared.state.Counts.{Counts};
+ghost use Rattle.mich_ops.specs.declared.receipt.Effect.TheVariants as effect;
+ghost use Rattle.mich_world.specs.Holders.{may_receive};
+ghost use Rattle.mich_world.specs.Marks.{KeepsWorld};
+ghost use Rattle.mich_operations.specs.Going.{EndsAs, KeepsContracts};
+ghost use Rattle.mich_operations.specs.Transfers.{AreBetween, transaction};
+
+use crate::applied::{Applied, ApplyError};
+use crate::printing::{is_unit, printed};
+use mich_base::{Node, Rows};
+use mich_forms::{Address, Entrypoint, KeyHash, Place};
+use mich_ops::{Effect, Failure};
+use mich_term::Value;
+use mich_world::{MoveError, World};
+use std::alloc::Global;
+
+// Mutez go from a place to an account with a value that is no ticket.
+pub(crate) fn pay_account(
+    alloc: Global,
+    world: &mut World,
+    from: &Place,
+    to: &KeyHash,
+    entry: &Entrypoint,
+    amount: u64,
+    value: &Value,
+) -> Result<Applied, ApplyError>
+    requires there { may_receive world.old.funds.present from.now ≡ true }
+    requires plain { as_ticket (val_in world.old.store.bases.present value.now) ≡ None }
+    ensures ends { (w : PlainWorld) (argument : Argument) (gas : ℕ) (counts : Counts) → AreBetween world.old w from.now (place.Implicit to.now) → EndsAs (with_taken (Some (val_in world.old.store.bases.present value.now)) w (transaction from.now (place.Implicit to.now) entry.now amount argument) gas (counts_of counts)) world.new gas counts counts result }
+    ensures hosting { IsHosting world.old → IfOk result (λ _. IsHosting world.new) }
+    ensures contracts { KeepsContracts world.old world.new }
+    ensures store { world.new.store ≡ world.old.store }
+    ensures keeps { KeepsWorld world.old world.new }
+{
+    if amount == 0 {
+        return Err(ApplyError::Failed(Failure::EmptyTransaction));
+    }
+    match world.move_mutez(*from, Place::Implicit(*to), amount) {
+        Ok(()) => {}
+        Err(MoveError::BalanceTooLow) => return Err(ApplyError::Failed(Failure::BalanceTooLow)),
+        Err(MoveError::NoContract) => unreachable!(),
+        Err(MoveError::Memory) => return Err(ApplyError::Memory),
+    }
+    let argument = printed(alloc, world.store(), value)?;
+    Ok(moved(alloc, from, to, entry, amount, argument))
+}
+
+// What a transfer did that moved mutez alone.
+fn moved(
+    alloc: Global,
+    from: &Place,
+    to: &KeyHash,
+    entry: &Entrypoint,
+    amount: u64,
+    argument: Node,
+) -> Applied
+    ensures effect { result.effect ≡ effect.Transfer from.now (record { place = place.Implicit to.now; entrypoint = entry.now }) amount argument [] }
+    ensures emitted { result.emitted ≡ [] }
+{
+    let address = Address {
+        place: Place::Implicit(*to),
+        entrypoint: *entry,
+    };
+    Applied {
+        effect: Effect::Transfer(*from, address, amount, argument, Rows::new(alloc)),
+        by: [0; 20],
+        emitted: Rows::new(alloc),
+    }
+}
+
+// Mutez go from a source to an account, which takes `Unit` alone.
+pub(crate) fn call_account(
+    alloc: Global,
+    world: &mut World,
+    source: &KeyHash,
+    to: &KeyHash,
+    entry: &Entrypoint,
+    amount: u64,
+    argument: &Node,
+) -> Result<Applied, ApplyError>
+    requires { size (tree argument.now) < 2 ^ 32 }
+    ensures ends { (w : PlainWorld) (gas : ℕ) (counts : Counts) → AreBetween world.old w (place.Implicit source.now) (place.Implicit to.now) → EndsAs (to_account w (transaction (place.Implicit source.now) (place.Implicit to.now) entry.now amount (node (tree argument.now))) gas (counts_of counts)) world.new gas counts counts result }
+    ensures hosting { IsHosting world.old → IfOk result (λ _. IsHosting world.new) }
+    ensures contracts { KeepsContracts world.old world.new }
+    ensures store { world.new.store ≡ world.old.store }
+    ensures keeps { KeepsWorld world.old world.new }
+{
+    if !entry.is_default() {
+        return Err(ApplyError::Failed(Failure::NoEntrypoint));
+    }
+    if !is_unit(alloc, argument)? {
+        return Err(ApplyError::Failed(Failure::BadParameter(0)));
+    }
+    let from = Place::Implicit(*source);
+    pay_account(alloc, world, &from, to, entry, amount, &Value::Unit)
+}

@@ -1,0 +1,59 @@
+// Operations that a source orders.
+ghost use Rattle.std.specs.Prelude.{IfOk};
+ghost use Rattle.rules_world.specs.Application.{apply};
+ghost use Rattle.rules_world.specs.Outcomes.{ordered};
+ghost use Rattle.rules_world.specs.Groups.{setting_of};
+ghost use Rattle.rules_world.specs.World.{World as PlainWorld};
+ghost use Rattle.mich_bigmap.specs.Extended.{Extends};
+ghost use Rattle.mich_gas.specs.View.{listed};
+ghost use Rattle.mich_machine.specs.Calls.{counts_of, IsHosting};
+ghost use Rattle.mich_ops.specs.View.{action as action_of};
+ghost use Rattle.mich_world.specs.Marks.{KeepsWorld};
+ghost use Rattle.mich_operations.specs.Going.{Begins, EndsAs, KeepsContracts, WithMemory};
+
+use crate::applied::{Applied, ApplyError};
+use crate::calls::call;
+use crate::charging::charge;
+use mich_forms::KeyHash;
+use mich_gas::{Costs, Kind, Meter};
+use mich_machine::{Bodies, Counts};
+use mich_ops::Action;
+use mich_world::World;
+use std::alloc::Global;
+
+/// Applies an action that a source orders. Failed exactly where the rules say that it fails; the world can then be taken back to an
+/// earlier mark. After Memory the world is given up (Octez "Operations", manager operations).
+pub fn apply_action(
+    alloc: Global,
+    world: &mut World,
+    costs: &Costs,
+    source: &KeyHash,
+    meter: &mut Meter,
+    counts: &mut Counts,
+    bodies: &mut Bodies,
+    action: &Action,
+) -> Result<Applied, ApplyError>
+    requires next { (w : PlainWorld) × Begins world.old w (setting_of (listed costs.now) counts.old.group source.now) (ordered (action_of action.now)) (counts_of counts.old) }
+    requires hosting { IsHosting world.old }
+    ensures ends { (w : PlainWorld) → Begins world.old w (setting_of (listed costs.entry.now) counts.old.group source.entry.now) (ordered (action_of action.entry.now)) (counts_of counts.old) → EndsAs (apply (setting_of (listed costs.entry.now) counts.old.group source.entry.now) w (ordered (action_of action.entry.now)) meter.old (counts_of counts.old)) world.new meter.new counts.old counts.new result }
+    ensures hosting { IfOk result (λ _. IsHosting world.new) }
+    ensures bases { IfOk result (λ _. Extends world.old.store.bases.present world.new.store.bases.present) }
+    ensures contracts { IfOk result (λ _. KeepsContracts world.old world.new) }
+    ensures keeps { WithMemory result (KeepsWorld world.old world.new) }
+{
+    match action {
+        Action::Call {
+            amount,
+            to,
+            entry,
+            argument,
+        } => {
+            charge(costs, meter, Kind::Transfer)?;
+            call(
+                alloc, world, costs, source, meter, counts, bodies, *amount, to, entry, argument,
+            )
+        }
+        Action::Originate { .. } => Err(ApplyError::Memory),
+        Action::Give { .. } => Err(ApplyError::Memory),
+    }
+}

@@ -1,0 +1,57 @@
+// Calls that a source orders.
+ghost use Rattle.std.specs.Prelude.{IfOk, ℕ};
+ghost use Rattle.rules_values.specs.ByteForms.{is_implicit};
+ghost use Rattle.rules_world.specs.Application.{ordered_transaction};
+ghost use Rattle.rules_world.specs.Contents.{Call};
+ghost use Rattle.rules_world.specs.Groups.{setting_of};
+ghost use Rattle.rules_world.specs.Outcomes.{ordered};
+ghost use Rattle.rules_world.specs.Transfers.{delivered};
+ghost use Rattle.rules_world.specs.World.{World as PlainWorld};
+ghost use Rattle.mich_base.specs.View.{tree};
+ghost use Rattle.mich_bigmap.specs.Extended.{Extends};
+ghost use Rattle.mich_forms.specs.Spelled.{place_bytes};
+ghost use Rattle.mich_gas.specs.View.{listed};
+ghost use Rattle.mich_machine.specs.Calls.{counts_of, IsHosting};
+ghost use Rattle.mich_world.specs.Marks.{KeepsWorld};
+ghost use Rattle.mich_operations.specs.Going.{Begins, EndsAs, KeepsContracts, WithMemory};
+
+use crate::accounts::call_account;
+use crate::applied::{Applied, ApplyError};
+use mich_base::Node;
+use mich_forms::{Entrypoint, KeyHash, Place};
+use mich_gas::{Costs, Meter};
+use mich_machine::{Bodies, Counts};
+use mich_ops::Failure;
+use mich_world::World;
+use std::alloc::Global;
+
+// Calls an entrypoint of a place with an argument and mutez of the source.
+pub(crate) fn call(
+    alloc: Global,
+    world: &mut World,
+    costs: &Costs,
+    source: &KeyHash,
+    meter: &mut Meter,
+    counts: &mut Counts,
+    bodies: &mut Bodies,
+    amount: u64,
+    to: &Place,
+    entry: &Entrypoint,
+    argument: &Node,
+) -> Result<Applied, ApplyError>
+    requires next { (w : PlainWorld) × Begins world.old w (setting_of (listed costs.now) counts.old.group source.now) (ordered (Call amount (place_bytes to.now) entry.now (tree argument.now))) (counts_of counts.old) }
+    requires hosting { IsHosting world.old }
+    ensures ends { (w : PlainWorld) → Begins world.old w (setting_of (listed costs.entry.now) counts.old.group source.entry.now) (ordered (Call amount (place_bytes to.entry.now) entry.entry.now (tree argument.entry.now))) (counts_of counts.old) → EndsAs (delivered (is_implicit (place_bytes to.entry.now)) (setting_of (listed costs.entry.now) counts.old.group source.entry.now) w (ordered_transaction (setting_of (listed costs.entry.now) counts.old.group source.entry.now) amount (place_bytes to.entry.now) entry.entry.now (tree argument.entry.now)) meter.old (counts_of counts.old)) world.new meter.new counts.old counts.new result }
+    ensures hosting { IfOk result (λ _. IsHosting world.new) }
+    ensures bases { IfOk result (λ _. Extends world.old.store.bases.present world.new.store.bases.present) }
+    ensures contracts { IfOk result (λ _. KeepsContracts world.old world.new) }
+    ensures keeps { WithMemory result (KeepsWorld world.old world.new) }
+{
+    match to {
+        Place::Implicit(who) => call_account(alloc, world, source, who, entry, amount, argument),
+        Place::Contract(hash) => match world.contract(hash) {
+            None => Err(ApplyError::Failed(Failure::NoContract)),
+            Some(_) => Err(ApplyError::Memory),
+        },
+    }
+}

@@ -1,0 +1,73 @@
+// Contracts that are made.
+ghost use Rattle.std.specs.Prelude.{◌≡◌, [], ℕ, true, false, is_some, IfOk};
+ghost use Rattle.rules_values.specs.Tickets.{tickets};
+ghost use Rattle.rules_world.specs.Originations.{found_contract};
+ghost use Rattle.rules_world.specs.World.{World as PlainWorld};
+ghost use Rattle.mich_bigmap.specs.Extended.{Extends};
+ghost use Rattle.mich_bigmap.specs.Layers.{HasBases};
+ghost use Rattle.mich_forms.specs.declared.places.Place.TheVariants as place;
+ghost use Rattle.mich_instr.specs.Scripts.{IsTypedScript};
+ghost use Rattle.mich_machine.specs.Calls.{counts_of, IsHosting};
+ghost use Rattle.mich_interpreter.specs.declared.state.Counts.{Counts};
+ghost use Rattle.mich_ops.specs.declared.receipt.Effect.TheVariants as effect;
+ghost use Rattle.mich_term.specs.Layers.{AreFormed};
+ghost use Rattle.mich_term.specs.ValueView.{val};
+ghost use Rattle.mich_tickets.specs.Carrying.{MayEnter};
+ghost use Rattle.mich_world.specs.Holders.{contract_at, may_receive};
+ghost use Rattle.mich_world.specs.Marks.{KeepsWorld};
+ghost use Rattle.mich_world.specs.Storages.{owner_of};
+ghost use Rattle.mich_operations.specs.Foundings.{IsPayer, founding};
+ghost use Rattle.mich_operations.specs.Going.{EndsAs, KeepsContracts};
+
+use crate::applied::{Applied, ApplyError};
+use mich_base::{Rows, Shared};
+use mich_forms::Place;
+use mich_instr::Script;
+use mich_ops::{Effect, Failure};
+use mich_term::Value;
+use mich_world::{MoveError, World};
+use std::alloc::Global;
+
+// A contract of these 20 bytes is made, whose balance a place pays.
+pub(crate) fn found(
+    alloc: Global,
+    world: &mut World,
+    from: &Place,
+    hash: [u8; 20],
+    balance: u64,
+    script: Shared<Script>,
+    storage: Value,
+) -> Result<Applied, ApplyError>
+    requires absent { is_some (contract_at world.old.funds.present hash) ≡ false }
+    requires there { may_receive world.old.funds.present from.now ≡ true }
+    requires enter { MayEnter (owner_of hash) world.old.ledger.books.present (tickets (val storage)) }
+    requires formed { AreFormed storage }
+    requires based { HasBases world.old.store.bases.present storage }
+    requires typed { IsTypedScript script }
+    requires hosting { IsHosting world.old }
+    ensures ends { (w : PlainWorld) (gas : ℕ) (counts : Counts) → IsPayer world.old w from.now → EndsAs (found_contract w (founding world.old.store.bases.present from.now hash balance script storage) gas (counts_of counts)) world.new gas counts counts result }
+    ensures hosting { IfOk result (λ _. IsHosting world.new) }
+    ensures bases { IfOk result (λ _. Extends world.old.store.bases.present world.new.store.bases.present) }
+    ensures contracts { IfOk result (λ _. KeepsContracts world.old world.new) }
+    ensures keeps { KeepsWorld world.old world.new }
+{
+    match world.install(alloc, hash, *from, balance, script, storage) {
+        Ok(()) => Ok(made(alloc, from, hash, balance)),
+        Err(MoveError::BalanceTooLow) => Err(ApplyError::Failed(Failure::BalanceTooLow)),
+        Err(MoveError::NoContract) => unreachable!(),
+        Err(MoveError::Memory) => Err(ApplyError::Memory),
+    }
+}
+
+// What an origination did.
+fn made(alloc: Global, from: &Place, hash: [u8; 20], balance: u64) -> Applied
+    ensures effect { result.effect ≡ effect.Origination from.now (place.Contract hash) balance }
+    ensures emitted { result.emitted ≡ [] }
+{
+    let address = Place::Contract(hash);
+    Applied {
+        effect: Effect::Origination(*from, address, balance),
+        by: hash,
+        emitted: Rows::new(alloc),
+    }
+}

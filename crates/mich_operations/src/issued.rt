@@ -1,0 +1,81 @@
+// Operations that a contract issued.
+ghost use Rattle.std.specs.Prelude.{◌≡◌, true, is_some, IfOk};
+ghost use Rattle.rules_world.specs.Application.{apply};
+ghost use Rattle.rules_world.specs.Groups.{setting_of};
+ghost use Rattle.rules_world.specs.World.{World as PlainWorld};
+ghost use Rattle.mich_bigmap.specs.Extended.{Extends};
+ghost use Rattle.mich_gas.specs.View.{listed};
+ghost use Rattle.mich_machine.specs.Calls.{counts_of, IsHanded, IsHosting};
+ghost use Rattle.mich_world.specs.Holders.{contract_at};
+ghost use Rattle.mich_world.specs.Marks.{KeepsWorld};
+ghost use Rattle.mich_operations.specs.Going.{Begins, EndsAs, KeepsContracts, WithMemory, issued_by};
+
+use crate::applied::{Applied, ApplyError};
+use crate::charging::charge;
+use crate::founding::found;
+use crate::telling::tell;
+use mich_forms::{KeyHash, Place};
+use mich_gas::{Costs, Kind, Meter};
+use mich_instr::Issued;
+use mich_machine::{Bodies, Counts};
+use mich_ops::Failure;
+use mich_term::abandon;
+use mich_world::World;
+use std::alloc::Global;
+
+/// Applies an operation that the contract of these 20 bytes issued. Failed exactly where the rules say that it fails; the world can
+/// then be taken back to an earlier mark. After Memory the world is given up (Octez "Operations", internal operations).
+pub fn apply_issued(
+    alloc: Global,
+    world: &mut World,
+    costs: &Costs,
+    source: &KeyHash,
+    meter: &mut Meter,
+    counts: &mut Counts,
+    bodies: &mut Bodies,
+    by: [u8; 20],
+    operation: Issued,
+) -> Result<Applied, ApplyError>
+    requires next { (w : PlainWorld) × Begins world.old w (setting_of (listed costs.now) counts.old.group source.now) (issued_by world.old.store.bases.present by operation) (counts_of counts.old) }
+    requires hosting { IsHosting world.old }
+    requires there { is_some (contract_at world.old.funds.present by) ≡ true }
+    requires handed { IsHanded world.old.store.bases.present operation }
+    ensures ends { (w : PlainWorld) → Begins world.old w (setting_of (listed costs.entry.now) counts.old.group source.entry.now) (issued_by world.old.store.bases.present by operation) (counts_of counts.old) → EndsAs (apply (setting_of (listed costs.entry.now) counts.old.group source.entry.now) w (issued_by world.old.store.bases.present by operation) meter.old (counts_of counts.old)) world.new meter.new counts.old counts.new result }
+    ensures hosting { IfOk result (λ _. IsHosting world.new) }
+    ensures bases { IfOk result (λ _. Extends world.old.store.bases.present world.new.store.bases.present) }
+    ensures contracts { IfOk result (λ _. KeepsContracts world.old world.new) }
+    ensures keeps { WithMemory result (KeepsWorld world.old world.new) }
+{
+    match operation {
+        Issued::Transfer { .. } => Err(ApplyError::Memory),
+        Issued::Origination {
+            delegate,
+            amount,
+            script,
+            storage,
+            hash,
+            ..
+        } => {
+            charge(costs, meter, Kind::Origination)?;
+            if delegate.is_some() {
+                abandon(storage);
+                return Err(ApplyError::Failed(Failure::UnregisteredDelegate));
+            }
+            found(
+                alloc,
+                world,
+                &Place::Contract(by),
+                hash,
+                amount,
+                script,
+                storage,
+            )
+        }
+        Issued::Event { tag, ty, value, .. } => {
+            charge(costs, meter, Kind::Event)?;
+            let told = tell(alloc, world, by, tag, &ty, &value);
+            abandon(value);
+            told
+        }
+    }
+}

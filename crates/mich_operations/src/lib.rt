@@ -1,0 +1,16 @@
+//! One operation of a group: a transfer, an origination, a gift of tickets or an event is applied to the world.
+#![tactic(auto)]
+
+mod accounts;
+mod action;
+mod applied;
+mod calls;
+mod charging;
+mod founding;
+mod issued;
+mod printing;
+mod telling;
+
+pub use action::apply_action;
+pub use applied::{Applied, ApplyError};
+pub use issued::apply_issued;

@@ -1,0 +1,37 @@
+// Values as the nodes that are told.
+ghost use Rattle.std.specs.Prelude.{◌≡◌, ◌<◌, ◌^◌, IfOk, MatchBool, Some, None};
+ghost use Rattle.rules_base.specs.Tree.{size};
+ghost use Rattle.rules_types.specs.declared.Simple.TheVariants as simple;
+ghost use Rattle.rules_values.specs.Canonical.{canonical};
+ghost use Rattle.rules_values.specs.Literals.{simple_value};
+ghost use Rattle.rules_values.specs.Val.{unit};
+ghost use Rattle.mich_base.specs.View.{tree};
+ghost use Rattle.mich_bigmap.specs.Standing.{val_in};
+
+use mich_base::{Memory, Node, Ty};
+use mich_bigmap::{Store, flat};
+use mich_data::{ValueError, read_value, value_node};
+use mich_term::{Value, abandon};
+use std::alloc::Global;
+
+// The canonical literal of a value, with all entries of its big maps.
+pub(crate) fn printed(alloc: Global, store: &Store, value: &Value) -> Result<Node, Memory>
+    ensures { IfOk result (λ n. tree n ≡ canonical (val_in store.now.bases.present value.now)) }
+{
+    let whole = flat(alloc, store, value)?;
+    let node = value_node(alloc, &whole)?;
+    abandon(whole);
+    Ok(node)
+}
+
+// Whether a node is the literal `Unit`.
+pub(crate) fn is_unit(alloc: Global, node: &Node) -> Result<bool, Memory>
+    requires { size (tree node.now) < 2 ^ 32 }
+    ensures { IfOk result (λ b. MatchBool b (simple_value simple.Unit (tree node.now) ≡ Some unit) (simple_value simple.Unit (tree node.now) ≡ None)) }
+{
+    match read_value(alloc, &Ty::Unit, node) {
+        Ok(_) => Ok(true),
+        Err(ValueError::NotOfType(_)) => Ok(false),
+        Err(ValueError::Memory) => Err(Memory),
+    }
+}

@@ -1,0 +1,196 @@
+-- What a statement leads to, and what is told of it.
+use Rattle.std.proofs.Common.{◌≡◌, ◌+◌, ◌<◌, ◌^◌, ℕ, List, [], ◌∷◌, ◌++◌, length, map, Option, Some, None, Result, Ok, Err, refl, sym, ap, ◌∙◌, subst, arith}
+use Rattle.std.proofs.lemmas.List.{length-append}
+use Rattle.rules_course.specs.Course.{Course as PlainCourse, Step, goes_on, stops, stuck_step, BadOrder, BadCosts, RepeatedAccount, SupplyLimit, first_step, step_behind}
+use Rattle.rules_course.specs.Ranges.{IsStatement}
+use Rattle.rules_lines.specs.Nodes.{line, group_node}
+use Rattle.rules_replay.specs.Lines.{group_lines}
+use Rattle.rules_replay.specs.Replay.{step, continued, fault_of}
+use Rattle.rules_statements.specs.Statements.{Statement}
+use Rattle.rules_world.specs.Receipts.{Receipt}
+use Rattle.laws_course.specs.Laws.{IsGoodCourse, StaysGood, granted_by}
+use Rattle.laws_course.proofs.Good.{courses_begin_good, courses_stay_good}
+use Rattle.mich_course.specs.Following.{Follows, Goes, Begins, told}
+use Rattle.mich_course.specs.declared.course.Course.{Course}
+use Rattle.mich_course.specs.declared.error.CourseError.{CourseError}
+use Rattle.mich_course.specs.declared.error.CourseError.TheVariants as error
+use Rattle.mich_ops.specs.Told.{ToldReceipt, told_receipt}
+use Rattle.mich_ops.specs.View.{receipt}
+use Rattle.mich_ops.specs.declared.receipt.GroupReceipt.{GroupReceipt}
+use Rattle.mich_replay.specs.Steps.{FollowsIf, HasRoom, IsTaken, Leads, Stands, groups_of}
+use Rattle.mich_replay.specs.View.{file_fault_seen}
+use Rattle.mich_replay.specs.declared.outcome.FileFault.{FileFault}
+
+-- ---- refusals
+
+pub out_of_order : (s : Step) (c : Option Course) → Leads s c (Err error.BadOrder) → s ≡ stops BadOrder
+out_of_order (goes_on p rs) (Some c) h = absurd h
+out_of_order (stops BadOrder) (Some c) h = refl
+out_of_order (stops BadCosts) (Some c) h = absurd h
+out_of_order (stops RepeatedAccount) (Some c) h = absurd h
+out_of_order (stops SupplyLimit) (Some c) h = absurd h
+out_of_order stuck_step (Some c) h = absurd h
+out_of_order (goes_on p rs) None h = absurd h
+out_of_order (stops BadOrder) None h = refl
+out_of_order (stops BadCosts) None h = absurd h
+out_of_order (stops RepeatedAccount) None h = absurd h
+out_of_order (stops SupplyLimit) None h = absurd h
+out_of_order stuck_step None h = absurd h
+
+pub ill_priced : (s : Step) (c : Option Course) → Leads s c (Err error.BadCosts) → s ≡ stops BadCosts
+ill_priced (goes_on p rs) (Some c) h = absurd h
+ill_priced (stops BadOrder) (Some c) h = absurd h
+ill_priced (stops BadCosts) (Some c) h = refl
+ill_priced (stops RepeatedAccount) (Some c) h = absurd h
+ill_priced (stops SupplyLimit) (Some c) h = absurd h
+ill_priced stuck_step (Some c) h = absurd h
+ill_priced (goes_on p rs) None h = absurd h
+ill_priced (stops BadOrder) None h = absurd h
+ill_priced (stops BadCosts) None h = absurd h
+ill_priced (stops RepeatedAccount) None h = absurd h
+ill_priced (stops SupplyLimit) None h = absurd h
+ill_priced stuck_step None h = absurd h
+
+pub repeated : (s : Step) (c : Option Course) → Leads s c (Err error.RepeatedAccount) → s ≡ stops RepeatedAccount
+repeated (goes_on p rs) (Some c) h = absurd h
+repeated (stops BadOrder) (Some c) h = absurd h
+repeated (stops BadCosts) (Some c) h = absurd h
+repeated (stops RepeatedAccount) (Some c) h = refl
+repeated (stops SupplyLimit) (Some c) h = absurd h
+repeated stuck_step (Some c) h = absurd h
+repeated (goes_on p rs) None h = absurd h
+repeated (stops BadOrder) None h = absurd h
+repeated (stops BadCosts) None h = absurd h
+repeated (stops RepeatedAccount) None h = absurd h
+repeated (stops SupplyLimit) None h = absurd h
+repeated stuck_step None h = absurd h
+
+pub too_much : (s : Step) (c : Option Course) → Leads s c (Err error.SupplyLimit) → s ≡ stops SupplyLimit
+too_much (goes_on p rs) (Some c) h = absurd h
+too_much (stops BadOrder) (Some c) h = absurd h
+too_much (stops BadCosts) (Some c) h = absurd h
+too_much (stops RepeatedAccount) (Some c) h = absurd h
+too_much (stops SupplyLimit) (Some c) h = refl
+too_much stuck_step (Some c) h = absurd h
+too_much (goes_on p rs) None h = absurd h
+too_much (stops BadOrder) None h = absurd h
+too_much (stops BadCosts) None h = absurd h
+too_much (stops RepeatedAccount) None h = absurd h
+too_much (stops SupplyLimit) None h = absurd h
+too_much stuck_step None h = absurd h
+
+-- ---- the first statement
+
+pub begun : (s : Step) (c : Course) → Begins s (Ok c) → Goes s c (Ok None)
+begun (goes_on p rs) c h = (h.0, sym (ap (map told_receipt) h.1))
+begun (stops BadOrder) c h = absurd h
+begun (stops BadCosts) c h = absurd h
+begun (stops RepeatedAccount) c h = absurd h
+begun (stops SupplyLimit) c h = absurd h
+begun stuck_step c h = absurd h
+
+-- ---- how many groups there were
+
+good : {c : Course} {p : PlainCourse} → Follows c p → IsGoodCourse p
+good f = record { whole = f.whole; charged = f.charged; new = f.new }
+
+counted_in : (groups granted more : ℕ) (s : Step) (q : PlainCourse) (rs : List Receipt) → StaysGood groups granted more s → s ≡ goes_on q rs →
+    q.groups ≡ groups + length rs
+counted_in groups granted more s q rs h e =
+    let kept : StaysGood groups granted more (goes_on q rs) = subst (StaysGood groups granted more) e h in
+    kept.1
+
+counted : (c : Option Course) (p : Option PlainCourse) (s : Statement) (q : PlainCourse) (rs : List Receipt) → FollowsIf c p → HasRoom c → IsStatement s →
+    step p s ≡ goes_on q rs → q.groups ≡ groups_of c + length rs
+counted None None s q rs f room i e = counted_in 0 0 (granted_by s) (first_step s) q rs (courses_begin_good s i) e
+counted (Some c) (Some p) s q rs f room i e =
+    counted_in p.groups p.world.granted (granted_by s) (step_behind p s) q rs
+    (courses_stay_good p s (good f) (subst (λ (n : ℕ). n + 1 < 2 ^ 64) f.groups room) i) e
+    ∙ ap (λ (n : ℕ). n + length rs) (sym f.groups)
+counted None (Some p) s q rs f room i e = absurd f
+counted (Some c) None s q rs f room i e = absurd f
+
+-- ---- a statement that goes on
+
+-- what the rules lead to, where the code goes on
+pub record Led (s : Step) (c : Option Course) (r : Option GroupReceipt) : Type 0 where
+  pub course : PlainCourse
+  pub receipts : List Receipt
+  pub is : s ≡ goes_on course receipts
+  pub follows : FollowsIf c (Some course)
+  pub told : told r ≡ map told_receipt receipts
+
+pub led : (s : Step) (c : Option Course) (r : Option GroupReceipt) → Leads s c (Ok r) → Led s c r
+led (goes_on p rs) (Some c) r h = record { course = p; receipts = rs; is = refl; follows = h.0; told = h.1 }
+led (stops BadOrder) (Some c) r h = absurd h
+led (stops BadCosts) (Some c) r h = absurd h
+led (stops RepeatedAccount) (Some c) r h = absurd h
+led (stops SupplyLimit) (Some c) r h = absurd h
+led stuck_step (Some c) r h = absurd h
+led s None r h = absurd h
+
+groups_followed : (c : Option Course) (q : PlainCourse) → FollowsIf c (Some q) → groups_of c ≡ q.groups
+groups_followed (Some c) q f = f.groups
+groups_followed None q f = absurd f
+
+lines-more : (n : ℕ) (rs more : List Receipt) → group_lines n (rs ++ more) ≡ group_lines n rs ++ group_lines (length rs + n) more
+lines-more n [] more = ap (λ (k : ℕ). group_lines k more) (omega arith)
+lines-more n (r ∷ rs) more =
+    let next : length rs + (n + 1) ≡ length (r ∷ rs) + n = omega arith in
+    ap (λ (ls : List (List ℕ)). line (group_node n r) ∷ ls)
+    (lines-more (n + 1) rs more ∙ ap (λ (k : ℕ). group_lines (n + 1) rs ++ group_lines k more) next)
+
+pub lines-length : (n : ℕ) (rs : List Receipt) → length (group_lines n rs) ≡ length rs
+lines-length n [] = refl
+lines-length n (r ∷ rs) = omega (arith, lines-length (n + 1) rs)
+
+none_told : (rs : List Receipt) → [] ≡ map told_receipt rs → rs ≡ []
+none_told [] e = refl
+none_told (r ∷ rs) e = absurd cc
+
+one_told : (t : ToldReceipt) (rs : List Receipt) → t ∷ [] ≡ map told_receipt rs → (r : Receipt) × (rs ≡ r ∷ []) × (told_receipt r ≡ t)
+one_told t [] e = absurd cc
+one_told t (r ∷ []) e = let same : t ≡ told_receipt r = cc in (r, refl, sym same)
+one_told t (r ∷ s ∷ rs) e = absurd cc
+
+module _ (receipts : List Receipt) (p : Option PlainCourse) (old : Option Course) (lines : List (List ℕ)) (s : Statement)
+    (stands : Stands receipts p old lines) (room : HasRoom old) (ranges : IsStatement s) where
+  -- no group
+  pub took_none : (new : Option Course) (place : ℕ) → Leads (step p s) new (Ok None) → IsTaken (continued receipts place (step p s)) place new lines (Ok None)
+  took_none new place h =
+      let l = led (step p s) new None h in
+      let none = none_told l.receipts l.told in
+      let is : step p s ≡ goes_on l.course [] = l.is ∙ ap (goes_on l.course) none in
+      let count = counted old p s l.course [] stands.follows room ranges is in
+      rw is (record {
+        follows = l.follows;
+        count = groups_followed new l.course l.follows ∙ count ∙ ap (λ (n : ℕ). n + 0) stands.count ∙ sym (length-append receipts []);
+        told = stands.told ∙ sym (lines-more 1 receipts [] ∙ nothing (group_lines 1 receipts));
+      })
+    where
+      nothing : (ls : List (List ℕ)) → ls ++ [] ≡ ls
+      nothing [] = refl
+      nothing (l ∷ ls) = ap (λ (more : List (List ℕ)). l ∷ more) (nothing ls)
+
+  -- a group, of which a line is told
+  pub took_group : (new : Option Course) (place : ℕ) (r : GroupReceipt) (after : List (List ℕ)) → Leads (step p s) new (Ok (Some r)) →
+      ((found : Receipt) → told_receipt found ≡ receipt r → after ≡ lines ++ line (group_node (groups_of new) found) ∷ []) →
+      IsTaken (continued receipts place (step p s)) place new after (Ok None)
+  took_group new place r after h tells =
+      let l = led (step p s) new (Some r) h in
+      let one = one_told (receipt r) l.receipts l.told in
+      let is : step p s ≡ goes_on l.course (one.0 ∷ []) = l.is ∙ ap (goes_on l.course) one.1 in
+      let count = counted old p s l.course (one.0 ∷ []) stands.follows room ranges is in
+      let number : groups_of new ≡ length receipts + 1 = groups_followed new l.course l.follows ∙ count ∙ ap (λ (n : ℕ). n + 1) stands.count in
+      rw is (record {
+        follows = l.follows;
+        count = number ∙ sym (length-append receipts (one.0 ∷ []));
+        told = tells one.0 one.2 ∙ ap (λ (n : ℕ). lines ++ line (group_node n one.0) ∷ []) number
+            ∙ ap (λ (ls : List (List ℕ)). ls ++ line (group_node (length receipts + 1) one.0) ∷ []) stands.told
+            ∙ sym (lines-more 1 receipts (one.0 ∷ []));
+      })
+
+  -- a refusal
+  pub took_refusal : (why : Rattle.rules_course.specs.Course.Refusal) (fault : FileFault) (new : Option Course) (place : ℕ) → step p s ≡ stops why →
+      fault_of why ≡ file_fault_seen fault → IsTaken (continued receipts place (step p s)) place new lines (Ok (Some fault))
+  took_refusal why fault new place is same = rw is (same, refl, stands.told)

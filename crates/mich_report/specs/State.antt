@@ -1,0 +1,43 @@
+-- Worlds that are printed, and what is written of them.
+use Rattle.std.specs.List.Sorted.{IsStrictlySortedBy}
+use Rattle.std.specs.Map.{keys_of}
+use Rattle.std.specs.Prelude.{◌≡◌, ◌≤ℤ◌, ◌-ℤ◌, ℕ, ℤ, pos, List, [], ◌∷◌, ◌++◌, codes}
+use Rattle.rules_base.specs.Tree.{Tree, int}
+use Rattle.rules_lines.specs.Nodes.{over, ticket_fields}
+use Rattle.rules_values.specs.Tickets.{Identity}
+use Rattle.rules_world.specs.Good.{IsGood}
+use Rattle.rules_world.specs.World.{World as PlainWorld}
+use Rattle.mich_tickets.specs.Books.{Books}
+use Rattle.mich_tickets.specs.Lines.{Lines, by_identity}
+use Rattle.mich_tickets.specs.Sums.{totals_of, minted_of, burnt_of}
+use Rattle.mich_tickets.specs.declared.totals.Totals.{Totals}
+use Rattle.mich_world.specs.Standing.{StandsFor}
+use Rattle.mich_world.specs.World.{World}
+use Rattle.mich_report.specs.Amounts.{Amounts, Purses, amount_in, held_in, held_of_line, minted_of_line, settled}
+
+-- a world stands for a good one in which nothing waits
+pub record IsAtRest (v : World) (w : PlainWorld) : Type 0 where
+  pub stands : StandsFor v w
+  pub good : IsGood w []
+
+-- what each account holds is what the lines, which are in order, tell of it
+abbrev pub Gathers : Lines → Purses → Type 0
+Gathers lines ps =
+    IsStrictlySortedBy by_identity (keys_of lines) × ((who : List ℕ) (j : Identity) → held_in ps who j ≡ settled (held_of_line who) j lines (pos 0))
+
+-- and the amounts are what they tell of mints
+abbrev pub Mints : Lines → Amounts → Type 0
+Mints lines es =
+    IsStrictlySortedBy by_identity (keys_of lines) × ((j : Identity) → amount_in j es ≡ settled minted_of_line j lines (pos 0))
+
+-- totals are not negative
+abbrev pub AreTotals : Books → Type 0
+AreTotals b = (j : Identity) → (pos 0 ≤ℤ minted_of b j) × (pos 0 ≤ℤ burnt_of b j)
+
+-- a ticket with its totals, and the rest of what was minted
+abbrev pub totals_node : Totals → Identity → Tree
+totals_node t j =
+    over (codes "Tickets") (ticket_fields j.issuer j.kind j.content ++ int t.minted ∷ int t.burnt ∷ int (t.minted -ℤ t.burnt) ∷ [])
+
+abbrev pub ticket_of : Books → Identity × ℤ → Tree
+ticket_of b e = totals_node (totals_of b e.0) e.0

@@ -1,0 +1,105 @@
+// What is minted, and what accounts hold, gathered from the lines of a ledger.
+ghost use Rattle.std.specs.BTreeMap.{is_at};
+ghost use Rattle.std.specs.Cmp.Lexicographic.{slice_cmp};
+ghost use Rattle.std.specs.Map.{lookup};
+ghost use Rattle.std.specs.Ordering.{nat_cmp};
+ghost use Rattle.std.specs.Prelude.{◌≡◌, ℕ, List, IfOk, if◌then◌else◌, is_some};
+ghost use Rattle.rules_forms.specs.Spelling.{implicit_place};
+ghost use Rattle.rules_values.specs.Tickets.{Identity};
+ghost use Rattle.mich_tickets.specs.Owned.{amount_at};
+ghost use Rattle.mich_undo.specs.Undone.{changed_at};
+ghost use Rattle.mich_report.specs.Amounts.{held_in, with_amount, written};
+ghost use Rattle.mich_report.specs.State.{Gathers, Mints};
+
+use crate::amounts::Amounts;
+use mich_base::Memory;
+use mich_forms::{KeyHash, Place};
+use mich_term::TicketId;
+use mich_tickets::{Holdings, Lines};
+use std::alloc::Global;
+use std::collections::BTreeMap;
+
+/// What each account holds, by the bytes of its key hash.
+pub(crate) type Purses = BTreeMap<KeyHash, Amounts>;
+
+// Writes an amount of a ticket that an account holds, where something is known of the account.
+fn write_held(
+    alloc: Global,
+    purses: &mut Purses,
+    who: &KeyHash,
+    id: &TicketId,
+    amount: i128,
+) -> Result<bool, Memory>
+    ensures new { IfOk result (λ _. purses.new.entries ≡ changed_at (is_at (slice_cmp nat_cmp who.now)) purses.old.entries (with_amount id.now amount)) }
+    ensures there { IfOk result (λ found. found ≡ is_some (lookup (is_at (slice_cmp nat_cmp who.now)) purses.old.entries)) }
+{
+    match purses.get_mut(who) {
+        Some(purse) => {
+            purse.put(alloc, id, amount)?;
+            Ok(true)
+        }
+        None => Ok(false),
+    }
+}
+
+// The same, whatever is known.
+fn add_held(
+    alloc: Global,
+    purses: &mut Purses,
+    who: KeyHash,
+    id: &TicketId,
+    amount: i128,
+) -> Result<(), Memory>
+    ensures { IfOk result (λ _. (o : List ℕ) (j : Identity) → held_in purses.new.entries o j ≡ (if is_at (slice_cmp nat_cmp o) who then written j id.now amount (held_in purses.old.entries o j) else held_in purses.old.entries o j)) }
+{
+    if write_held(alloc, purses, &who, id, amount)? {
+        return Ok(());
+    }
+    let mut purse = Amounts::new(alloc);
+    purse.put(alloc, id, amount)?;
+    purses.insert(who, purse)?;
+    Ok(())
+}
+
+// What accounts hold of a ticket.
+fn add_owners(
+    alloc: Global,
+    purses: &mut Purses,
+    id: &TicketId,
+    held: &Holdings,
+) -> Result<(), Memory>
+    ensures { IfOk result (λ _. (o : List ℕ) (j : Identity) → held_in purses.new.entries o j ≡ written j id.now (amount_at (implicit_place o) held.now) (held_in purses.old.entries o j)) }
+{
+    let owners = held.owners();
+    let _count = owners.len();
+    'owners: for (owner, amount) in owners {
+        if let Place::Implicit(who) = owner {
+            add_held(alloc, purses, *who, id, *amount)?;
+        }
+    }
+    Ok(())
+}
+
+/// What each account holds. Memory where there is no room for it.
+pub(crate) fn held_by_accounts(alloc: Global, lines: &Lines) -> Result<Purses, Memory>
+    ensures { IfOk result (λ ps. Gathers lines.now.entries ps.entries) }
+{
+    let _count = lines.len();
+    let mut purses = Purses::new(alloc);
+    'lines: for (id, line) in lines {
+        add_owners(alloc, &mut purses, id, &line.held)?;
+    }
+    Ok(purses)
+}
+
+/// What was ever minted of each ticket, where something was. Memory where there is no room for it.
+pub(crate) fn all_minted(alloc: Global, lines: &Lines) -> Result<Amounts, Memory>
+    ensures { IfOk result (λ es. Mints lines.now.entries es) }
+{
+    let _count = lines.len();
+    let mut minted = Amounts::new(alloc);
+    'lines: for (id, line) in lines {
+        minted.put(alloc, id, line.totals.minted)?;
+    }
+    Ok(minted)
+}
