@@ -36,7 +36,7 @@ fn status_node(alloc: Global, found: &Status) -> Result<Node, Memory>
         }
         Status::Backtracked => bare(alloc, b"Backtracked"),
         Status::Failed(count, why) => {
-            let count = number_node(u64::from(*count));
+            let count = number_node(*count);
             over_two(alloc, b"Failed", count, failure_node(alloc, why)?)
         }
         Status::Skipped => bare(alloc, b"Skipped"),
