@@ -1,0 +1,8 @@
+//! Arguments that a source writes, and other literals in a world, whose contracts they may name.
+#![tactic(auto)]
+
+mod arguments;
+mod literals;
+
+pub use arguments::{ArgumentError, read_argument};
+pub use literals::read_literal;
