@@ -101,3 +101,13 @@ module _ (v : World) (hash : List ℕ) (k : Contract) (typed : HasTypedScripts v
   pub entry_formed : (name : List ℕ) (e : Entry) → find_entry name (entries_in k) ≡ Some e → IsWellFormed e.kind
   entry_formed name e f =
       find_type name (entries_in k) e (subst EntriesAreTypes outlined_entries (entries_are_types (script_node k.script) its_outline.types its_outline.is)) f
+
+-- ---- its storage
+
+stores : (n m : Tree) (p g : Kind) (es : List Entry) (is : made.Codes) (vs : made.ViewCodes) → IsScript n (made.script m p es g is vs) → (s : PlainScript) × (script n ≡ found s) × (s.storage ≡ g)
+stores n _ p g es is _ (is_script {ts = ts} {vs = ws} typed code views) =
+    (record { parameter = p; entries = es; storage = g; code = seq ts; views = ws }, typed, refl)
+
+-- what the rules read of a typed script has the type of its storage
+pub storage_read : (s : Script) → IsTypedScript s → (p : PlainScript) × (script (script_node s) ≡ found p) × (p.storage ≡ kind (out-Script s).storage)
+storage_read s h = stores (script_node s) _ _ _ _ _ _ (subst (IsScript (script_node s)) (script_is s) h)

@@ -1,4 +1,3 @@
 pub mod Entries
 pub mod Claims
 pub mod Targets
-pub mod Wholes

@@ -54,7 +54,7 @@ use Rattle.mich_operations.proofs.Paying.{ends_along, charged_paid}
 
 -- ---- contracts that a contract makes
 
-some_none : (bs : Bases) (o : Option PlainContract) (q : Option Contract) → o ≡ option_map (plain bs) q → o ≡ None → is_some q ≡ false
+pub some_none : (bs : Bases) (o : Option PlainContract) (q : Option Contract) → o ≡ option_map (plain bs) q → o ≡ None → is_some q ≡ false
 some_none bs o None e n = refl
 some_none bs o (Some c) e n = absurd cc
 

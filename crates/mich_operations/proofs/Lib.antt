@@ -4,3 +4,4 @@ pub mod Whole
 pub mod Foundings
 pub mod Issuing
 pub mod Calling
+pub mod Orders

@@ -1,9 +1,10 @@
 -- Contracts that are made (Octez "Operations", originations).
 use Rattle.std.specs.Prelude.{◌≡◌, ℕ, true, List, Result, Ok, Err}
 use Rattle.rules_base.specs.Tree.{Tree}
-use Rattle.rules_instructions.specs.Arguments.{fault}
+use Rattle.rules_instructions.specs.Arguments.{Found, found, fault}
 use Rattle.rules_typing.specs.Fits.{is_place}
 use Rattle.rules_typing.specs.Nodes.{script}
+use Rattle.rules_values.specs.Val.{Val}
 use Rattle.rules_world.specs.Forms.{IsWorld}
 use Rattle.rules_world.specs.Originations.{Founding}
 use Rattle.rules_world.specs.World.{World as PlainWorld}
@@ -14,7 +15,8 @@ use Rattle.mich_forms.specs.declared.places.Place.{Place}
 use Rattle.mich_instr.specs.Scripts.{IsTypedScript}
 use Rattle.mich_instr.specs.View.{script_node}
 use Rattle.mich_instr.specs.declared.instr.Script.{Script}
-use Rattle.mich_ops.specs.declared.failure.Failure.TheVariants.{IllTyped}
+use Rattle.mich_ops.specs.declared.failure.Failure.TheVariants.{IllTyped, BadStorage}
+use Rattle.mich_term.specs.ValueView.{val}
 use Rattle.mich_term.specs.declared.value.Value.{Value}
 use Rattle.mich_world.specs.Standing.{StandsFor}
 use Rattle.mich_world.specs.World.{World}
@@ -43,3 +45,10 @@ IsScriptOf t (Ok s) = (script_node s ≡ t) × IsTypedScript s
 IsScriptOf t (Err (Failed (IllTyped l))) = script t ≡ fault l
 IsScriptOf t (Err (Failed why)) = ⊥
 IsScriptOf t (Err Memory) = Unit {0}
+
+-- a literal has this value, or its first fault is here
+abbrev pub IsStorageOf : Found Val → Result Value ApplyError → Type 0
+IsStorageOf f (Ok v) = f ≡ found (val v)
+IsStorageOf f (Err (Failed (BadStorage l))) = f ≡ fault l
+IsStorageOf f (Err (Failed why)) = ⊥
+IsStorageOf f (Err Memory) = Unit {0}

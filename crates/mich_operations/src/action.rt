@@ -14,6 +14,7 @@ ghost use Rattle.mich_operations.specs.Going.{Begins, EndsAs, KeepsContracts, Wi
 use crate::applied::{Applied, ApplyError};
 use crate::calls::call;
 use crate::charging::charge;
+use crate::originating::originate;
 use mich_forms::KeyHash;
 use mich_gas::{Costs, Kind, Meter};
 use mich_machine::{Bodies, Counts};
@@ -53,7 +54,14 @@ pub fn apply_action(
                 alloc, world, costs, source, meter, counts, bodies, *amount, to, entry, argument,
             )
         }
-        Action::Originate { .. } => Err(ApplyError::Memory),
+        Action::Originate {
+            balance,
+            script,
+            storage,
+        } => {
+            charge(costs, meter, Kind::Origination)?;
+            originate(alloc, world, source, counts, *balance, script, storage)
+        }
         Action::Give { .. } => Err(ApplyError::Memory),
     }
 }

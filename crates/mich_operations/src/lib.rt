@@ -8,6 +8,7 @@ mod calls;
 mod charging;
 mod founding;
 mod issued;
+mod originating;
 mod printing;
 mod telling;
 

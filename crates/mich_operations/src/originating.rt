@@ -1,18 +1,25 @@
 // Contracts that a source makes.
-ghost use Rattle.std.specs.Prelude.{◌≡◌, ◌+◌, ◌<◌, ◌^◌, ℕ, IfOk};
+ghost use Rattle.std.specs.Prelude.{◌≡◌, ◌<◌, ◌^◌, ℕ, IfOk};
+ghost use Rattle.laws_types.specs.Laws.{IsWellFormed};
 ghost use Rattle.rules_base.specs.Tree.{size};
+ghost use Rattle.rules_gas.specs.Prices.{Listed};
+ghost use Rattle.rules_typing.specs.Nodes.{script};
+ghost use Rattle.rules_world.specs.Arguments.{literal_in};
 ghost use Rattle.rules_world.specs.Contents.{Originate};
 ghost use Rattle.rules_world.specs.Groups.{setting_of};
 ghost use Rattle.rules_world.specs.Originations.{with_script};
-ghost use Rattle.rules_typing.specs.Nodes.{script};
 ghost use Rattle.rules_world.specs.Outcomes.{ordered};
 ghost use Rattle.rules_world.specs.World.{World as PlainWorld};
+ghost use Rattle.mich_arguments.specs.Arguments.{HasTypedScripts};
+ghost use Rattle.mich_base.specs.TypeView.{kind};
 ghost use Rattle.mich_base.specs.View.{tree};
 ghost use Rattle.mich_bigmap.specs.Extended.{Extends};
-ghost use Rattle.mich_gas.specs.View.{listed};
+ghost use Rattle.mich_data.specs.Whole.{IsWhole};
 ghost use Rattle.mich_machine.specs.Calls.{counts_of, IsHosting};
+ghost use Rattle.mich_term.specs.Layers.{AreFormed};
 ghost use Rattle.mich_world.specs.Marks.{KeepsWorld};
-ghost use Rattle.mich_operations.specs.Foundings.{IsScriptOf};
+ghost use Rattle.mich_world.specs.Standing.{StandsFor};
+ghost use Rattle.mich_operations.specs.Foundings.{IsScriptOf, IsStorageOf};
 ghost use Rattle.mich_operations.specs.Going.{Begins, EndsAs, KeepsContracts, WithMemory};
 
 use crate::applied::{Applied, ApplyError};
@@ -21,7 +28,6 @@ use mich_arguments::read_literal;
 use mich_base::{Node, Shared, Ty};
 use mich_check::{CheckError, check_script};
 use mich_forms::{KeyHash, Place};
-use mich_gas::Costs;
 use mich_instr::Script;
 use mich_machine::{Counts, new_contract};
 use mich_ops::Failure;
@@ -39,4 +45,53 @@ fn typed_script(alloc: Global, node: &Node) -> Result<Script, ApplyError>
         Err(CheckError::IllTyped(location)) => Err(ApplyError::Failed(Failure::IllTyped(location))),
         Err(CheckError::Memory) => Err(ApplyError::Memory),
     }
+}
+
+// The storage of a type that a node spells in a world.
+fn read_storage(
+    alloc: Global,
+    world: &World,
+    ty: &Ty,
+    node: &Node,
+) -> Result<Value, ApplyError>
+    requires small { size (tree node.now) < 2 ^ 32 }
+    requires typed { HasTypedScripts world.now }
+    ensures storage { (w : PlainWorld) → StandsFor world.now w → IsStorageOf (literal_in w (kind ty.now) (tree node.now)) result }
+    ensures whole { IfOk result (λ v. IsWhole (kind ty.now) v) }
+    ensures formed { IfOk result (λ v. IsWellFormed (kind ty.now) → AreFormed v) }
+{
+    match read_literal(alloc, world, ty, node) {
+        Ok(value) => Ok(value),
+        Err(CheckError::IllTyped(location)) => {
+            Err(ApplyError::Failed(Failure::BadStorage(location)))
+        }
+        Err(CheckError::Memory) => Err(ApplyError::Memory),
+    }
+}
+
+// Makes a contract of the script and the storage that nodes spell, whose balance the source pays.
+pub(crate) fn originate(
+    alloc: Global,
+    world: &mut World,
+    source: &KeyHash,
+    counts: &mut Counts,
+    balance: u64,
+    script: &Node,
+    storage: &Node,
+) -> Result<Applied, ApplyError>
+    requires next { (prices : Listed) × (w : PlainWorld) × Begins world.old w (setting_of prices counts.old.group source.now) (ordered (Originate balance (tree script.now) (tree storage.now))) (counts_of counts.old) }
+    requires hosting { IsHosting world.old }
+    ensures ends { (prices : Listed) (w : PlainWorld) (gas : ℕ) → Begins world.old w (setting_of prices counts.old.group source.now) (ordered (Originate balance (tree script.now) (tree storage.now))) (counts_of counts.old)
+        → EndsAs (with_script (script (tree script.now)) (setting_of prices counts.old.group source.now) w balance (tree script.now) (tree storage.now) gas (counts_of counts.old)) world.new gas counts.old counts.new result }
+    ensures hosting { IfOk result (λ _. IsHosting world.new) }
+    ensures bases { IfOk result (λ _. Extends world.old.store.bases.present world.new.store.bases.present) }
+    ensures contracts { IfOk result (λ _. KeepsContracts world.old world.new) }
+    ensures keeps { WithMemory result (KeepsWorld world.old world.new) }
+{
+    let typed = typed_script(alloc, script)?;
+    let value = read_storage(alloc, world, &typed.storage, storage)?;
+    let hash = new_contract(counts.group, counts.originated);
+    counts.originated += 1;
+    let from = Place::Implicit(*source);
+    found(alloc, world, &from, hash, balance, Shared::new(alloc, typed)?, value)
 }

@@ -122,7 +122,11 @@ nothing_yet = record { good = (refl, refl); few = omega arith }
 file_stays : (file : List ℕ) (ss : List Placed) (to : ℕ) → AreStatements file 0 ss to → Stays (granted_in ss) (length ss) (run_all (going [] None) ss)
 file_stays file ss to stand =
     let s = small file 0 ss to (omega arith) (omega arith) stand in
-    all_stay ss 0 0 (going [] None) s.nodes (omega (arith, s.count, s.within)) nothing_yet
+    let none : 0 + granted_in ss ≡ granted_in ss = omega arith in
+    let first : 0 + length ss ≡ length ss = omega arith in
+    subst (λ (n : ℕ). Stays n (length ss) (run_all (going [] None) ss)) none
+    (subst (λ (n : ℕ). Stays (0 + granted_in ss) n (run_all (going [] None) ss)) first
+    (all_stay ss 0 0 (going [] None) s.nodes (omega (arith, s.count, s.within)) nothing_yet))
 
 pub no_group_is_stuck : NoGroupIsStuck
 no_group_is_stuck file ss to stand stuck = (subst (Stays (granted_in ss) (length ss)) stuck (file_stays file ss to stand)).good

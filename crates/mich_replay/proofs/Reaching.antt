@@ -88,7 +88,7 @@ module _ (file : List ℕ) (place : ℕ) (c : Option Course) (lines : List (List
             stand = more_stand t start end node;
             closes = subst (λ (x : Run). Closes file end x (record { receipts = receipts; ending = RefusedAt (file_fault_seen fault) start }))
                 (sym (behind t start (stopped receipts f at) e))
-                (ap (λ (g : FileFault). record { receipts = receipts; ending = RefusedAt g at }) (sym h.0) ∙ ap (λ (n : ℕ). record { receipts = receipts; ending = RefusedAt (file_fault_seen fault) n }) (sym h.1));
+                (ap (λ (n : ℕ). record { receipts = receipts; ending = RefusedAt (file_fault_seen fault) n }) (sym h.1) ∙ ap (λ (g : FileFault). record { receipts = receipts; ending = RefusedAt g at }) (sym h.0));
           })
 
 -- nothing is reached yet

@@ -1,5 +1,5 @@
 -- What a statement leads to, and what is told of it.
-use Rattle.std.proofs.Common.{◌≡◌, ◌+◌, ◌<◌, ◌^◌, ℕ, List, [], ◌∷◌, ◌++◌, length, map, Option, Some, None, Result, Ok, Err, refl, sym, ap, ◌∙◌, subst, arith}
+use Rattle.std.proofs.Common.{◌≡◌, ◌+◌, ◌<◌, ◌≤◌, ◌^◌, ℕ, List, [], ◌∷◌, ◌++◌, length, map, Option, Some, None, Result, Ok, Err, refl, sym, ap, ◌∙◌, subst, arith}
 use Rattle.std.proofs.lemmas.List.{length-append}
 use Rattle.rules_course.specs.Course.{Course as PlainCourse, Step, goes_on, stops, stuck_step, BadOrder, BadCosts, RepeatedAccount, SupplyLimit, first_step, step_behind}
 use Rattle.rules_course.specs.Ranges.{IsStatement}
@@ -153,6 +153,14 @@ one_told t [] e = absurd cc
 one_told t (r ∷ []) e = let same : t ≡ told_receipt r = cc in (r, refl, sym same)
 one_told t (r ∷ s ∷ rs) e = absurd cc
 
+-- there may be one more group where there may be one more line
+pub room_for_one : (receipts : List Receipt) (p : Option PlainCourse) (old : Option Course) (lines : List (List ℕ)) → Stands receipts p old lines →
+    length lines < 18446744073709551615 → HasRoom old
+room_for_one receipts p old lines stands few =
+    let count = stands.count in
+    let all : length lines ≡ length receipts = ap length stands.told ∙ lines-length 1 receipts in
+    omega (arith, count, all, few)
+
 module _ (receipts : List Receipt) (p : Option PlainCourse) (old : Option Course) (lines : List (List ℕ)) (s : Statement)
     (stands : Stands receipts p old lines) (room : HasRoom old) (ranges : IsStatement s) where
   -- no group
@@ -189,6 +197,15 @@ module _ (receipts : List Receipt) (p : Option PlainCourse) (old : Option Course
             ∙ ap (λ (ls : List (List ℕ)). ls ++ line (group_node (length receipts + 1) one.0) ∷ []) stands.told
             ∙ sym (lines-more 1 receipts (one.0 ∷ []));
       })
+
+  -- it is one line more
+  pub took_one : (new : Option Course) (r : GroupReceipt) (after : List (List ℕ)) → Leads (step p s) new (Ok (Some r)) →
+      ((found : Receipt) → told_receipt found ≡ receipt r → after ≡ lines ++ line (group_node (groups_of new) found) ∷ []) → length after ≤ length lines + 1
+  took_one new r after h tells =
+      let l = led (step p s) new (Some r) h in
+      let one = one_told (receipt r) l.receipts l.told in
+      let more : length after ≡ length lines + 1
+      = ap length (tells one.0 one.2) ∙ length-append lines (line (group_node (groups_of new) one.0) ∷ []) in omega (arith, more)
 
   -- a refusal
   pub took_refusal : (why : Rattle.rules_course.specs.Course.Refusal) (fault : FileFault) (new : Option Course) (place : ℕ) → step p s ≡ stops why →

@@ -1,5 +1,3 @@
-pub use Rattle.rules_replay.specs.Statements
-pub use Rattle.rules_replay.specs.World
 pub use Rattle.rules_replay.specs.Replay
 pub use Rattle.rules_replay.specs.Lines
 pub use Rattle.rules_replay.specs.Answers

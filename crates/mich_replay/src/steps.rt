@@ -58,11 +58,11 @@ fn tell(
     alloc: Global,
     course: &Option<Course>,
     lines: &mut Texts,
-    receipt: &GroupReceipt,
+    told: &GroupReceipt,
 ) -> Result<(), Memory>
-    ensures { (found : Receipt) → told_receipt found ≡ receipt receipt.entry.now → OnOk result (lines.new ≡ lines.old ++ line (group_node (groups_of course.entry.now) found) ∷ []) }
+    ensures { (found : Receipt) → told_receipt found ≡ receipt told.entry.now → OnOk result (lines.new ≡ lines.old ++ line (group_node (groups_of course.entry.now) found) ∷ []) }
 {
-    let line = receipt_text(alloc, last_number(course), receipt)?;
+    let line = receipt_text(alloc, last_number(course), told)?;
     lines.push(line)
 }
 

@@ -1,0 +1,158 @@
+-- Contracts that a source makes.
+use Rattle.std.proofs.Common.{◌≡◌, ◌≤◌, ◌<◌, ◌+◌, ◌^◌, ℕ, List, [], length, false, true, is_some, None, Some, refl, sym, ap, ◌∙◌, subst, arith, Ok, Err, Result}
+use Rattle.std.proofs.lemmas.List.Elements.{All-head}
+use Rattle.rules_base.specs.Tree.{Tree, size}
+use Rattle.rules_evaluation.specs.Operations.{new_contract}
+use Rattle.rules_instructions.specs.Arguments.{Found, found, fault}
+use Rattle.rules_steps.specs.Failure.{ill_typed, bad_storage}
+use Rattle.rules_typing.specs.Fits.{is_place}
+use Rattle.rules_typing.specs.Nodes.{script}
+use Rattle.rules_typing.specs.Scripts.{Script as PlainScript}
+use Rattle.rules_forms.specs.Spelling.{implicit_place}
+use Rattle.rules_types.specs.Kind.{Kind}
+use Rattle.rules_values.specs.Tickets.{tickets}
+use Rattle.rules_values.specs.Val.{Val}
+use Rattle.rules_world.specs.Arguments.{literal_in}
+use Rattle.rules_world.specs.Balances.{most_mutez}
+use Rattle.rules_world.specs.Contents.{Originate}
+use Rattle.rules_world.specs.Forms.{IsSmall}
+use Rattle.rules_world.specs.Good.{IsGoodWaiting}
+use Rattle.rules_world.specs.Originations.{Founding, found_contract, founding_of, one_more, with_script, with_storage}
+use Rattle.rules_world.specs.Outcomes.{Setting, Outcome, Counts as PlainCounts, ordered}
+use Rattle.rules_world.specs.World.{World as PlainWorld}
+use Rattle.laws_accounts.proofs.ReadLiterals.{literal_empty, literal_fits}
+use Rattle.laws_operations.proofs.NewContracts.{new_length}
+use Rattle.laws_runs.proofs.Codes.{script_code}
+use Rattle.laws_types.specs.Laws.{IsWellFormed}
+use Rattle.mich_base.specs.TypeView.{kind}
+use Rattle.mich_bigmap.specs.Bases.{Bases}
+use Rattle.mich_bigmap.specs.Standing.{val_in}
+use Rattle.mich_bigmap.specs.Ticketless.{HoldNoTickets}
+use Rattle.mich_conditions.proofs.Fitting.{installs_fit}
+use Rattle.mich_conditions.proofs.Waiting.{plain_values_may_run}
+use Rattle.mich_data.specs.Whole.{IsWhole}
+use Rattle.mich_forms.specs.declared.places.Place.TheVariants as place
+use Rattle.mich_instr.specs.Scripts.{IsTypedScript}
+use Rattle.mich_instr.specs.View.{script_node}
+use Rattle.mich_instr.specs.declared.instr.Script.{Script, out-Script}
+use Rattle.mich_arguments.proofs.Entries.{storage_read}
+use Rattle.mich_interpreter.specs.declared.state.Counts.{Counts}
+use Rattle.mich_machine.specs.Calls.{counts_of, IsHosting}
+use Rattle.mich_ops.specs.Told.{told}
+use Rattle.mich_ops.specs.View.{failure}
+use Rattle.mich_ops.specs.declared.failure.Failure.{Failure as Why}
+use Rattle.mich_ops.specs.declared.failure.Failure.TheVariants as failures
+use Rattle.mich_standing.proofs.Agreement.{contracts_agree}
+use Rattle.mich_standing.proofs.Owners.{account_is_place}
+use Rattle.mich_term.specs.Layers.{AreFormed}
+use Rattle.mich_term.specs.ValueView.{val}
+use Rattle.mich_term.specs.declared.value.Value.{Value}
+use Rattle.mich_tickets.specs.Carrying.{MayEnter}
+use Rattle.mich_world.specs.Holders.{contract_at}
+use Rattle.mich_world.specs.Storages.{owner_of}
+use Rattle.mich_world.specs.World.{World}
+use Rattle.mich_operations.specs.Foundings.{IsPayer, founding}
+use Rattle.mich_operations.specs.Going.{Begins, EndsAs}
+use Rattle.mich_operations.specs.declared.applied.Applied.{Applied}
+use Rattle.mich_operations.specs.declared.applied.ApplyError.{ApplyError}
+use Rattle.mich_operations.specs.declared.applied.ApplyError.TheVariants.{Failed, Memory}
+use Rattle.mich_operations.proofs.Issuing.{some_none}
+use Rattle.mich_operations.proofs.Paying.{ends_along, ends_failed}
+use Rattle.mich_operations.proofs.Whole.{whole_stands}
+
+le_same : (n : ℕ) → n ≤ n
+le_same n = omega arith
+
+-- one more origination is no other group
+counted_one : (o : Outcome) (x : World) (gas : ℕ) (old mid new : Counts) (r : Result Applied ApplyError) → mid.group ≡ old.group →
+    EndsAs o x gas mid new r → EndsAs o x gas old new r
+counted_one o x gas old mid new (Ok a) e h = record {
+  world = h.world;
+  stands = h.stands;
+  same = h.same;
+  group = h.group ∙ e;
+  handed = h.handed;
+  there = h.there;
+}
+counted_one Rattle.rules_world.specs.Outcomes.stuck x gas old mid new (Err (Failed f)) e h = absurd h
+counted_one (Rattle.rules_world.specs.Outcomes.failed why) x gas old mid new (Err (Failed f)) e h = h
+counted_one (Rattle.rules_world.specs.Outcomes.applied a) x gas old mid new (Err (Failed f)) e h = absurd h
+counted_one o x gas old mid new (Err Memory) e h = tt
+
+module _ (v : World) (w : PlainWorld) (s : Setting) (balance : ℕ) (t u : Tree) (counts : PlainCounts)
+    (b : Begins v w s (ordered (Originate balance t u)) counts) where
+  its_fields : (balance ≤ most_mutez) × IsSmall t × IsSmall u
+  its_fields = All-head (IsGoodWaiting w) (ordered (Originate balance t u)) b.next.behind b.next.going.good.waits
+
+  pub small_script : size t < 2 ^ 32
+  small_script = its_fields.1
+
+  pub small_storage : size u < 2 ^ 32
+  small_storage = its_fields.2
+
+  -- the count of originations has room
+  pub few_originations : counts.originations + 1 < 2 ^ 32
+  few_originations =
+      let a = b.next.going.operations in let o = b.next.going.originations in let few = b.next.few in omega (arith, a, o, few)
+
+  pub absent_there : is_some (contract_at v.funds.present (new_contract s.group counts.originations)) ≡ false
+  absent_there =
+      let few = few_originations in
+      let room : counts.originations < 2 ^ 32 = omega (arith, few) in
+      let hash = new_contract s.group counts.originations in
+      some_none v.store.bases.present _ (contract_at v.funds.present hash) (contracts_agree v w hash b.stands)
+      (b.next.going.fresh.later counts.originations (le_same counts.originations) room)
+
+  pub source_pays : IsPayer v w (place.Implicit s.source)
+  source_pays = record {
+    stands = b.stands;
+    form = b.next.going.good.sound.form;
+    payer = account_is_place s.source b.next.setting.source;
+  }
+
+  -- its storage holds no ticket
+  pub storage_enters : (a : Kind) (x : Value) → literal_in w a u ≡ found (val x) → IsWhole a x → AreFormed x → HoldNoTickets v.store.bases.present →
+      MayEnter (owner_of (new_contract s.group counts.originations)) v.ledger.books.present (tickets (val x))
+  storage_enters a x e whole formed ticketless =
+      let here : val_in v.store.bases.present x ≡ val x = whole_stands v.store.bases.present a x whole formed in
+      installs_fit v w (new_contract s.group counts.originations) x a b.stands ticketless formed (new_length s.group counts.originations)
+      (subst (λ (y : Val). Rattle.rules_world.specs.Good.FitsIn w a y) (sym here) (literal_fits w a u (val x) e small_storage))
+      (subst (λ (y : Val). Rattle.rules_world.specs.Good.MayRun w y) (sym here)
+      (plain_values_may_run w _ (val x) b.next.going.good (literal_empty w a u (val x) e)))
+
+-- ---- how it ends
+
+module _ (w : PlainWorld) (s : Setting) (balance : ℕ) (t u : Tree) (x : World) (gas : ℕ) (old : Counts) where
+  pub ends_ill_typed : (new : Counts) (l : ℕ) → script t ≡ fault l → EndsAs (with_script (script t) s w balance t u gas (counts_of old)) x gas old new (Err (Failed (failures.IllTyped l)))
+  ends_ill_typed new l e = ends_failed _ x gas old new (failures.IllTyped l) (ill_typed l) (ap (λ (f : Found PlainScript). with_script f s w balance t u gas (counts_of old)) e) refl
+
+  module _ (p : PlainScript) (a : Kind) (read : script t ≡ found p) (stored : p.storage ≡ a) where
+    reads_storage : with_script (script t) s w balance t u gas (counts_of old) ≡ with_storage (literal_in w a u) s w balance t gas (counts_of old)
+    reads_storage =
+        ap (λ (f : Found PlainScript). with_script f s w balance t u gas (counts_of old)) read
+        ∙ ap (λ (g : Kind). with_storage (literal_in w g u) s w balance t gas (counts_of old)) stored
+
+    pub ends_bad_storage : (new : Counts) (l : ℕ) → literal_in w a u ≡ fault l → EndsAs (with_script (script t) s w balance t u gas (counts_of old)) x gas old new (Err (Failed (failures.BadStorage l)))
+    ends_bad_storage new l e =
+        ends_failed _ x gas old new (failures.BadStorage l) (bad_storage l)
+        (reads_storage ∙ ap (λ (f : Found Val). with_storage f s w balance t gas (counts_of old)) e) refl
+
+    pub ends_founded : (bs : Bases) (mid new : Counts) (k : Script) (value : Value) (hash : List ℕ) (r : Result Applied ApplyError) → literal_in w a u ≡ found (val value) →
+        val_in bs value ≡ val value → script_node k ≡ t → hash ≡ new_contract s.group old.originated → mid.group ≡ old.group → counts_of mid ≡ one_more (counts_of old) →
+        EndsAs (found_contract w (founding bs (place.Implicit s.source) hash balance k value) gas (counts_of mid)) x gas mid new r →
+        EndsAs (with_script (script t) s w balance t u gas (counts_of old)) x gas old new r
+    ends_founded bs mid new k value hash r e same node made group one h =
+        let founds : founding bs (place.Implicit s.source) hash balance k value ≡ founding_of s (counts_of old) balance t (val value)
+        = (λ i. record { sender = implicit_place s.source; hash = made i; balance = balance; script = node i; storage = same i }) in
+        ends_along (with_script (script t) s w balance t u gas (counts_of old)) (found_contract w (founding bs (place.Implicit s.source) hash balance k value) gas (counts_of mid)) x gas old new r
+        (reads_storage ∙ ap (λ (f : Found Val). with_storage f s w balance t gas (counts_of old)) e
+        ∙ ap (λ (f : Founding). found_contract w f gas (one_more (counts_of old))) (sym founds)
+        ∙ ap (λ (n : PlainCounts). found_contract w (founding bs (place.Implicit s.source) hash balance k value) gas n) (sym one))
+        (counted_one (found_contract w (founding bs (place.Implicit s.source) hash balance k value) gas (counts_of mid)) x gas old mid new r group h)
+
+-- ---- the type of a storage
+
+pub storage_formed : (k : Script) → IsTypedScript k → IsWellFormed (kind (out-Script k).storage)
+storage_formed k typed =
+    let p = storage_read k typed in
+    subst IsWellFormed p.2 (script_code (script_node k) p.0 p.1).formed
