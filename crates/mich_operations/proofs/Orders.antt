@@ -51,7 +51,7 @@ use Rattle.mich_tickets.specs.Carrying.{MayEnter}
 use Rattle.mich_world.specs.Holders.{contract_at}
 use Rattle.mich_world.specs.Storages.{owner_of}
 use Rattle.mich_world.specs.World.{World}
-use Rattle.mich_operations.specs.Foundings.{IsPayer, founding}
+use Rattle.mich_operations.specs.Foundings.{IsPayer, IsStorageOf, founding}
 use Rattle.mich_operations.specs.Going.{Begins, EndsAs}
 use Rattle.mich_operations.specs.declared.applied.Applied.{Applied}
 use Rattle.mich_operations.specs.declared.applied.ApplyError.{ApplyError}
@@ -156,3 +156,28 @@ pub storage_formed : (k : Script) → IsTypedScript k → IsWellFormed (kind (ou
 storage_formed k typed =
     let p = storage_read k typed in
     subst IsWellFormed p.2 (script_code (script_node k) p.0 p.1).formed
+
+-- ---- a storage that isn't one
+
+module _ (w : PlainWorld) (s : Setting) (balance : ℕ) (t u : Tree) (x : World) (gas : ℕ) (counts : Counts) (p : PlainScript) (a : Kind)
+    (read : script t ≡ found p) (stored : p.storage ≡ a) where
+  pub ends_unstored : (e : ApplyError) → IsStorageOf (literal_in w a u) (Err e) → EndsAs (with_script (script t) s w balance t u gas (counts_of counts)) x gas counts counts (Err e)
+  ends_unstored (Failed (failures.BadStorage l)) h = ends_bad_storage w s balance t u x gas counts p a read stored counts l h
+  ends_unstored (Failed (failures.FailedWith ty v)) h = absurd h
+  ends_unstored (Failed failures.OutOfGas) h = absurd h
+  ends_unstored (Failed failures.IntegerLimit) h = absurd h
+  ends_unstored (Failed failures.MutezOverflow) h = absurd h
+  ends_unstored (Failed failures.ShiftLimit) h = absurd h
+  ends_unstored (Failed failures.SizeLimit) h = absurd h
+  ends_unstored (Failed failures.DepthLimit) h = absurd h
+  ends_unstored (Failed failures.TooManyOperations) h = absurd h
+  ends_unstored (Failed failures.OperationReplay) h = absurd h
+  ends_unstored (Failed failures.NoContract) h = absurd h
+  ends_unstored (Failed failures.NoEntrypoint) h = absurd h
+  ends_unstored (Failed (failures.BadParameter l)) h = absurd h
+  ends_unstored (Failed failures.BalanceTooLow) h = absurd h
+  ends_unstored (Failed failures.EmptyTransaction) h = absurd h
+  ends_unstored (Failed (failures.IllTyped l)) h = absurd h
+  ends_unstored (Failed failures.UnregisteredDelegate) h = absurd h
+  ends_unstored (Failed failures.TicketShort) h = absurd h
+  ends_unstored Memory h = tt

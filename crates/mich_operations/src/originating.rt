@@ -3,7 +3,7 @@ ghost use Rattle.std.specs.Prelude.{◌≡◌, ◌<◌, ◌^◌, ℕ, IfOk};
 ghost use Rattle.laws_types.specs.Laws.{IsWellFormed};
 ghost use Rattle.rules_base.specs.Tree.{size};
 ghost use Rattle.rules_gas.specs.Prices.{Listed};
-ghost use Rattle.rules_typing.specs.Nodes.{script};
+ghost use Rattle.rules_typing.specs.Nodes.{script as read_script};
 ghost use Rattle.rules_world.specs.Arguments.{literal_in};
 ghost use Rattle.rules_world.specs.Contents.{Originate};
 ghost use Rattle.rules_world.specs.Groups.{setting_of};
@@ -82,7 +82,7 @@ pub(crate) fn originate(
     requires next { (prices : Listed) × (w : PlainWorld) × Begins world.old w (setting_of prices counts.old.group source.now) (ordered (Originate balance (tree script.now) (tree storage.now))) (counts_of counts.old) }
     requires hosting { IsHosting world.old }
     ensures ends { (prices : Listed) (w : PlainWorld) (gas : ℕ) → Begins world.old w (setting_of prices counts.old.group source.now) (ordered (Originate balance (tree script.now) (tree storage.now))) (counts_of counts.old)
-        → EndsAs (with_script (script (tree script.now)) (setting_of prices counts.old.group source.now) w balance (tree script.now) (tree storage.now) gas (counts_of counts.old)) world.new gas counts.old counts.new result }
+        → EndsAs (with_script (read_script (tree script.now)) (setting_of prices counts.old.group source.now) w balance (tree script.now) (tree storage.now) gas (counts_of counts.old)) world.new gas counts.old counts.new result }
     ensures hosting { IfOk result (λ _. IsHosting world.new) }
     ensures bases { IfOk result (λ _. Extends world.old.store.bases.present world.new.store.bases.present) }
     ensures contracts { IfOk result (λ _. KeepsContracts world.old world.new) }
