@@ -70,3 +70,11 @@ returns-else-begun c =
       spent = tt;
       keeps = keeps_to _ _ _ (keeps_on _ _ _ c.frames.invariant.state c.in_ok-unwind-in-Some.ensures.keeps) c.begin.ensures.state;
     }
+
+pub unwind-requires : goal.unwind-requires
+unwind-requires c =
+    let r = c.frames.invariant.some in
+    record {
+      no_block = no_block c.in-Some.frame c.in-Some.not-Rest;
+      waits = (r.0, frames r.0.sight c.pop.new.self, c.frames.m.depth, r.1, r.2, on_top r.0 c.args.costs.now r.1 r.2 c.frames.m c.pop.new.self c.in-Some.frame c.in-Some.ensures r.3);
+    }
