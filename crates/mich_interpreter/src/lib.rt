@@ -26,3 +26,6 @@ pub use beginning::run_code;
 pub use bodies::Bodies;
 pub use machine::Ended;
 pub use state::{Counts, State};
+
+#[cfg(test)]
+mod tests;

@@ -3,7 +3,7 @@ use Rattle.mich_frames.specs.Sizes.{frames_size}
 use Rattle.mich_interpreter.specs.View.{frames}
 use Rattle.mich_interpreter.specs.declared.frame.Frame.TheVariants as f
 use Rattle.mich_interpreter.proofs.Begun.{begun_in, begun_deep}
-use Rattle.mich_interpreter.proofs.Keeping.{keeps_on, keeps_to}
+use Rattle.mich_interpreter.proofs.Keeping.{keeps_on, keeps_to, past_of, past_on}
 use Rattle.mich_interpreter.proofs.Leaving.{on_top, at_end}
 use Rattle.mich_interpreter.proofs.Stepped.{popped_smaller}
 use Rattle.mich_interpreter.proofs.machine.leave.Goals as goal
@@ -31,7 +31,7 @@ frames-preserved c =
       keeps = λ x Z o h. rw c.in-On.is at act x (frames x.sight c.pop.new.self) c.frames.m.depth Z o (on_top x c.args.costs.now Z o c.frames.m c.pop.new.self c.in-Some.frame e (c.frames.invariant.keeps x Z o h));
       gas = (rw c.in-On.is at c.in_ok-unwind-in-Some.ensures.gas) ∙ c.frames.invariant.gas;
       size = omega (arith, less, size);
-      state = keeps_on _ _ _ c.frames.invariant.state c.in_ok-unwind-in-Some.ensures.keeps;
+      state = keeps_on _ _ _ c.frames.invariant.state (rw c.in-On.is at c.in_ok-unwind-in-Some.ensures.keeps);
     }
 
 pub returns-in-Failed : goal.returns-in-Failed
@@ -41,7 +41,7 @@ returns-in-Failed c =
     record {
       stays = λ x Z o h. rw c.in-Failed.is at act x (frames x.sight c.pop.new.self) c.frames.m.depth Z o (on_top x c.args.costs.now Z o c.frames.m c.pop.new.self c.in-Some.frame e (c.frames.invariant.keeps x Z o h));
       spent = tt;
-      keeps = keeps_on _ _ _ c.frames.invariant.state c.in_ok-unwind-in-Some.ensures.keeps;
+      keeps = past_on _ _ _ c.frames.invariant.state (rw c.in-Failed.is at c.in_ok-unwind-in-Some.ensures.keeps);
     }
 
 pub returns-then-begun : goal.returns-then-begun
@@ -56,7 +56,7 @@ returns-then-begun c =
       stays = λ x Z o h. begun_in x c.args.costs.now Z o _ _ _ _ _ c.unwind.new.m begun c.begin.ensures.state
           (rw c.in-Open.is at act x (frames x.sight c.pop.new.self) c.frames.m.depth Z o (on_top x c.args.costs.now Z o c.frames.m c.pop.new.self c.in-Some.frame e (c.frames.invariant.keeps x Z o h)));
       spent = omega (arith, same, less, gas);
-      keeps = keeps_to _ _ _ (keeps_on _ _ _ c.frames.invariant.state c.in_ok-unwind-in-Some.ensures.keeps) c.begin.ensures.state;
+      keeps = keeps_to _ _ _ (keeps_on _ _ _ c.frames.invariant.state (rw c.in-Open.is at c.in_ok-unwind-in-Some.ensures.keeps)) c.begin.ensures.state;
     }
 
 pub returns-else-begun : goal.returns-else-begun
@@ -68,7 +68,7 @@ returns-else-begun c =
       stays = λ x Z o h. begun_deep x c.args.costs.now Z o c.in-Open.below c.in-Open.body c.pop.new.self c.unwind.new.m _ begun
           (rw c.in-Open.is at act x (frames x.sight c.pop.new.self) c.frames.m.depth Z o (on_top x c.args.costs.now Z o c.frames.m c.pop.new.self c.in-Some.frame e (c.frames.invariant.keeps x Z o h)));
       spent = tt;
-      keeps = keeps_to _ _ _ (keeps_on _ _ _ c.frames.invariant.state c.in_ok-unwind-in-Some.ensures.keeps) c.begin.ensures.state;
+      keeps = past_of _ _ (keeps_to _ _ _ (keeps_on _ _ _ c.frames.invariant.state (rw c.in-Open.is at c.in_ok-unwind-in-Some.ensures.keeps)) c.begin.ensures.state);
     }
 
 pub unwind-requires : goal.unwind-requires
