@@ -1,10 +1,10 @@
-use Rattle.std.proofs.Common.{◌<◌, [], ap, ◌∙◌, arith}
+use Rattle.std.proofs.Common.{◌<◌, [], refl, ap, ◌∙◌, arith}
 use Rattle.mich_frames.specs.Sizes.{frames_size}
 use Rattle.mich_interpreter.specs.View.{frames}
 use Rattle.mich_interpreter.specs.declared.frame.Frame.TheVariants as f
 use Rattle.mich_interpreter.proofs.Begun.{begun_in, begun_deep}
-use Rattle.mich_interpreter.proofs.Keeping.{keeps_on, keeps_to, past_of, past_on}
-use Rattle.mich_interpreter.proofs.Leaving.{on_top, at_end}
+use Rattle.mich_interpreter.proofs.Keeping.{keeps_state, keeps_on, keeps_to, past_of, past_on}
+use Rattle.mich_interpreter.proofs.Leaving.{on_top, at_end, no_block}
 use Rattle.mich_interpreter.proofs.Stepped.{popped_smaller}
 use Rattle.mich_interpreter.proofs.machine.leave.Goals as goal
 use Rattle.mich_term.specs.ValueView.{big_step}
@@ -71,10 +71,5 @@ returns-else-begun c =
       keeps = past_of _ _ (keeps_to _ _ _ (keeps_on _ _ _ c.frames.invariant.state (rw c.in-Open.is at c.in_ok-unwind-in-Some.ensures.keeps)) c.begin.ensures.state);
     }
 
-pub unwind-requires : goal.unwind-requires
-unwind-requires c =
-    let r = c.frames.invariant.some in
-    record {
-      no_block = no_block c.in-Some.frame c.in-Some.not-Rest;
-      waits = (r.0, frames r.0.sight c.pop.new.self, c.frames.m.depth, r.1, r.2, on_top r.0 c.args.costs.now r.1 r.2 c.frames.m c.pop.new.self c.in-Some.frame c.in-Some.ensures r.3);
-    }
+pub frames-init : goal.frames-init
+frames-init c = record { some = c.requires; keeps = λ x Z o h. h; gas = refl; size = omega arith; state = keeps_state c.args.m.now.state }

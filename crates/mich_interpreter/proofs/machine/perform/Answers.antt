@@ -30,12 +30,12 @@ pub act_straight-requires : goal.act_straight-requires
 act_straight-requires c =
     let r = c.requires.comes in
     let s = c.in-Straight in
-    (app_tree s.app, (r.0, r.1, r.2, r.3, r.4, rw (ap code s.is ∙ code_straight s.simple s.app) at r.5))
+    (app_tree s.field-1, (r.0, r.1, r.2, r.3, r.4, rw (ap code s.is ∙ code_straight s.simple s.field-1) at r.5))
 
 pub returns-in_ok-act_straight-in-Straight-clause-acts : goal.returns-in_ok-act_straight-in-Straight-clause-acts
 returns-in_ok-act_straight-in-Straight-clause-acts c = λ x fs d Z o h.
     let s = c.in-Straight in
-    c.in_ok-act_straight-in-Straight.ensures.acts (app_tree s.app) x fs d Z o (rw (ap code s.is ∙ code_straight s.simple s.app) at h)
+    c.in_ok-act_straight-in-Straight.ensures.acts (app_tree s.field-1) x fs d Z o (rw (ap code s.is ∙ code_straight s.simple s.field-1) at h)
 
 pub act_push-requires : goal.act_push-requires
 act_push-requires c =

@@ -1,5 +1,5 @@
-use Rattle.std.proofs.Common.{◌∙◌}
-use Rattle.mich_interpreter.proofs.Keeping.{keeps_on, step_on}
+use Rattle.std.proofs.Common.{refl, ◌∙◌}
+use Rattle.mich_interpreter.proofs.Keeping.{keeps_state, keeps_on, step_on}
 use Rattle.mich_interpreter.proofs.Stepped.{settled_of}
 use Rattle.mich_interpreter.proofs.machine.settle.Goals as goal
 
@@ -19,3 +19,6 @@ returns-in_default c = record {
   less = settled_of c.in_ok-other.other c.args.m.now c.free.m c.advance.new.m c.in_default.not-Free c.free.invariant.gas c.in_ok-other.ensures.spent;
   keeps = step_on c.in_ok-other.other _ _ _ c.free.invariant.state c.in_ok-other.ensures.keeps;
 }
+
+pub free-init : goal.free-init
+free-init c = record { some = c.requires; keeps = λ x Z o h. h; gas = refl; state = keeps_state c.args.m.now.state }

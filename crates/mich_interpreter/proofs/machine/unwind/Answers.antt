@@ -1,7 +1,8 @@
-use Rattle.std.proofs.Common.{subst}
+use Rattle.std.proofs.Common.{refl, subst}
 use Rattle.mich_frames.proofs.Ends.{under_ends, call_ends}
 use Rattle.mich_interpreter.specs.Ends.{Waits, Stands}
 use Rattle.mich_interpreter.specs.declared.frame.Frame.{Frame}
+use Rattle.mich_interpreter.proofs.Keeping.{same_keeps}
 use Rattle.mich_interpreter.proofs.machine.unwind.Goals as goal
 
 pub returns-in_ok-put_all-in-Under-clause-acts : goal.returns-in_ok-put_all-in-Under-clause-acts
@@ -39,3 +40,9 @@ next_made-requires c = subst (λ (f : Frame). Waits f c.args.costs.now c.args.m.
 pub returns-in_ok-next_made-in-Making-clause-acts : goal.returns-in_ok-next_made-in-Making-clause-acts
 returns-in_ok-next_made-in-Making-clause-acts c = λ x fs d Z o h.
     c.in_ok-next_made-in-Making.ensures.acts x fs d Z o (subst (λ (f : Frame). Stands f x c.args.costs.now c.args.m.now fs d Z o) c.in-Making.is h)
+
+pub returns-in_ok-put_all-in-Under-clause-keeps : goal.returns-in_ok-put_all-in-Under-clause-keeps
+returns-in_ok-put_all-in-Under-clause-keeps c = same_keeps _ _ refl refl refl
+
+pub returns-in_ok-put_below-in-Call-clause-keeps : goal.returns-in_ok-put_below-in-Call-clause-keeps
+returns-in_ok-put_below-in-Call-clause-keeps c = same_keeps _ _ refl refl refl

@@ -1,4 +1,4 @@
-use Rattle.mich_interpreter.proofs.Keeping.{keeps_on, past_on}
+use Rattle.mich_interpreter.proofs.Keeping.{keeps_state, keeps_on, past_on}
 use Rattle.mich_interpreter.proofs.machine.work.Goals as goal
 
 pub paid-preserved : goal.paid-preserved
@@ -21,3 +21,6 @@ returns-in-Done-clause-keeps c = keeps_on _ _ _ c.paid.invariant.state (rw c.in-
 
 pub returns-in-Failed-clause-keeps : goal.returns-in-Failed-clause-keeps
 returns-in-Failed-clause-keeps c = past_on _ _ _ c.paid.invariant.state (rw c.in-Failed.is at c.in_ok-settle.ensures.keeps)
+
+pub paid-init : goal.paid-init
+paid-init c = record { some = c.requires; keeps = λ x Z o h. h; state = keeps_state c.args.m.state }
