@@ -185,22 +185,24 @@ fn leave(alloc: Global, m: &mut Machine, costs: &Costs) -> Result<Step, Memory>
     'frames: loop {
         match m.frames.pop() {
             None => return Ok(Step::Done),
-            Some(Frame::Rest(block, at)) => {
-                m.block = block;
-                m.at = at;
-                return Ok(Step::Free);
-            }
-            Some(frame) => match unwind(alloc, &mut m.state, costs, frame)? {
-                Act::On => {}
-                Act::Failed(why) => return Ok(Step::Failed(why)),
-                Act::Open(below, body) => {
-                    let begun = begin(m, below, body)?;
-                    return if begun {
-                        Ok(Step::Paid)
-                    } else {
-                        Ok(Step::Failed(Failed::DepthLimit))
-                    };
+            Some(top) => match top {
+                Frame::Rest(block, at) => {
+                    m.block = block;
+                    m.at = at;
+                    return Ok(Step::Free);
                 }
+                frame => match unwind(alloc, &mut m.state, costs, frame)? {
+                    Act::On => {}
+                    Act::Failed(why) => return Ok(Step::Failed(why)),
+                    Act::Open(below, body) => {
+                        let begun = begin(m, below, body)?;
+                        return if begun {
+                            Ok(Step::Paid)
+                        } else {
+                            Ok(Step::Failed(Failed::DepthLimit))
+                        };
+                    }
+                },
             },
         }
     }
