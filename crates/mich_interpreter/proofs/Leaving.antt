@@ -1,14 +1,16 @@
 -- Frames that are taken off.
-use Rattle.std.proofs.Common.{◌≡◌, List, [], ◌∷◌, ◌++◌, ap, ◌∙◌, subst}
+use Rattle.std.proofs.Common.{◌≡◌, ℕ, List, [], ◌∷◌, ◌++◌, refl, ap, ◌∙◌, subst}
 use Rattle.rules_types.specs.Kind.{Kind}
 use Rattle.rules_evaluation.specs.Outcome.{Outcome, stack}
 use Rattle.mich_gas.specs.declared.costs.Costs.{Costs}
+use Rattle.mich_instr.specs.declared.instr.Instr.{Instr}
 use Rattle.mich_frames.specs.Stands.{StandsAt}
 use Rattle.mich_frames.proofs.Ends.{all_done}
 use Rattle.mich_interpreter.specs.View.{Beyond, tops, frame, frames, around, tally}
 use Rattle.mich_interpreter.specs.Ends.{Stands}
-use Rattle.mich_interpreter.specs.Runs.{Behind}
+use Rattle.mich_interpreter.specs.Runs.{Behind, IsNoBlock}
 use Rattle.mich_interpreter.specs.declared.frame.Frame.{Frame}
+use Rattle.mich_interpreter.specs.declared.frame.Frame.TheVariants as f
 use Rattle.mich_interpreter.specs.declared.machine.Machine.{Machine}
 use Rattle.mich_interpreter.proofs.Listed.{map_reverse}
 
@@ -23,3 +25,12 @@ module _ (x : Beyond) (costs : Costs) (Z : List Kind) (o : Outcome) (m : Machine
   pub at_end : m.frames ≡ [] → Behind x costs m Z o → o ≡ stack Z (tops x.sight m.state.stack) (tally x m.state)
   at_end e h =
       all_done (subst (λ hs. StandsAt hs (around x costs m.state) (tops x.sight m.state.stack) (tally x m.state) m.depth Z o) (ap (frames x.sight) e) h)
+
+pub no_block : (frame : Frame) → ((block : List Instr) (at : ℕ) → frame ≡ f.Rest block at → ⊥) → IsNoBlock frame
+no_block (f.Rest block at) never = never block at refl
+no_block (f.Turns body) never = tt
+no_block (f.LeftTurns body) never = tt
+no_block (f.Each body items) never = tt
+no_block (f.Making body making) never = tt
+no_block (f.Under above) never = tt
+no_block (f.Call below) never = tt

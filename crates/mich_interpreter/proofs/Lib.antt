@@ -21,3 +21,5 @@ pub mod Told
 pub mod Issued
 pub mod Suited
 pub mod Straightened
+pub mod Changed
+pub mod Failing

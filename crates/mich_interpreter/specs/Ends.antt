@@ -5,6 +5,7 @@ use Rattle.rules_gas.specs.declared.Kind.{Kind as Priced}
 use Rattle.rules_gas.specs.Prices.{Listed, cost}
 use Rattle.rules_types.specs.Kind.{Kind}
 use Rattle.rules_values.specs.Val.{Val}
+use Rattle.rules_steps.specs.Changes.{Change}
 use Rattle.rules_steps.specs.Failure.{Failure}
 use Rattle.rules_steps.specs.Failure as f
 use Rattle.rules_evaluation.specs.Operations.{Tally}
@@ -24,6 +25,9 @@ use Rattle.mich_interpreter.specs.declared.act.Failed.{Failed}
 use Rattle.mich_interpreter.specs.declared.act.Failed.TheVariants as x
 use Rattle.mich_interpreter.specs.declared.frame.Frame.{Frame}
 use Rattle.mich_interpreter.specs.declared.state.State.{State}
+use Rattle.mich_term.specs.ValueView.{val}
+use Rattle.mich_tickets.specs.Effects.{Tells}
+use Rattle.mich_interpreter.specs.Issues.{KeepsScripts}
 use Rattle.mich_interpreter.specs.View.{Beyond, tops, frame, around, tally}
 
 -- what a kind costs at a weight was taken, or there isn't so much gas
@@ -33,7 +37,7 @@ IsPaid false prices kind weight old new = old < cost prices kind weight
 
 -- the failure that one of the code stands for
 abbrev pub failure : Sight → Failed → Failure
-failure big (x.With ty value) = f.failed_with (kind ty) (seen big value)
+failure big (x.With ty value) = f.failed_with (kind ty) (val value)
 failure big x.OutOfGas = f.out_of_gas
 failure big x.IntegerLimit = f.integer_limit
 failure big x.MutezOverflow = f.mutez_overflow
@@ -63,10 +67,25 @@ Turns (a.Failed why) old new = Unit {0}
 Turns a.On old new = new ≡ old
 Turns _ old new = new < old
 
--- what was written to the books can be taken back, and the group has its number still
-pub record KeepsState (old new : State) : Type 0 where
+-- what was written to the books can be taken back, the group has its number still, and the scripts of originations are typed where
+-- they were
+pub record KeepsPast (old new : State) : Type 0 where
   pub books : KeepsBooks old.ledger.books new.ledger.books
   pub group : new.counts.group ≡ old.counts.group
+  pub scripts : KeepsScripts old.issued new.issued
+
+-- and the ledger was told changes
+pub record KeepsState (old new : State) : Type 0 where
+  pub books : KeepsBooks old.ledger.books new.ledger.books
+  pub changes : List Change
+  pub tells : Tells changes old.ledger new.ledger
+  pub group : new.counts.group ≡ old.counts.group
+  pub scripts : KeepsScripts old.issued new.issued
+
+-- after a failure nothing is said of what the ledger was told
+abbrev pub KeepsAct : Act → State → State → Type 0
+KeepsAct (a.Failed why) old new = KeepsPast old new
+KeepsAct _ old new = KeepsState old new
 
 -- this instruction comes first, and these frames are below it
 abbrev pub Meets : Code → Beyond → Costs → State → List fr.Frame → ℕ → List Kind → Outcome → Type 0

@@ -1,13 +1,25 @@
 -- The operations that issued ones stand for, however big maps are seen.
+use Rattle.std.specs.Prelude.{List}
+use Rattle.std.specs.List.{AllByRecursion}
 use Rattle.rules_evaluation.specs.Operations.{transfer, origination, event}
 use Rattle.rules_evaluation.specs.Operations as rules
 use Rattle.mich_base.specs.TypeView.{kind}
 use Rattle.mich_forms.specs.Spelled.{address_bytes}
 use Rattle.mich_instr.specs.Issued.{numbered}
+use Rattle.mich_instr.specs.Scripts.{IsTypedScript}
 use Rattle.mich_instr.specs.View.{script_node}
 use Rattle.mich_instr.specs.declared.issued.Issued.{Issued}
 use Rattle.mich_instr.specs.declared.issued.Issued.TheVariants as i
 use Rattle.mich_stack.specs.Views.{Sight, seen}
+
+-- the script of an origination is typed
+abbrev pub IsScripted : Issued → Type 0
+IsScripted (i.Origination number delegate amount script storage hash) = IsTypedScript script
+IsScripted _ = Unit {0}
+
+-- those of new operations are typed where those of the old ones were
+abbrev pub KeepsScripts : List Issued → List Issued → Type 0
+KeepsScripts old new = AllByRecursion IsScripted old → AllByRecursion IsScripted new
 
 abbrev pub issued_by : Sight → Issued → rules.Issued
 issued_by big (i.Transfer number argument amount to) = numbered number (transfer (seen big argument) amount (address_bytes to))

@@ -20,7 +20,7 @@ use Rattle.mich_interpreter.specs.declared.machine.Step.TheVariants as s
 use Rattle.mich_interpreter.specs.declared.machine.Ended.{Ended}
 use Rattle.mich_interpreter.specs.declared.machine.Ended.TheVariants as e
 use Rattle.mich_interpreter.specs.View.{Beyond, tops, frames, around, tally}
-use Rattle.mich_interpreter.specs.Ends.{failure, ActsAt}
+use Rattle.mich_interpreter.specs.Ends.{failure, ActsAt, KeepsPast, KeepsState}
 use Rattle.mich_term.specs.ValueView.{big_step}
 
 -- what is left of the block that runs
@@ -112,15 +112,20 @@ SomeRun costs m = (x : Beyond) × (Z : List Kind) × (o : Outcome) × InBlock x 
 abbrev pub SomeEnd : Costs → Machine → Type 0
 SomeEnd costs m = (x : Beyond) × (Z : List Kind) × (o : Outcome) × Behind x costs m Z o
 
+-- what a step keeps
+abbrev pub KeepsStep : Step → State → State → Type 0
+KeepsStep (s.Failed why) old new = KeepsPast old new
+KeepsStep _ old new = KeepsState old new
+
 -- how the whole ends
 abbrev pub IsEnd : Ended → Beyond → List Kind → Outcome → Type 0
 IsEnd (e.Stack m) x Z o = o ≡ stack Z (tops x.sight m.stack) (tally x m)
 IsEnd (e.Failed m why) x Z o = o ≡ failed (failure x.sight why)
 
--- the state at the end
-abbrev pub state_of : Ended → State
-state_of (e.Stack m) = m
-state_of (e.Failed m why) = m
+-- what the whole keeps
+abbrev pub KeepsEnd : Ended → State → Type 0
+KeepsEnd (e.Stack m) old = KeepsState old m
+KeepsEnd (e.Failed m why) old = KeepsPast old m
 
 -- the frame isn't the rest of a block
 abbrev pub IsNoBlock : Frame → Type 0

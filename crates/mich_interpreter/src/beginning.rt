@@ -4,8 +4,7 @@ ghost use Rattle.rules_types.specs.Kind.{Kind};
 ghost use Rattle.rules_evaluation.specs.Outcome.{Outcome};
 ghost use Rattle.mich_interpreter.specs.View.{Beyond};
 ghost use Rattle.mich_interpreter.specs.Begins.{Opens};
-ghost use Rattle.mich_interpreter.specs.Ends.{KeepsState};
-ghost use Rattle.mich_interpreter.specs.Runs.{IsEnd, state_of};
+ghost use Rattle.mich_interpreter.specs.Runs.{IsEnd, KeepsEnd};
 
 use crate::machine::{Ended, Machine, work};
 use crate::state::State;
@@ -20,7 +19,7 @@ use std::alloc::Global;
 pub fn run_code(alloc: Global, code: Block, state: State, costs: &Costs) -> Result<Ended, Memory>
     requires { (x : Beyond) × (Z : List Kind) × (o : Outcome) × Opens x costs.now code state Z o }
     ensures ends { (x : Beyond) (Z : List Kind) (o : Outcome) → Opens x costs.now code state Z o → IfOk result (λ e. IsEnd e x Z o) }
-    ensures keeps { IfOk result (λ e. KeepsState state (state_of e)) }
+    ensures keeps { IfOk result (λ e. KeepsEnd e state) }
 {
     let m = Machine {
         state,

@@ -23,6 +23,7 @@ pub(crate) fn act_if(
     ensures less { IfOk result (λ a. Spends a m.old.meter m.new.meter) }
     ensures ledger { m.new.ledger ≡ m.old.ledger }
     ensures counts { m.new.counts ≡ m.old.counts }
+    ensures issued { m.new.issued ≡ m.old.issued }
 {
     if !pay(&mut m.meter, costs, Kind::If, 0) {
         return Ok(Act::Failed(Failed::OutOfGas));
@@ -47,6 +48,7 @@ pub(crate) fn act_if_none(
     ensures less { IfOk result (λ a. Spends a m.old.meter m.new.meter) }
     ensures ledger { m.new.ledger ≡ m.old.ledger }
     ensures counts { m.new.counts ≡ m.old.counts }
+    ensures issued { m.new.issued ≡ m.old.issued }
 {
     if !pay(&mut m.meter, costs, Kind::IfNone, 0) {
         return Ok(Act::Failed(Failed::OutOfGas));
@@ -73,6 +75,7 @@ pub(crate) fn act_if_left(
     ensures less { IfOk result (λ a. Spends a m.old.meter m.new.meter) }
     ensures ledger { m.new.ledger ≡ m.old.ledger }
     ensures counts { m.new.counts ≡ m.old.counts }
+    ensures issued { m.new.issued ≡ m.old.issued }
 {
     if !pay(&mut m.meter, costs, Kind::IfLeft, 0) {
         return Ok(Act::Failed(Failed::OutOfGas));
@@ -99,6 +102,7 @@ pub(crate) fn act_if_cons(
     ensures less { IfOk result (λ a. Spends a m.old.meter m.new.meter) }
     ensures ledger { m.new.ledger ≡ m.old.ledger }
     ensures counts { m.new.counts ≡ m.old.counts }
+    ensures issued { m.new.issued ≡ m.old.issued }
 {
     if !pay(&mut m.meter, costs, Kind::IfCons, 0) {
         return Ok(Act::Failed(Failed::OutOfGas));

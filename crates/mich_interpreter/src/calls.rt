@@ -23,6 +23,7 @@ pub(crate) fn act_failwith(
     ensures less { IfOk result (λ a. Spends a m.old.meter m.new.meter) }
     ensures ledger { m.new.ledger ≡ m.old.ledger }
     ensures counts { m.new.counts ≡ m.old.counts }
+    ensures issued { m.new.issued ≡ m.old.issued }
 {
     if !pay(&mut m.meter, costs, Kind::Failwith, 0) {
         return Ok(Act::Failed(Failed::OutOfGas));
@@ -39,6 +40,7 @@ pub(crate) fn act_never(m: &mut State, costs: &Costs) -> Result<Act, Memory>
     ensures less { IfOk result (λ a. Spends a m.old.meter m.new.meter) }
     ensures ledger { m.new.ledger ≡ m.old.ledger }
     ensures counts { m.new.counts ≡ m.old.counts }
+    ensures issued { m.new.issued ≡ m.old.issued }
 {
     unreachable!()
 }

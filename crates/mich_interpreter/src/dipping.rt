@@ -42,6 +42,7 @@ pub(crate) fn act_dip(
     ensures less { IfOk result (λ a. Spends a m.old.meter m.new.meter) }
     ensures ledger { m.new.ledger ≡ m.old.ledger }
     ensures counts { m.new.counts ≡ m.old.counts }
+    ensures issued { m.new.issued ≡ m.old.issued }
 {
     if !pay(&mut m.meter, costs, Kind::Dip, 0) {
         return Ok(Act::Failed(Failed::OutOfGas));

@@ -52,6 +52,7 @@ pub(crate) fn act_push(
     ensures less { IfOk result (λ a. Spends a m.old.meter m.new.meter) }
     ensures ledger { m.new.ledger ≡ m.old.ledger }
     ensures counts { m.new.counts ≡ m.old.counts }
+    ensures issued { m.new.issued ≡ m.old.issued }
 {
     let value = literal_value(alloc, ty, literal)?;
     if !pay_capped(&mut m.meter, costs, Kind::Push, weight(&value)) {
@@ -82,6 +83,7 @@ pub(crate) fn act_lambda(
     ensures less { IfOk result (λ a. Spends a m.old.meter m.new.meter) }
     ensures ledger { m.new.ledger ≡ m.old.ledger }
     ensures counts { m.new.counts ≡ m.old.counts }
+    ensures issued { m.new.issued ≡ m.old.issued }
 {
     let kind = lambda_kind(recursive);
     if !pay(&mut m.meter, costs, kind, 0) {
@@ -114,6 +116,7 @@ pub(crate) fn act_self(
     ensures less { IfOk result (λ a. Spends a m.old.meter m.new.meter) }
     ensures ledger { m.new.ledger ≡ m.old.ledger }
     ensures counts { m.new.counts ≡ m.old.counts }
+    ensures issued { m.new.issued ≡ m.old.issued }
 {
     if !pay(&mut m.meter, costs, Kind::SelfContract, 0) {
         return Ok(Act::Failed(Failed::OutOfGas));

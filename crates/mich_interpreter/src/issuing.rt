@@ -11,6 +11,7 @@ ghost use Rattle.mich_instr.specs.Code as made;
 ghost use Rattle.mich_overload.specs.View.{operation_row};
 ghost use Rattle.mich_stack.specs.Views.{Sight};
 ghost use Rattle.mich_interpreter.specs.View.{tops};
+ghost use Rattle.mich_interpreter.specs.Issues.{KeepsScripts};
 ghost use Rattle.mich_interpreter.specs.Parts.{HasAmount, HasAddress};
 ghost use Rattle.mich_interpreter.specs.Ends.{Comes, Carries, Spends};
 
@@ -70,6 +71,7 @@ fn act_transfer(m: &mut State, costs: &Costs) -> Result<Act, Memory>
     ensures less { IfOk result (λ a. Spends a m.old.meter m.new.meter) }
     ensures ledger { m.new.ledger ≡ m.old.ledger }
     ensures group { m.new.counts.group ≡ m.old.counts.group }
+    ensures scripts { IfOk result (λ _. KeepsScripts m.old.issued m.new.issued) }
 {
     if !pay(&mut m.meter, costs, Kind::TransferTokens, 0) {
         return Ok(Act::Failed(Failed::OutOfGas));
@@ -100,6 +102,7 @@ fn act_emit(alloc: Global, m: &mut State, costs: &Costs, tag: &Text, ty: &Ty) ->
     ensures less { IfOk result (λ a. Spends a m.old.meter m.new.meter) }
     ensures ledger { m.new.ledger ≡ m.old.ledger }
     ensures group { m.new.counts.group ≡ m.old.counts.group }
+    ensures scripts { IfOk result (λ _. KeepsScripts m.old.issued m.new.issued) }
 {
     if !pay(&mut m.meter, costs, Kind::Emit, 0) {
         return Ok(Act::Failed(Failed::OutOfGas));
@@ -132,6 +135,7 @@ pub(crate) fn act_operation(
     ensures less { IfOk result (λ a. Spends a m.old.meter m.new.meter) }
     ensures ledger { m.new.ledger ≡ m.old.ledger }
     ensures group { m.new.counts.group ≡ m.old.counts.group }
+    ensures scripts { IfOk result (λ _. KeepsScripts m.old.issued m.new.issued) }
 {
     match row {
         OperationRow::TransferTokens => Ok(act_transfer(m, costs)?),

@@ -28,6 +28,7 @@ pub(crate) fn next_each(
     ensures gas { IfOk result (λ a. Turns a m.old.meter m.new.meter) }
     ensures ledger { m.new.ledger ≡ m.old.ledger }
     ensures counts { m.new.counts ≡ m.old.counts }
+    ensures issued { m.new.issued ≡ m.old.issued }
 {
     if is_done(&items) {
         return Ok(Act::On);
@@ -53,6 +54,7 @@ pub(crate) fn act_iter(
     ensures less { IfOk result (λ a. Spends a m.old.meter m.new.meter) }
     ensures ledger { m.new.ledger ≡ m.old.ledger }
     ensures counts { m.new.counts ≡ m.old.counts }
+    ensures issued { m.new.issued ≡ m.old.issued }
 {
     if !pay(&mut m.meter, costs, Kind::Iter, 0) {
         return Ok(Act::Failed(Failed::OutOfGas));

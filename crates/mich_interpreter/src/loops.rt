@@ -20,6 +20,7 @@ pub(crate) fn next_turn(m: &mut State, costs: &Costs, body: Block) -> Result<Act
     ensures gas { IfOk result (λ a. Turns a m.old.meter m.new.meter) }
     ensures ledger { m.new.ledger ≡ m.old.ledger }
     ensures counts { m.new.counts ≡ m.old.counts }
+    ensures issued { m.new.issued ≡ m.old.issued }
 {
     if !pop_truth(&mut m.stack) {
         return Ok(Act::On);
@@ -37,6 +38,7 @@ pub(crate) fn act_loop(m: &mut State, costs: &Costs, body: &Block) -> Result<Act
     ensures less { IfOk result (λ a. Spends a m.old.meter m.new.meter) }
     ensures ledger { m.new.ledger ≡ m.old.ledger }
     ensures counts { m.new.counts ≡ m.old.counts }
+    ensures issued { m.new.issued ≡ m.old.issued }
 {
     if !pay(&mut m.meter, costs, Kind::Loop, 0) {
         return Ok(Act::Failed(Failed::OutOfGas));
@@ -53,6 +55,7 @@ pub(crate) fn next_left_turn(m: &mut State, costs: &Costs, body: Block) -> Resul
     ensures gas { IfOk result (λ a. Turns a m.old.meter m.new.meter) }
     ensures ledger { m.new.ledger ≡ m.old.ledger }
     ensures counts { m.new.counts ≡ m.old.counts }
+    ensures issued { m.new.issued ≡ m.old.issued }
 {
     if !is_left(&m.stack) {
         open_union(&mut m.stack)?;
@@ -72,6 +75,7 @@ pub(crate) fn act_loop_left(m: &mut State, costs: &Costs, body: &Block) -> Resul
     ensures less { IfOk result (λ a. Spends a m.old.meter m.new.meter) }
     ensures ledger { m.new.ledger ≡ m.old.ledger }
     ensures counts { m.new.counts ≡ m.old.counts }
+    ensures issued { m.new.issued ≡ m.old.issued }
 {
     if !pay(&mut m.meter, costs, Kind::LoopLeft, 0) {
         return Ok(Act::Failed(Failed::OutOfGas));

@@ -5,8 +5,9 @@ ghost use Rattle.rules_evaluation.specs.Outcome.{Outcome};
 ghost use Rattle.mich_gas.specs.declared.costs.Costs.{Costs as Prices};
 ghost use Rattle.mich_instr.specs.View.{code};
 ghost use Rattle.mich_interpreter.specs.View.{Beyond};
-ghost use Rattle.mich_interpreter.specs.Ends.{Comes, Carries, Waits, Resumes, Spends, Turns, KeepsState};
-ghost use Rattle.mich_interpreter.specs.Runs.{InBlock, Behind, HasActedIn, IsStep, IsBegun, IsSpent, IsPaidStep, IsSettled, HasLeft, with_below, with_rest, SomeRun, SomeEnd, IsEnd, state_of, IsNoBlock, IsNoSequence};
+ghost use Rattle.mich_interpreter.specs.Ends.{Comes, Carries, Waits, Resumes, Spends, Turns, KeepsAct};
+ghost use Rattle.mich_interpreter.specs.declared.state.State.{State as PlainState};
+ghost use Rattle.mich_interpreter.specs.Runs.{InBlock, Behind, HasActedIn, IsStep, IsBegun, IsSpent, IsPaidStep, IsSettled, HasLeft, with_below, with_rest, SomeRun, SomeEnd, IsEnd, KeepsStep, KeepsEnd, IsNoBlock, IsNoSequence};
 
 use crate::act::{Act, Failed};
 use crate::branches::{act_if, act_if_cons, act_if_left, act_if_none};
@@ -57,13 +58,13 @@ pub enum Ended {
 }
 
 // An instruction, which isn't a sequence.
-#[tactic(auto, using(crate::proofs::Keeping::same_keeps, crate::proofs::Keeping::keeps_state, crate::proofs::Keeping::keeps_on))]
+#[tactic(auto, using(crate::proofs::Keeping::acts_same, crate::proofs::Keeping::same_keeps))]
 fn perform(alloc: Global, m: &mut State, costs: &Costs, instr: &Instr) -> Result<Act, Memory>
     requires charged { IsNoSequence instr.now }
     requires comes { Comes (code instr.now) costs.now m.old }
     ensures acts { Carries (code instr.now) costs.now m.old m.new result }
     ensures less { IfOk result (λ a. Spends a m.old.meter m.new.meter) }
-    ensures keeps { IfOk result (λ _. KeepsState m.old m.new) }
+    ensures keeps { IfOk result (λ a. KeepsAct a m.old m.new) }
 {
     match instr {
         Instr::If(first, second) => Ok(act_if(m, costs, first, second)?),
@@ -91,13 +92,13 @@ fn perform(alloc: Global, m: &mut State, costs: &Costs, instr: &Instr) -> Result
 }
 
 // A frame that isn't the rest of a block, taken off.
-#[tactic(auto, using(crate::proofs::Keeping::same_keeps, crate::proofs::Keeping::keeps_state, crate::proofs::Keeping::keeps_on))]
+#[tactic(auto, using(crate::proofs::Keeping::acts_same, crate::proofs::Keeping::same_keeps))]
 fn unwind(alloc: Global, m: &mut State, costs: &Costs, frame: Frame) -> Result<Act, Memory>
     requires no_block { IsNoBlock frame }
     requires waits { Waits frame costs.now m.old }
     ensures acts { Resumes frame costs.now m.old m.new result }
     ensures gas { IfOk result (λ a. Turns a m.old.meter m.new.meter) }
-    ensures keeps { IfOk result (λ _. KeepsState m.old m.new) }
+    ensures keeps { IfOk result (λ a. KeepsAct a m.old m.new) }
 {
     match frame {
         Frame::Turns(body) => Ok(next_turn(m, costs, body)?),
@@ -157,6 +158,7 @@ fn follow(m: &mut Machine, act: Act) -> Result<Step, Memory>
     ensures stays { (x : Beyond) (costs : Prices) (Z : List Kind) (o : Outcome) → HasActedIn act x costs m.old Z o → IfOk result (λ s. IsStep s x costs m.new Z o) }
     ensures spent { (n : ℕ) → Spends act n m.old.state.meter → IfOk result (λ s. IsPaidStep s n m.new.state.meter) }
     ensures state { m.new.state ≡ m.old.state }
+    ensures keeps { (from : PlainState) → KeepsAct act from m.old.state → IfOk result (λ s. KeepsStep s from m.new.state) }
 {
     match act {
         Act::On => Ok(Step::Paid),
@@ -178,27 +180,29 @@ fn leave(alloc: Global, m: &mut Machine, costs: &Costs) -> Result<Step, Memory>
     requires { SomeEnd costs.now m.old }
     ensures stays { (x : Beyond) (Z : List Kind) (o : Outcome) → Behind x costs.now m.old Z o → IfOk result (λ s. IsStep s x costs.now m.new Z o) }
     ensures spent { IfOk result (λ s. HasLeft s m.old m.new) }
-    ensures keeps { IfOk result (λ _. KeepsState m.old.state m.new.state) }
+    ensures keeps { IfOk result (λ s. KeepsStep s m.old.state m.new.state) }
 {
     'frames: loop {
         match m.frames.pop() {
             None => return Ok(Step::Done),
-            Some(Frame::Rest(block, at)) => {
-                m.block = block;
-                m.at = at;
-                return Ok(Step::Free);
-            }
-            Some(frame) => match unwind(alloc, &mut m.state, costs, frame)? {
-                Act::On => {}
-                Act::Failed(why) => return Ok(Step::Failed(why)),
-                Act::Open(below, body) => {
-                    let begun = begin(m, below, body)?;
-                    return if begun {
-                        Ok(Step::Paid)
-                    } else {
-                        Ok(Step::Failed(Failed::DepthLimit))
-                    };
+            Some(top) => match top {
+                Frame::Rest(block, at) => {
+                    m.block = block;
+                    m.at = at;
+                    return Ok(Step::Free);
                 }
+                frame => match unwind(alloc, &mut m.state, costs, frame)? {
+                    Act::On => {}
+                    Act::Failed(why) => return Ok(Step::Failed(why)),
+                    Act::Open(below, body) => {
+                        let begun = begin(m, below, body)?;
+                        return if begun {
+                            Ok(Step::Paid)
+                        } else {
+                            Ok(Step::Failed(Failed::DepthLimit))
+                        };
+                    }
+                },
             },
         }
     }
@@ -212,7 +216,7 @@ fn advance_inside(alloc: Global, m: &mut Machine, costs: &Costs) -> Result<Step,
     requires stands { SomeRun costs.now m.old }
     ensures stays { (x : Beyond) (Z : List Kind) (o : Outcome) → InBlock x costs.now m.old Z o → IfOk result (λ s. IsStep s x costs.now m.new Z o) }
     ensures spent { IfOk result (λ s. IsSpent s m.old m.new) }
-    ensures keeps { IfOk result (λ _. KeepsState m.old.state m.new.state) }
+    ensures keeps { IfOk result (λ s. KeepsStep s m.old.state m.new.state) }
 {
     let instr = m.block.get().at(m.at);
     if let Instr::Seq(inner) = instr {
@@ -238,7 +242,7 @@ fn advance(alloc: Global, m: &mut Machine, costs: &Costs) -> Result<Step, Memory
     requires { SomeRun costs.now m.old }
     ensures stays { (x : Beyond) (Z : List Kind) (o : Outcome) → InBlock x costs.now m.old Z o → IfOk result (λ s. IsStep s x costs.now m.new Z o) }
     ensures spent { IfOk result (λ s. IsSpent s m.old m.new) }
-    ensures keeps { IfOk result (λ _. KeepsState m.old.state m.new.state) }
+    ensures keeps { IfOk result (λ s. KeepsStep s m.old.state m.new.state) }
 {
     if m.at < m.block.get().len() {
         let step = advance_inside(alloc, m, costs)?;
@@ -256,7 +260,7 @@ fn settle(alloc: Global, m: &mut Machine, costs: &Costs) -> Result<Step, Memory>
     requires { SomeRun costs.now m.old }
     ensures stays { (x : Beyond) (Z : List Kind) (o : Outcome) → InBlock x costs.now m.old Z o → IfOk result (λ s. IsStep s x costs.now m.new Z o) }
     ensures less { IfOk result (λ s. IsSettled s m.old m.new) }
-    ensures keeps { IfOk result (λ _. KeepsState m.old.state m.new.state) }
+    ensures keeps { IfOk result (λ s. KeepsStep s m.old.state m.new.state) }
 {
     'free: loop {
         match advance(alloc, m, costs)? {
@@ -271,7 +275,7 @@ fn settle(alloc: Global, m: &mut Machine, costs: &Costs) -> Result<Step, Memory>
 pub(crate) fn work(alloc: Global, m: Machine, costs: &Costs) -> Result<Ended, Memory>
     requires { SomeRun costs.now m }
     ensures ends { (x : Beyond) (Z : List Kind) (o : Outcome) → InBlock x costs.now m Z o → IfOk result (λ e. IsEnd e x Z o) }
-    ensures keeps { IfOk result (λ e. KeepsState m.state (state_of e)) }
+    ensures keeps { IfOk result (λ e. KeepsEnd e m.state) }
 {
     let mut m = m;
     'paid: loop {

@@ -61,6 +61,7 @@ fn open_value(
     ensures gas { IfOk result (λ a. Turns a m.old.meter m.new.meter) }
     ensures ledger { m.new.ledger ≡ m.old.ledger }
     ensures counts { m.new.counts ≡ m.old.counts }
+    ensures issued { m.new.issued ≡ m.old.issued }
 {
     if !pay(&mut m.meter, costs, Kind::Turn, 0) {
         return Ok(Act::Failed(Failed::OutOfGas));
@@ -77,6 +78,7 @@ fn next_value(m: &mut State, costs: &Costs, body: Block, work: OverList) -> Resu
     ensures gas { IfOk result (λ a. Turns a m.old.meter m.new.meter) }
     ensures ledger { m.new.ledger ≡ m.old.ledger }
     ensures counts { m.new.counts ≡ m.old.counts }
+    ensures issued { m.new.issued ≡ m.old.issued }
 {
     let mut work = work;
     match work.left.pop() {
@@ -102,6 +104,7 @@ fn open_entry(
     ensures gas { IfOk result (λ a. Turns a m.old.meter m.new.meter) }
     ensures ledger { m.new.ledger ≡ m.old.ledger }
     ensures counts { m.new.counts ≡ m.old.counts }
+    ensures issued { m.new.issued ≡ m.old.issued }
 {
     if !pay(&mut m.meter, costs, Kind::Turn, 0) {
         return Ok(Act::Failed(Failed::OutOfGas));
@@ -126,6 +129,7 @@ fn next_entry(
     ensures gas { IfOk result (λ a. Turns a m.old.meter m.new.meter) }
     ensures ledger { m.new.ledger ≡ m.old.ledger }
     ensures counts { m.new.counts ≡ m.old.counts }
+    ensures issued { m.new.issued ≡ m.old.issued }
 {
     let mut work = work;
     match work.left.pop() {
@@ -150,6 +154,7 @@ pub(crate) fn next_made(
     ensures gas { IfOk result (λ a. Turns a m.old.meter m.new.meter) }
     ensures ledger { m.new.ledger ≡ m.old.ledger }
     ensures counts { m.new.counts ≡ m.old.counts }
+    ensures issued { m.new.issued ≡ m.old.issued }
 {
     let result = pop(&mut m.stack);
     match making {
@@ -178,6 +183,7 @@ fn next_part(m: &mut State, costs: &Costs, body: &Block, part: Value) -> Result<
     ensures gas { IfOk result (λ a. Turns a m.old.meter m.new.meter) }
     ensures ledger { m.new.ledger ≡ m.old.ledger }
     ensures counts { m.new.counts ≡ m.old.counts }
+    ensures issued { m.new.issued ≡ m.old.issued }
 {
     if !pay(&mut m.meter, costs, Kind::Turn, 0) {
         return Ok(Act::Failed(Failed::OutOfGas));
@@ -202,6 +208,7 @@ fn begin_map(
     ensures gas { IfOk result (λ a. Turns a m.old.meter m.new.meter) }
     ensures ledger { m.new.ledger ≡ m.old.ledger }
     ensures counts { m.new.counts ≡ m.old.counts }
+    ensures issued { m.new.issued ≡ m.old.issued }
 {
     match over {
         Value::List(list) => {
@@ -236,6 +243,7 @@ pub(crate) fn act_map(
     ensures less { IfOk result (λ a. Spends a m.old.meter m.new.meter) }
     ensures ledger { m.new.ledger ≡ m.old.ledger }
     ensures counts { m.new.counts ≡ m.old.counts }
+    ensures issued { m.new.issued ≡ m.old.issued }
 {
     if !pay(&mut m.meter, costs, Kind::Map, 0) {
         return Ok(Act::Failed(Failed::OutOfGas));

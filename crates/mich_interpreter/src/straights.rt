@@ -5,7 +5,7 @@ ghost use Rattle.mich_instr.specs.Code as made;
 ghost use Rattle.mich_overload.specs.View.{straight};
 ghost use Rattle.mich_overload.specs.Steps.{in_step};
 ghost use Rattle.mich_stack.specs.Views.{Sight, failure as step_failure};
-ghost use Rattle.mich_interpreter.specs.Ends.{Comes, Carries, Spends, KeepsState, failure};
+ghost use Rattle.mich_interpreter.specs.Ends.{Comes, Carries, Spends, KeepsAct, failure};
 
 use crate::act::{Act, Failed};
 use crate::issuing::act_operation;
@@ -37,7 +37,7 @@ fn act_step(alloc: Global, m: &mut State, costs: &Costs, instr: &Simple) -> Resu
     requires comes { (app : Tree) × Comes (made.straight (straight instr.now) app) costs.now m.old }
     ensures acts { (app : Tree) → Carries (made.straight (straight instr.now) app) costs.now m.old m.new result }
     ensures less { IfOk result (λ a. Spends a m.old.meter m.new.meter) }
-    ensures keeps { IfOk result (λ _. KeepsState m.old m.new) }
+    ensures keeps { IfOk result (λ a. KeepsAct a m.old m.new) }
 {
     let weight = weigh(instr, &m.stack)?;
     if !pay_capped(&mut m.meter, costs, price(instr), weight) {
@@ -51,7 +51,7 @@ fn act_step(alloc: Global, m: &mut State, costs: &Costs, instr: &Simple) -> Resu
 }
 
 // Memory, so far, for those that pack, hash or look up, or work on big maps.
-#[tactic(auto, using(crate::proofs::Keeping::keeps_group))]
+#[tactic(auto, using(crate::proofs::Keeping::acts_group))]
 pub(crate) fn act_straight(
     alloc: Global,
     m: &mut State,
@@ -61,7 +61,7 @@ pub(crate) fn act_straight(
     requires { (app : Tree) × Comes (made.straight (straight instr.now) app) costs.now m.old }
     ensures acts { (app : Tree) → Carries (made.straight (straight instr.now) app) costs.now m.old m.new result }
     ensures less { IfOk result (λ a. Spends a m.old.meter m.new.meter) }
-    ensures keeps { IfOk result (λ _. KeepsState m.old m.new) }
+    ensures keeps { IfOk result (λ a. KeepsAct a m.old m.new) }
 {
     if instr.in_step() {
         let act = act_step(alloc, m, costs, instr)?;

@@ -9,6 +9,7 @@ use Rattle.mich_interpreter.specs.View.{tops}
 use Rattle.mich_frames.proofs.Operations.{emit_top, emit_acts, emit_over}
 use Rattle.mich_frames.proofs.Straights.{row_broke}
 use Rattle.mich_interpreter.proofs.Issued.{stands_issued, seen_operation, over_limit}
+use Rattle.mich_interpreter.proofs.Keeping.{scripts_more}
 use Rattle.mich_interpreter.proofs.Paid.{paid_less}
 use Rattle.mich_interpreter.proofs.issuing.act_emit.Goals as goal
 
@@ -42,3 +43,6 @@ returns-clause-acts c = λ app x fs d Z o h.
     (rw (n.0, c.in_ok-tag.ensures, c.in_ok-ty.ensures))
     (rw (c.in_ok-push-2.ensures x.sight, seen_operation x.sight c.in-Some.number, n.0)
     (emit_acts c.args.tag.now (kind c.args.ty.now) (seen x.sight v) W p.0 (rw (c.pop-value.ensures x.sight) at h) (rw n.0 at n.1)))
+
+pub returns-clause-scripts : goal.returns-clause-scripts
+returns-clause-scripts c = scripts_more _ _ _ c.in_ok-push.ensures.pushed tt

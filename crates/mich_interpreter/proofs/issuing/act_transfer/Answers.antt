@@ -11,6 +11,7 @@ use Rattle.mich_interpreter.specs.View.{tops}
 use Rattle.mich_frames.proofs.Operations.{transfer_top, transfer_acts, transfer_over}
 use Rattle.mich_frames.proofs.Straights.{row_broke}
 use Rattle.mich_interpreter.proofs.Issued.{stands_issued, transfer_first, transfer_second, transfer_third, seen_operation, over_limit}
+use Rattle.mich_interpreter.proofs.Keeping.{scripts_more}
 use Rattle.mich_interpreter.proofs.Paid.{paid_less}
 use Rattle.mich_interpreter.proofs.issuing.act_transfer.Goals as goal
 
@@ -57,3 +58,6 @@ returns-clause-acts c = λ app x fs d Z o h.
     (rw n.0)
     (rw (c.in_ok-push-2.ensures x.sight, seen_operation x.sight c.in-Some-count_operation.number, n.0)
     (transfer_acts (seen x.sight v) c.in-Some.amount b W p.0 (rw (c.pop-argument.ensures x.sight, c.in-Some.ensures x.sight, c.in-Some-pop_address.ensures x.sight) at h) (rw n.0 at n.1)))
+
+pub returns-clause-scripts : goal.returns-clause-scripts
+returns-clause-scripts c = scripts_more _ _ _ c.in_ok-push.ensures.pushed tt

@@ -1,5 +1,5 @@
 use Rattle.std.proofs.Common.{◌≡◌, ◌≤◌, length, ap, ◌∙◌, arith}
-use Rattle.mich_interpreter.proofs.Left.{ends_behind}
+use Rattle.mich_interpreter.proofs.Left.{is_open, ends_behind}
 use Rattle.mich_interpreter.proofs.machine.advance.Goals as goal
 
 pub leave-requires : goal.leave-requires
@@ -16,3 +16,6 @@ returns-in_ok-step-2-clause-stays c = λ x Z o h.
     let over = c.if-m-len.false in
     let le : length c.args.m.now.block ≤ c.args.m.now.at = omega (arith, n, over) in
     c.in_ok-step-2.ensures.stays x Z o (ends_behind x c.args.costs.now Z o c.args.m.now h le)
+
+pub overflow_sub-m : goal.overflow_sub-m
+overflow_sub-m c = let r = c.requires in let open_one = is_open r.0 c.args.costs.now r.1 r.2 c.args.m.now r.3 in omega (arith, open_one)

@@ -10,7 +10,7 @@ use Rattle.mich_interpreter.specs.declared.act.Act.TheVariants as a
 use Rattle.mich_interpreter.specs.declared.machine.Machine.{Machine}
 use Rattle.mich_interpreter.proofs.Begun.{opens_inside, deep_inside}
 use Rattle.mich_interpreter.proofs.Codes.{code_seq}
-use Rattle.mich_interpreter.proofs.Keeping.{keeps_to}
+use Rattle.mich_interpreter.proofs.Keeping.{keeps_state, keeps_to, past_of}
 use Rattle.mich_interpreter.proofs.Left.{meets_at}
 use Rattle.mich_interpreter.proofs.Listed.{code_at}
 use Rattle.mich_interpreter.proofs.Stepped.{seq_smaller, paid_spent}
@@ -68,5 +68,11 @@ returns-in_ok-step c =
           (c.in_ok-act.ensures.acts x (fr.rest (codes (drop (c.args.m.now.at + 1) c.args.m.now.block)) ∷ frames x.sight c.args.m.now.frames) c.args.m.now.depth Z o
           (meets_at x c.args.costs.now Z o c.args.m.now h c.at-instr.result.now c.requires.within e));
       spent = paid_spent c.in_ok-step.step c.args.m.now c.follow.new.m (c.in_ok-step.ensures.spent c.args.m.now.state.meter c.in_ok-act.ensures.less);
-      keeps = keeps_to _ _ _ c.in_ok-act.ensures.keeps c.follow.ensures.state;
+      keeps = c.in_ok-step.ensures.keeps c.args.m.now.state c.in_ok-act.ensures.keeps;
     }
+
+pub returns-then-begun-clause-keeps : goal.returns-then-begun-clause-keeps
+returns-then-begun-clause-keeps c = keeps_to _ _ _ (keeps_state c.args.m.now.state) c.begin_inside.ensures.state
+
+pub returns-else-begun-clause-keeps : goal.returns-else-begun-clause-keeps
+returns-else-begun-clause-keeps c = past_of _ _ (keeps_to _ _ _ (keeps_state c.args.m.now.state) c.begin_inside.ensures.state)

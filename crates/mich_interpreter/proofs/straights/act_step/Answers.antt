@@ -2,11 +2,12 @@ use Rattle.std.proofs.Common.{true, Err, ◌∙◌, refl, sym, ap, subst}
 use Rattle.mich_gas.specs.View.{listed}
 use Rattle.mich_overload.specs.View.{straight}
 use Rattle.mich_stack.specs.Views.{values}
+use Rattle.mich_term.specs.ValueView.{big_step}
 use Rattle.mich_stack.specs.declared.error.StepError.{StepError}
 use Rattle.mich_step.specs.Tells.{IsDone}
 use Rattle.mich_interpreter.specs.View.{tops}
 use Rattle.mich_interpreter.proofs.Capped.{paid_is, broke_is}
-use Rattle.mich_interpreter.proofs.Keeping.{same_keeps}
+use Rattle.mich_interpreter.proofs.Keeping.{same_keeps, past_of}
 use Rattle.mich_interpreter.proofs.Paid.{paid_less}
 use Rattle.mich_interpreter.proofs.Suited.{suits_plain, ready_plain}
 use Rattle.mich_interpreter.proofs.Straightened.{heavy, ends, step_fits, step_stands, step_failed}
@@ -47,4 +48,16 @@ returns-in-Err-Failed-clause-acts c = λ app x fs d Z o h.
     rw (c.failed.ensures x.sight) (step_failed x c.args.costs.now c.args.m.now r c.requires.in_step h p.0 _ ended)
 
 pub returns-then-not-pay_capped-clause-keeps : goal.returns-then-not-pay_capped-clause-keeps
-returns-then-not-pay_capped-clause-keeps c = same_keeps _ _ refl refl
+returns-then-not-pay_capped-clause-keeps c = past_of _ _ (same_keeps _ _ refl refl refl)
+
+pub returns-in-Ok-clause-keeps : goal.returns-in-Ok-clause-keeps
+returns-in-Ok-clause-keeps c = record {
+  books = c.step.ensures.keeps;
+  changes = _;
+  tells = c.in-Ok.ensures.tells big_step refl;
+  group = refl;
+  scripts = λ h. h;
+}
+
+pub returns-in-Err-Failed-clause-keeps : goal.returns-in-Err-Failed-clause-keeps
+returns-in-Err-Failed-clause-keeps c = record { books = c.step.ensures.keeps; group = refl; scripts = λ h. h }

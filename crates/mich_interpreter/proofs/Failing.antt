@@ -1,0 +1,32 @@
+-- What FAILWITH fails with: it can be pushed, and is seen alike by all.
+use Rattle.std.proofs.Common.{◌≡◌, ℕ, true, List, ◌∷◌, sym, ap, ◌∙◌}
+use Rattle.rules_types.specs.Attributes.{pushable}
+use Rattle.rules_types.specs.Kind.{Kind}
+use Rattle.rules_typing.specs.Fits.{Fits}
+use Rattle.rules_values.specs.Val.{Val}
+use Rattle.rules_evaluation.specs.Operations.{Tally}
+use Rattle.rules_evaluation.specs.Outcome.{Outcome, after}
+use Rattle.laws_evaluation.specs.Laws.{known}
+use Rattle.laws_sights.proofs.Fitting.{pushable_seen}
+use Rattle.mich_term.specs.ValueView.{val}
+use Rattle.mich_term.specs.declared.value.Value.{Value}
+use Rattle.mich_stack.specs.Views.{Sight, seen}
+use Rattle.mich_instr.specs.Code as made
+use Rattle.mich_instr.specs.Typed.{is_failwith}
+use Rattle.mich_frames.specs.Around.{Around, at}
+use Rattle.mich_frames.specs.Frames.{Frame}
+use Rattle.mich_frames.specs.Pending.{resume}
+use Rattle.mich_frames.specs.Stands.{MeetsAt}
+use Rattle.mich_frames.proofs.Made.{FineCase, meets_fine, form_is}
+use Rattle.mich_frames.proofs.Shapes.{holds}
+
+module _ {fs : List Frame} {u : Around} {m : Tally} {d : ℕ} {Z : List Kind} {o : Outcome} where
+  fail_fits : {a : Kind} (x : Val) {W : List Val} → MeetsAt (made.failwith a) fs u (x ∷ W) m d Z o → (pushable a ≡ true) × Fits (known u.contract_at m.issued) a x
+  fail_fits {a = a} x {W = W} h = meets_fine h by
+    where
+      by : FineCase (made.failwith a) fs u (x ∷ W) m d Z o ((pushable a ≡ true) × Fits (known u.contract_at m.issued) a x)
+      by ps c _ _ _ (is_failwith {A = A} form) rests depth same typed small fine =
+          (holds (resume ps (at u c)) o h.runs.sound (pushable a) _ (ap (λ p. after p (resume ps (at u c))) (sym (form_is _ _ _ _ _ _ _ _ m form)) ∙ same), fine.fits.0)
+
+  pub fail_seen : {a : Kind} (big : Sight) (x : Value) {W : List Val} → MeetsAt (made.failwith a) fs u (seen big x ∷ W) m d Z o → seen big x ≡ val x
+  fail_seen {a = a} big x h = let f = fail_fits (seen big x) h in pushable_seen (known u.contract_at m.issued) big a x f.0 f.1

@@ -1,0 +1,16 @@
+use Rattle.std.proofs.Common.{subst}
+use Rattle.rules_base.specs.Tree.{Tree}
+use Rattle.mich_instr.specs.Code as made
+use Rattle.mich_overload.specs.View.{straight}
+use Rattle.mich_overload.specs.declared.simple.Simple.{Simple}
+use Rattle.mich_interpreter.specs.Ends.{Comes, Meets}
+use Rattle.mich_interpreter.proofs.straights.act_straight.Goals as goal
+
+pub act_operation-requires : goal.act_operation-requires
+act_operation-requires c =
+    subst (λ (s : Simple). (app : Tree) × Comes (made.straight (straight s) app) c.args.costs.now c.args.m.now) c.in-Operations.is c.requires
+
+pub returns-in_ok-act_operation-in-Operations-clause-acts : goal.returns-in_ok-act_operation-in-Operations-clause-acts
+returns-in_ok-act_operation-in-Operations-clause-acts c = λ app x fs d Z o h.
+    c.in_ok-act_operation-in-Operations.ensures.acts app x fs d Z o
+    (subst (λ (s : Simple). Meets (made.straight (straight s) app) x c.args.costs.now c.args.m.now fs d Z o) c.in-Operations.is h)
