@@ -1,46 +1,117 @@
-use Rattle.std.proofs.Common.{subst, ◌≡◌, Bool, true, false, Some, None, sym, ap, ◌∙◌, is_some}
+use Rattle.std.proofs.Common.{subst, ◌≡◌, Bool, true, false, Some, None, refl, sym, ap, ◌∙◌, is_some}
 use Rattle.mich_interpreter.specs.Ends.{KeepsState}
 use Rattle.mich_interpreter.specs.Runs.{IsEnd, state_of}
 use Rattle.mich_interpreter.specs.declared.machine.Ended.{Ended}
 use Rattle.mich_interpreter.specs.declared.state.State.{State}
+use Rattle.mich_world.proofs.Marks.{world_trans, ledger_lent}
 use Rattle.mich_world.specs.Holders.{contract_at}
+use Rattle.mich_world.specs.Marks.{KeepsWorld}
 use Rattle.mich_world.specs.World.{World, with_ledger}
 use Rattle.mich_machine.specs.Endings.{IsEnding}
-use Rattle.mich_machine.proofs.Begun.{called_there, entry_some, x, Z, o, begun, ending_so, state_is, opens_at}
+use Rattle.mich_machine.proofs.Begun.{Asked, called_there, entry_some, x, Z, o, begun, ending_so, state_is, opens_at, as_said, kept_as_said, with_memory, finished_so, fails_as}
+use Rattle.mich_machine.proofs.running.run.Goals.{in-Stack, in-Failed+in_ok-tell-in-Failed}
 use Rattle.mich_machine.proofs.running.run.Goals as goal
 
 pub unreachable-requires : goal.unreachable-requires
 unreachable-requires c =
+    let q : Asked = record { v = c.args.world.now; w = c.requires.called.0; costs = c.args.costs.now; counts = c.args.counts.now; to = c.args.to.now; name = c.args.name.now;
+      argument = c.args.argument; env = c.args.env.now; t = c.requires.called.1; h = c.requires.hosting; formed = c.requires.formed; based = c.requires.based; c = c.requires.called.2 } in
     let none : None ≡ contract_at c.args.world.now.funds.present c.args.to.now = c.in_default.ensures in
-    let off : false ≡ true = ap is_some none ∙ called_there c.args.world.now c.requires.called.0 c.args.costs.now c.args.counts.now c.args.to.now c.args.name.now c.args.argument c.args.env.now c.requires.called.1 c.requires.hosting c.requires.formed c.requires.based c.requires.called.2 in cc
+    let off : false ≡ true = ap is_some none ∙ called_there q in cc
 
 pub opening-requires : goal.opening-requires
 opening-requires c =
-    let k = c.in-Some.contract.now in
-    let there : contract_at c.args.world.now.funds.present c.args.to.now ≡ Some k = sym c.in-Some.ensures in
-    entry_some c.args.world.now c.requires.called.0 c.args.costs.now c.args.counts.now c.args.to.now c.args.name.now c.args.argument c.args.env.now c.requires.called.1 c.requires.hosting c.requires.formed c.requires.based c.requires.called.2 k there
+    let q : Asked = record { v = c.args.world.now; w = c.requires.called.0; costs = c.args.costs.now; counts = c.args.counts.now; to = c.args.to.now; name = c.args.name.now;
+      argument = c.args.argument; env = c.args.env.now; t = c.requires.called.1; h = c.requires.hosting; formed = c.requires.formed; based = c.requires.based; c = c.requires.called.2 } in
+    entry_some q c.in-Some.contract.now (sym c.in-Some.ensures)
 
 pub run_code-requires : goal.run_code-requires
 run_code-requires c =
+    let q : Asked = record { v = c.args.world.now; w = c.requires.called.0; costs = c.args.costs.now; counts = c.args.counts.now; to = c.args.to.now; name = c.args.name.now;
+      argument = c.args.argument; env = c.args.env.now; t = c.requires.called.1; h = c.requires.hosting; formed = c.requires.formed; based = c.requires.based; c = c.requires.called.2 } in
     let k = c.in-Some.contract.now in
-    let there : contract_at c.args.world.now.funds.present c.args.to.now ≡ Some k = sym c.in-Some.ensures in
-    let m = (state_is c.args.world.now c.requires.called.0 c.args.costs.now c.args.counts.now c.args.to.now c.args.name.now c.args.argument c.args.env.now c.requires.called.1 c.requires.hosting c.requires.formed c.requires.based c.requires.called.2 k there c.in_ok-code.value c.in_ok-code.ensures.value c.args.meter.now c.in_ok-begun.begun c.in_ok-begun.ensures.stack c.in_ok-begun.ensures.meter c.in_ok-begun.ensures.counts c.in_ok-begun.ensures.env c.in_ok-begun.ensures.ledger c.in_ok-begun.ensures.issued) in (
-      x c.args.world.now c.requires.called.0 c.args.costs.now c.args.counts.now c.args.to.now c.args.name.now c.args.argument c.args.env.now c.requires.called.1 c.requires.hosting c.requires.formed c.requires.based c.requires.called.2 k there,
-      Z c.args.world.now c.requires.called.0 c.args.costs.now c.args.counts.now c.args.to.now c.args.name.now c.args.argument c.args.env.now c.requires.called.1 c.requires.hosting c.requires.formed c.requires.based c.requires.called.2 k there c.in_ok-code.value c.in_ok-code.ensures.value c.args.meter.now,
-      o c.args.world.now c.requires.called.0 c.args.costs.now c.args.counts.now c.args.to.now c.args.name.now c.args.argument c.args.env.now c.requires.called.1 c.requires.hosting c.requires.formed c.requires.based c.requires.called.2 k there c.in_ok-code.value c.in_ok-code.ensures.value c.args.meter.now,
-      opens_at c.args.world.now c.requires.called.0 c.args.costs.now c.args.counts.now c.args.to.now c.args.name.now c.args.argument c.args.env.now c.requires.called.1 c.requires.hosting c.requires.formed c.requires.based c.requires.called.2 k there c.in_ok-code.value c.in_ok-code.ensures.value c.args.meter.now c.in_ok-code.code c.in_ok-begun.begun c.in_ok-code.ensures.code m,
+    let there : contract_at q.v.funds.present q.to ≡ Some k = sym c.in-Some.ensures in
+    let value = c.in_ok-code.value in
+    let seen_so = c.in_ok-code.ensures.value in
+    let b = c.in_ok-begun.ensures in
+    let same = state_is q k there value seen_so c.args.meter.now c.in_ok-begun.begun b.stack b.meter b.counts b.env b.ledger b.issued in (
+      x q k there,
+      Z q k there value seen_so c.args.meter.now,
+      o q k there value seen_so c.args.meter.now,
+      opens_at q k there value seen_so c.args.meter.now c.in_ok-code.code c.in_ok-begun.begun c.in_ok-code.ensures.code same,
     )
 
 pub finish-requires : goal.finish-requires
 finish-requires c =
+    let q : Asked = record { v = c.args.world.now; w = c.requires.called.0; costs = c.args.costs.now; counts = c.args.counts.now; to = c.args.to.now; name = c.args.name.now;
+      argument = c.args.argument; env = c.args.env.now; t = c.requires.called.1; h = c.requires.hosting; formed = c.requires.formed; based = c.requires.based; c = c.requires.called.2 } in
     let k = c.in-Some.contract.now in
-    let there : contract_at c.args.world.now.funds.present c.args.to.now ≡ Some k = sym c.in-Some.ensures in
+    let there : contract_at q.v.funds.present q.to ≡ Some k = sym c.in-Some.ensures in
+    let value = c.in_ok-code.value in
+    let seen_so = c.in_ok-code.ensures.value in
+    let gas = c.args.meter.now in
+    let b = c.in_ok-begun.ensures in
     let left = c.in-Stack.left in
-    let same = state_is c.args.world.now c.requires.called.0 c.args.costs.now c.args.counts.now c.args.to.now c.args.name.now c.args.argument c.args.env.now c.requires.called.1 c.requires.hosting c.requires.formed c.requires.based c.requires.called.2 k there c.in_ok-code.value c.in_ok-code.ensures.value c.args.meter.now c.in_ok-begun.begun c.in_ok-begun.ensures.stack c.in_ok-begun.ensures.meter c.in_ok-begun.ensures.counts c.in_ok-begun.ensures.env c.in_ok-begun.ensures.ledger c.in_ok-begun.ensures.issued in
-    let keeps : KeepsState (begun c.args.world.now c.requires.called.0 c.args.costs.now c.args.counts.now c.args.to.now c.args.name.now c.args.argument c.args.env.now c.requires.called.1 c.requires.hosting c.requires.formed c.requires.based c.requires.called.2 k there c.in_ok-code.value c.in_ok-code.ensures.value c.args.meter.now) left =
-    subst (λ (q : State). KeepsState q left) same (subst (λ (d : Ended). KeepsState c.in_ok-begun.begun (state_of d)) c.in-Stack.is c.in_ok-left.ensures.keeps) in
-    let ends = subst (λ (d : Ended). IsEnd d (x c.args.world.now c.requires.called.0 c.args.costs.now c.args.counts.now c.args.to.now c.args.name.now c.args.argument c.args.env.now c.requires.called.1 c.requires.hosting c.requires.formed c.requires.based c.requires.called.2 k there) (Z c.args.world.now c.requires.called.0 c.args.costs.now c.args.counts.now c.args.to.now c.args.name.now c.args.argument c.args.env.now c.requires.called.1 c.requires.hosting c.requires.formed c.requires.based c.requires.called.2 k there c.in_ok-code.value c.in_ok-code.ensures.value c.args.meter.now) (o c.args.world.now c.requires.called.0 c.args.costs.now c.args.counts.now c.args.to.now c.args.name.now c.args.argument c.args.env.now c.requires.called.1 c.requires.hosting c.requires.formed c.requires.based c.requires.called.2 k there c.in_ok-code.value c.in_ok-code.ensures.value c.args.meter.now)) c.in-Stack.is
-    (c.in_ok-left.ensures.ends (x c.args.world.now c.requires.called.0 c.args.costs.now c.args.counts.now c.args.to.now c.args.name.now c.args.argument c.args.env.now c.requires.called.1 c.requires.hosting c.requires.formed c.requires.based c.requires.called.2 k there) (Z c.args.world.now c.requires.called.0 c.args.costs.now c.args.counts.now c.args.to.now c.args.name.now c.args.argument c.args.env.now c.requires.called.1 c.requires.hosting c.requires.formed c.requires.based c.requires.called.2 k there c.in_ok-code.value c.in_ok-code.ensures.value c.args.meter.now) (o c.args.world.now c.requires.called.0 c.args.costs.now c.args.counts.now c.args.to.now c.args.name.now c.args.argument c.args.env.now c.requires.called.1 c.requires.hosting c.requires.formed c.requires.based c.requires.called.2 k there c.in_ok-code.value c.in_ok-code.ensures.value c.args.meter.now) (opens_at c.args.world.now c.requires.called.0 c.args.costs.now c.args.counts.now c.args.to.now c.args.name.now c.args.argument c.args.env.now c.requires.called.1 c.requires.hosting c.requires.formed c.requires.based c.requires.called.2 k there c.in_ok-code.value c.in_ok-code.ensures.value c.args.meter.now c.in_ok-code.code c.in_ok-begun.begun c.in_ok-code.ensures.code same)) in
-    let world : c.put_ledger.new.world ≡ with_ledger c.args.world.now left.ledger =
-    c.put_ledger.ensures ∙ ap (λ (w : World). with_ledger w left.ledger) c.in_ok-begun.ensures.world in
-    subst (λ (w : World). IsEnding w c.args.to.now left.stack left.issued) (sym world) (ending_so c.args.world.now c.requires.called.0 c.args.costs.now c.args.counts.now c.args.to.now c.args.name.now c.args.argument c.args.env.now c.requires.called.1 c.requires.hosting c.requires.formed c.requires.based c.requires.called.2 k there c.in_ok-code.value c.in_ok-code.ensures.value c.args.meter.now left keeps ends)
+    let same = state_is q k there value seen_so gas c.in_ok-begun.begun b.stack b.meter b.counts b.env b.ledger b.issued in
+    let keeps : KeepsState (begun q k there value seen_so gas) left =
+    subst (λ (s : State). KeepsState s left) same (subst (λ (d : Ended). KeepsState c.in_ok-begun.begun (state_of d)) c.in-Stack.is c.in_ok-left.ensures.keeps) in
+    let ends = subst (λ (d : Ended). IsEnd d (x q k there) (Z q k there value seen_so gas) (o q k there value seen_so gas)) c.in-Stack.is
+    (c.in_ok-left.ensures.ends (x q k there) (Z q k there value seen_so gas) (o q k there value seen_so gas)
+    (opens_at q k there value seen_so gas c.in_ok-code.code c.in_ok-begun.begun c.in_ok-code.ensures.code same)) in
+    let world : c.put_ledger.new.world ≡ with_ledger q.v left.ledger = c.put_ledger.ensures ∙ ap (λ (w : World). with_ledger w left.ledger) c.in_ok-begun.ensures.world in
+    subst (λ (w : World). IsEnding w q.to left.stack left.issued) (sym world) (ending_so q k there value seen_so gas left keeps ends)
+
+pub returns-clause-ends : goal.returns-clause-ends
+returns-clause-ends c = λ w t h.
+    let q : Asked = record { v = c.args.world.now; w = w; costs = c.args.costs.now; counts = c.args.counts.now; to = c.args.to.now; name = c.args.name.now;
+      argument = c.args.argument; env = c.args.env.now; t = t; h = c.requires.hosting; formed = c.requires.formed; based = c.requires.based; c = h } in
+    let k = c.in-Some.contract.now in
+    let there : contract_at q.v.funds.present q.to ≡ Some k = sym c.in-Some.ensures in
+    let value = c.in_ok-code.value in
+    let seen_so = c.in_ok-code.ensures.value in
+    let gas = c.args.meter.now in
+    let b = c.in_ok-begun.ensures in
+    let same = state_is q k there value seen_so gas c.in_ok-begun.begun b.stack b.meter b.counts b.env b.ledger b.issued in
+    let ends = c.in_ok-left.ensures.ends (x q k there) (Z q k there value seen_so gas) (o q k there value seen_so gas)
+    (opens_at q k there value seen_so gas c.in_ok-code.code c.in_ok-begun.begun c.in_ok-code.ensures.code same) in
+    elim c.match-branch-4.branch [
+      | in-Stack d ↦
+          let left = d.in-Stack.left in
+          let keeps : KeepsState (begun q k there value seen_so gas) left =
+          subst (λ (s : State). KeepsState s left) same (subst (λ (e : Ended). KeepsState c.in_ok-begun.begun (state_of e)) d.in-Stack.is c.in_ok-left.ensures.keeps) in
+          let end = subst (λ (e : Ended). IsEnd e (x q k there) (Z q k there value seen_so gas) (o q k there value seen_so gas)) d.in-Stack.is ends in
+          let world : d.put_ledger.new.world ≡ with_ledger q.v left.ledger =
+          d.put_ledger.ensures ∙ ap (λ (v : World). with_ledger v left.ledger) c.in_ok-begun.ensures.world in
+          as_said _ _ _ _ _ _ _ _ _ _ d.world-is d.meter-is d.counts-is d.result-is
+          (finished_so q k there value seen_so gas left keeps end d.put_ledger.new.world world d.finish.new.world d.finish.result d.finish.ensures.ends)
+      | in-Failed+in_ok-tell-in-Failed d ↦
+          let end = subst (λ (e : Ended). IsEnd e (x q k there) (Z q k there value seen_so gas) (o q k there value seen_so gas)) d.in-Failed.is ends in
+          as_said _ _ _ _ _ _ _ _ _ _ d.world-is d.meter-is d.counts-is d.result-is
+          (fails_as q k there value seen_so gas _ _ _ d.in-Failed.left d.in-Failed.why d.in_ok-tell-in-Failed.field-0 end d.in_ok-tell-in-Failed.ensures)
+    ]
+
+pub returns-clause-keeps : goal.returns-clause-keeps
+returns-clause-keeps c =
+    let q : Asked = record { v = c.args.world.now; w = c.requires.called.0; costs = c.args.costs.now; counts = c.args.counts.now; to = c.args.to.now; name = c.args.name.now;
+      argument = c.args.argument; env = c.args.env.now; t = c.requires.called.1; h = c.requires.hosting; formed = c.requires.formed; based = c.requires.based; c = c.requires.called.2 } in
+    let k = c.in-Some.contract.now in
+    let there : contract_at q.v.funds.present q.to ≡ Some k = sym c.in-Some.ensures in
+    let value = c.in_ok-code.value in
+    let seen_so = c.in_ok-code.ensures.value in
+    let gas = c.args.meter.now in
+    let b = c.in_ok-begun.ensures in
+    let same = state_is q k there value seen_so gas c.in_ok-begun.begun b.stack b.meter b.counts b.env b.ledger b.issued in
+    let lent : (left : State) (v : World) → v ≡ with_ledger c.state.new.world left.ledger → KeepsState c.in_ok-begun.begun left → KeepsWorld q.v v = λ left v e s.
+    let keeps : KeepsState (begun q k there value seen_so gas) left = subst (λ (m : State). KeepsState m left) same s in
+    let world : v ≡ with_ledger q.v left.ledger = e ∙ ap (λ (u : World). with_ledger u left.ledger) c.in_ok-begun.ensures.world in
+    subst (λ (z : World). KeepsWorld q.v z) (sym world) (ledger_lent q.v q.v.ledger left.ledger refl keeps.books) in
+    elim c.match-branch-4.branch [
+      | in-Stack d ↦
+          let first = lent d.in-Stack.left d.put_ledger.new.world d.put_ledger.ensures (subst (λ (e : Ended). KeepsState c.in_ok-begun.begun (state_of e)) d.in-Stack.is c.in_ok-left.ensures.keeps) in
+          kept_as_said _ _ _ _ _ d.world-is d.result-is
+          (with_memory d.finish.result (λ later. world_trans _ _ _ first later) d.finish.ensures.keeps)
+      | in-Failed+in_ok-tell-in-Failed d ↦
+          kept_as_said _ _ _ _ _ d.world-is d.result-is
+          (lent d.in-Failed.left d.put_ledger-in-Failed.new.world d.put_ledger-in-Failed.ensures
+          (subst (λ (e : Ended). KeepsState c.in_ok-begun.begun (state_of e)) d.in-Failed.is c.in_ok-left.ensures.keeps))
+    ]
