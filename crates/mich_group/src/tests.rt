@@ -1,10 +1,8 @@
-// What no clause says: that the calls answer with ample memory.
-use crate::apply_group;
+// What no clause says: that groups are built and looked at with ample memory. Whole groups run in the crates above.
+use crate::refusal::admit;
 use mich_base::{App, Memory, Node, Rows, Text};
 use mich_forms::{ChainId, Entrypoint, KeyHash, Place};
-use mich_gas::Costs;
-use mich_machine::Bodies;
-use mich_ops::{Action, Content, Group, GroupReceipt, Status};
+use mich_ops::{Action, Content, Group, GroupFault};
 use mich_world::World;
 use std::alloc::Global;
 use std::test::Fail;
@@ -16,8 +14,8 @@ fn key_hash(number: u8) -> KeyHash {
     }
 }
 
-// A call of an account with `Unit`.
-fn call(alloc: Global, amount: u64, to: u8) -> Result<Content, Memory> {
+// A call of an account with `Unit`, for a fee of 10.
+fn call(alloc: Global, gas: i128) -> Result<Content, Memory> {
     let unit = Node::Prim(App {
         name: Text::from_slice(alloc, b"Unit")?,
         args: Rows::new(alloc),
@@ -25,20 +23,21 @@ fn call(alloc: Global, amount: u64, to: u8) -> Result<Content, Memory> {
     });
     Ok(Content {
         fee: 10,
-        gas: 100,
+        gas,
         action: Action::Call {
-            amount,
-            to: Place::Implicit(key_hash(to)),
+            amount: 5,
+            to: Place::Implicit(key_hash(2)),
             entry: Entrypoint::default_entrypoint(),
             argument: unit,
         },
     })
 }
 
-fn group(alloc: Global, first: u64, second: u64) -> Result<Group, Memory> {
+// Two calls, the second with so much gas.
+fn two_calls(alloc: Global, gas: i128) -> Result<Group, Memory> {
     let mut contents = Rows::new(alloc);
-    contents.push(call(alloc, first, 2)?)?;
-    contents.push(call(alloc, second, 3)?)?;
+    contents.push(call(alloc, 100)?)?;
+    contents.push(call(alloc, gas)?)?;
     Ok(Group {
         source: key_hash(1),
         contents,
@@ -46,21 +45,24 @@ fn group(alloc: Global, first: u64, second: u64) -> Result<Group, Memory> {
 }
 
 #[test]
-fn a_group_of_transfers(rt: HostRuntime) -> Result<(), Fail> {
+fn a_group_costs_its_fees(rt: HostRuntime) -> Result<(), Fail> {
     let alloc = rt.alloc();
     let mut world = World::new(alloc, ChainId { body: [0; 4] }, 0, 0);
-    world.grant(key_hash(1), 1000)?;
-    let mut bodies = Bodies::new(alloc)?;
-    let costs = Costs::standard();
-    let receipt = apply_group(
-        alloc,
-        &mut world,
-        &costs,
-        1,
-        &group(alloc, 5, 7)?,
-        &mut bodies,
-    )?;
-    assert!(rt; matches!(receipt, GroupReceipt::Done(_)));
-    assert!(rt; world.balance(Place::Implicit(key_hash(3))) == Some(7));
+    world.grant(key_hash(1), 20)?;
+    let group = two_calls(alloc, 10_000_000_000)?;
+    assert!(rt; matches!(admit(&world, &group), Ok(20)));
+    Ok(())
+}
+
+#[test]
+fn groups_are_refused(rt: HostRuntime) -> Result<(), Fail> {
+    let alloc = rt.alloc();
+    let mut world = World::new(alloc, ChainId { body: [0; 4] }, 0, 0);
+    let group = two_calls(alloc, 100)?;
+    assert!(rt; matches!(admit(&world, &group), Err(GroupFault::UnknownSource)));
+    world.grant(key_hash(1), 19)?;
+    assert!(rt; matches!(admit(&world, &group), Err(GroupFault::FeeTooHigh)));
+    let group = two_calls(alloc, 10_000_000_001)?;
+    assert!(rt; matches!(admit(&world, &group), Err(GroupFault::GasTooHigh)));
     Ok(())
 }

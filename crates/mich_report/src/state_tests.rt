@@ -46,14 +46,14 @@ fn credit(
     id: TicketId,
     amount: i128,
 ) -> Result<(), Memory> {
-    let owner = Place::Implicit(key_hash(who));
-    let held = world.ledger().balance(&id, owner);
-    if amount <= 0 || held.checked_add(amount).is_none() {
+    let owner = &Place::Implicit(key_hash(who));
+    let held = world.ledger().balance(&id, *owner);
+    if amount <= 0 || held > i128::MAX - amount {
         return Ok(());
     }
     world
         .ledger_mut()
-        .credit(alloc, owner, Ticket { id, amount })
+        .credit(alloc, *owner, Ticket { id, amount })
 }
 
 // Whether lines are these, each with its newline.

@@ -1,6 +1,7 @@
 // What no clause says: that the calls answer with ample memory, and that a mark and undoing to it cost little.
 ghost use Rattle.std.specs.Prelude.{◌≡◌, ◌≤ℤ◌, ℕ, List, pos, IfOk};
 ghost use Rattle.rules_values.specs.Tickets.{Identity};
+ghost use Rattle.mich_bigmap.specs.Formed.{IsFormed};
 ghost use Rattle.mich_tickets.specs.Sums.{held_of};
 ghost use Rattle.mich_world.specs.Marks.{KeepsWorld};
 
@@ -260,31 +261,36 @@ fn burn(alloc: Global, world: &mut World, ticket: Ticket) -> Result<(), Memory>
     world.ledger_mut().burn(alloc, ticket)
 }
 
-// A ticket comes to the first account, where there is room for it.
+// A ticket comes to an owner, where there is room for it.
 #[tactic(auto, using(crate::proofs::Marks::world_same, crate::proofs::Marks::world_trans, crate::proofs::Marks::ledger_lent, crate::proofs::Marks::store_lent))]
-fn credit(alloc: Global, world: &mut World, ticket: Ticket) -> Result<(), Memory>
+fn credit(alloc: Global, world: &mut World, owner: &Place, ticket: Ticket) -> Result<(), Memory>
     ensures { KeepsWorld world.old world.new }
 {
     let amount = ticket.amount;
-    let held = world.ledger().balance(&ticket.id, account(1));
-    if amount <= 0 || held.checked_add(amount).is_none() {
+    let held = world.ledger().balance(&ticket.id, *owner);
+    if amount <= 0 || held > i128::MAX - amount {
         return Ok(());
     }
-    world.ledger_mut().credit(alloc, account(1), ticket)
+    world.ledger_mut().credit(alloc, *owner, ticket)
 }
 
-// A big map of one entry is settled.
+// An empty big map.
+fn empty(alloc: Global) -> BigMap
+    ensures { IsFormed result }
+{
+    BigMap {
+        shares: true,
+        base: None,
+        overlay: Rows::new(alloc),
+    }
+}
+
+// It is settled: it gets a base.
 #[tactic(auto, using(crate::proofs::Marks::world_same, crate::proofs::Marks::world_trans, crate::proofs::Marks::ledger_lent, crate::proofs::Marks::store_lent))]
 fn settle_one(alloc: Global, world: &mut World) -> Result<(), Memory>
     ensures { KeepsWorld world.old world.new }
 {
-    let mut overlay = Rows::new(alloc);
-    overlay.push((Datum::Number(1), Some(Value::Unit)))?;
-    let m = BigMap {
-        shares: true,
-        base: None,
-        overlay,
-    };
+    let m = empty(alloc);
     let settled = settle(alloc, world.store_mut(), m)?;
     drop(settled);
     Ok(())
@@ -311,7 +317,7 @@ fn apply(alloc: Global, world: &mut World, write: Write) -> Result<(), Fail>
         }
         Write::Credit => {
             if let Some(ticket) = minted(alloc, world, 3)? {
-                credit(alloc, world, ticket)?;
+                credit(alloc, world, &first, ticket)?;
             }
         }
         Write::Settle => settle_one(alloc, world)?,
@@ -391,7 +397,7 @@ fn a_storage_is_kept_and_undone(rt: HostRuntime) -> Result<(), Fail> {
     Ok(())
 }
 
-// 5,000 accounts with 1 mutez each.
+// 50,000 accounts with 1 mutez each.
 fn many_accounts(alloc: Global) -> Result<World, GrantError> {
     let mut world = World::new(alloc, ChainId { body: [0; 4] }, 0, 0);
     for number in 0..50_000 {
