@@ -1,5 +1,5 @@
 -- Values that can be pushed hold no big map.
-use Rattle.std.proofs.Common.{ℕ, ◌≡◌, Bool, true, false, List, [], ◌∷◌, map, sym, ap, ◌∙◌, subst}
+use Rattle.std.proofs.Common.{ℕ, ◌≡◌, Bool, true, List, [], ◌∷◌, map, sym, ap, ◌∙◌, subst}
 use Rattle.std.specs.List.{AllByRecursion}
 use Rattle.std.specs.Prelude.{Some}
 use Rattle.std.proofs.lemmas.Bool.{and_parts}
@@ -8,7 +8,7 @@ use Rattle.rules_types.specs.Kind.{Kind}
 use Rattle.rules_types.specs.Kind as k
 use Rattle.rules_types.specs.Attributes.{pushable}
 use Rattle.rules_values.specs.Val.{Val, Pairs}
-use Rattle.rules_values.specs.Literals.{Literal, Pending, good, read}
+use Rattle.rules_values.specs.Literals.{Pending, good, read}
 use Rattle.rules_evaluation.specs.Given.{value_of}
 use Rattle.mich_data.specs.Whole.{Layer, IsSimple, IsOption, IsEither, IsPair, IsListOf, IsSet, IsMapTo, IsLambda, IsWhole}
 use Rattle.mich_term.specs.View.{vals_of, pairs_of}

@@ -1,5 +1,5 @@
 -- A run before and behind an instruction without bodies.
-use Rattle.std.proofs.Common.{◌≡◌, ◌≤◌, ◌-◌, ℕ, true, List, sym, ap, ◌∙◌, subst}
+use Rattle.std.proofs.Common.{◌≡◌, ◌≤◌, ◌-◌, ℕ, true, List, ap, ◌∙◌, subst}
 use Rattle.rules_base.specs.Tree.{Tree}
 use Rattle.rules_gas.specs.Prices.{cost}
 use Rattle.rules_types.specs.Kind.{Kind}

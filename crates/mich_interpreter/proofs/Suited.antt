@@ -1,5 +1,5 @@
 -- What instructions without bodies ask of a run, besides values that fit.
-use Rattle.std.proofs.Common.{ℕ, List, sym, subst}
+use Rattle.std.proofs.Common.{ℕ, List, subst}
 use Rattle.std.specs.List.{flat_map}
 use Rattle.rules_base.specs.Tree.{Tree}
 use Rattle.rules_types.specs.Kind.{Kind}

@@ -1,12 +1,11 @@
 -- What a ledger lists after an instruction, and what was minted before the run.
-use Rattle.std.proofs.Common.{◌≡◌, ◌-◌, ℕ, List, ◌++◌, map, refl, sym, ap, ◌∙◌, subst, arith}
+use Rattle.std.proofs.Common.{◌≡◌, ◌-◌, ℕ, List, ◌++◌, map, sym, ap, ◌∙◌, subst, arith}
 use Rattle.std.specs.Prelude.{ℤ, ◌+ℤ◌, ◌-ℤ◌}
 use Rattle.std.proofs.lemmas.Int.{ints}
 use Rattle.rules_gas.specs.declared.Kind.{Kind as Priced}
 use Rattle.rules_gas.specs.Prices.{cost}
 use Rattle.rules_types.specs.Kind.{Kind}
 use Rattle.rules_values.specs.Tickets.{Identity}
-use Rattle.rules_values.specs.Val.{Val}
 use Rattle.rules_steps.specs.Changes.{Change, minted_in, burnt_in}
 use Rattle.rules_evaluation.specs.Outcome.{Outcome, with_changes}
 use Rattle.laws_agreement.proofs.Amounts.{minted_append, burnt_append}
@@ -16,7 +15,7 @@ use Rattle.mich_term.specs.declared.value.Value.{Value}
 use Rattle.mich_tickets.specs.Books.{State as Ledger}
 use Rattle.mich_tickets.specs.Effects.{Tells, change}
 use Rattle.mich_tickets.specs.Sums.{minted_of, burnt_of}
-use Rattle.mich_frames.specs.Around.{Around, less}
+use Rattle.mich_frames.specs.Around.{less}
 use Rattle.mich_frames.specs.Frames.{Frame}
 use Rattle.mich_frames.specs.Rows.{minted_at}
 use Rattle.mich_frames.specs.Stands.{StandsAt}

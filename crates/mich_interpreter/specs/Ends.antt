@@ -13,7 +13,7 @@ use Rattle.rules_evaluation.specs.Outcome.{Outcome, failed}
 use Rattle.mich_gas.specs.declared.costs.Costs.{Costs}
 use Rattle.mich_base.specs.TypeView.{kind}
 use Rattle.mich_undo.specs.History.{Keeps as KeepsBooks}
-use Rattle.mich_stack.specs.Views.{Sight, seen}
+use Rattle.mich_stack.specs.Views.{Sight}
 use Rattle.mich_instr.specs.Code.{Code}
 use Rattle.mich_instr.specs.View.{codes}
 use Rattle.mich_frames.specs.Around.{Around}

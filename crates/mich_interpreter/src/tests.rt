@@ -129,7 +129,10 @@ fn a_loop_turns_while_there_is_a_truth(rt: HostRuntime) -> Result<(), Fail> {
             Instr::Straight(positive, named(alloc, "GT")?),
         ],
     )?;
-    let code = block(alloc, [push(alloc, 2)?, push_true(alloc)?, Instr::Loop(body)])?;
+    let code = block(
+        alloc,
+        [push(alloc, 2)?, push_true(alloc)?, Instr::Loop(body)],
+    )?;
     let Ended::Stack(left) = run(alloc, code, 1000)? else {
         assert!(rt; false);
         return Ok(());
@@ -144,7 +147,12 @@ fn a_failure_shows_its_value(rt: HostRuntime) -> Result<(), Fail> {
     let alloc = rt.alloc();
     let code = block(alloc, [push(alloc, 7)?, Instr::Failwith(Ty::Int)])?;
     let ended = run(alloc, code, 1000)?;
-    assert!(rt; matches!(ended, Ended::Failed(_, Failed::With(Ty::Int, Value::Number(7)))));
+    assert!(rt;
+        matches!(
+            ended,
+            Ended::Failed(_, Failed::With(Ty::Int, Value::Number(7)))
+        )
+    );
     Ok(())
 }
 

@@ -1,4 +1,4 @@
-use Rattle.std.proofs.Common.{◌<◌, [], refl, ap, ◌∙◌, arith}
+use Rattle.std.proofs.Common.{◌<◌, refl, ap, ◌∙◌, arith}
 use Rattle.mich_frames.specs.Sizes.{frames_size}
 use Rattle.mich_interpreter.specs.View.{frames}
 use Rattle.mich_interpreter.specs.declared.frame.Frame.TheVariants as f

@@ -1,4 +1,4 @@
-use Rattle.std.proofs.Common.{◌≡◌, ◌≤◌, List, [], length}
+use Rattle.std.proofs.Common.{◌≡◌, ◌≤◌, List, length}
 use Rattle.rules_types.specs.Kind.{Kind}
 use Rattle.rules_evaluation.specs.Outcome.{Outcome}
 use Rattle.mich_frames.specs.Sizes.{frames_size}

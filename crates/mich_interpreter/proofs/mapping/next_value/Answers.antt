@@ -1,4 +1,4 @@
-use Rattle.std.proofs.Common.{List, subst, sym, ap}
+use Rattle.std.proofs.Common.{List, subst}
 use Rattle.mich_instr.specs.View.{codes}
 use Rattle.mich_term.specs.declared.value.Value.{Value}
 use Rattle.mich_interpreter.specs.Ends.{StandsOn}

@@ -1,14 +1,11 @@
-use Rattle.std.proofs.Common.{true, Err, ◌∙◌, refl, sym, ap, subst}
-use Rattle.mich_gas.specs.View.{listed}
+use Rattle.std.proofs.Common.{true, Err, refl, subst}
 use Rattle.mich_overload.specs.View.{straight}
 use Rattle.mich_stack.specs.Views.{values}
 use Rattle.mich_term.specs.ValueView.{big_step}
 use Rattle.mich_stack.specs.declared.error.StepError.{StepError}
 use Rattle.mich_step.specs.Tells.{IsDone}
-use Rattle.mich_interpreter.specs.View.{tops}
 use Rattle.mich_interpreter.proofs.Capped.{paid_is, broke_is}
 use Rattle.mich_interpreter.proofs.Keeping.{same_keeps, past_of}
-use Rattle.mich_interpreter.proofs.Paid.{paid_less}
 use Rattle.mich_interpreter.proofs.Suited.{suits_plain, ready_plain}
 use Rattle.mich_interpreter.proofs.Straightened.{heavy, ends, step_fits, step_stands, step_failed}
 use Rattle.mich_frames.proofs.Straights.{row_broke}
@@ -44,7 +41,7 @@ returns-in-Err-Failed-clause-acts c = λ app x fs d Z o h.
     let r = straight c.args.instr.now in
     let p = paid_is _ _ _ _ _ _ _ c.if-not-pay_capped.false c.price.ensures (c.pay_capped.ensures (heavy x c.args.costs.now c.args.m.now r c.requires.in_step h) (c.in_ok-weight.ensures x.sight) h.runs.charged) in
     let ended = subst (λ (e : StepError). IsDone (ends x c.args.costs.now c.args.m.now r c.requires.in_step h) (values x.sight c.step.new.stack) (Err e))
-        c.in-Err-Failed.field-0-is (c.in-Err-Failed.ensures.ends x.sight) in
+    c.in-Err-Failed.field-0-is (c.in-Err-Failed.ensures.ends x.sight) in
     rw (c.failed.ensures x.sight) (step_failed x c.args.costs.now c.args.m.now r c.requires.in_step h p.0 _ ended)
 
 pub returns-then-not-pay_capped-clause-keeps : goal.returns-then-not-pay_capped-clause-keeps
