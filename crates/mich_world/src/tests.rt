@@ -383,20 +383,6 @@ fn a_contract_that_is_made_is_undone(rt: HostRuntime) -> Result<(), Fail> {
     Ok(())
 }
 
-#[test]
-fn a_storage_is_kept_and_undone(rt: HostRuntime) -> Result<(), Fail> {
-    let alloc = rt.alloc();
-    let mut world = with_contract(alloc)?;
-    let before = tell(&world);
-    assert!(rt; stored(&world) == 4);
-    let mark = world.mark();
-    world.commit(alloc, &HASH, Value::Number(5))?;
-    assert!(rt; stored(&world) == 5);
-    world.undo_to(mark);
-    assert!(rt; tell(&world) == before);
-    Ok(())
-}
-
 // 50,000 accounts with 1 mutez each.
 fn many_accounts(alloc: Global) -> Result<World, GrantError> {
     let mut world = World::new(alloc, ChainId { body: [0; 4] }, 0, 0);

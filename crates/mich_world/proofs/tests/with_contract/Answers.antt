@@ -4,7 +4,7 @@ use Rattle.mich_bigmap.specs.Layers.{BasedLayer}
 use Rattle.mich_world.proofs.tests.with_contract.Goals as goal
 
 pub install-requires-clause-formed : goal.install-requires-clause-formed
-install-requires-clause-formed c c' = each.of_number FormedLayer _
+install-requires-clause-formed c = each.of_number FormedLayer _
 
 pub install-requires-clause-based : goal.install-requires-clause-based
-install-requires-clause-based c c' = each.of_number (BasedLayer _) _
+install-requires-clause-based c = each.of_number (BasedLayer _) _
