@@ -26,8 +26,8 @@ pub(crate) fn join(alloc: Global, first: &[u8], second: &[u8]) -> Result<Option<
     Ok(Some(bytes))
 }
 
-// The bytes of a string or of bytes.
-fn bytes_of(value: &Value) -> &[u8]
+/// The bytes of a string or of bytes; none of another value.
+pub fn bytes_of(value: &Value) -> &[u8]
     ensures { (big : Sight) → result.now ≡ bytes_of (seen big value.now) }
 {
     match value {
@@ -54,8 +54,8 @@ pub(crate) fn join_all(alloc: Global, list: &Chain<Value>) -> Result<Option<Vec<
     Ok(Some(bytes))
 }
 
-// So many bytes from an offset. None where they don't lie within.
-pub(crate) fn cut(bytes: &[u8], offset: i128, count: i128) -> Option<&[u8]>
+/// So many bytes from an offset. None where the offset isn't within, or there are not so many behind it (Michelson reference, "SLICE").
+pub fn cut(bytes: &[u8], offset: i128, count: i128) -> Option<&[u8]>
     requires offset { pos 0 ≤ℤ offset }
     requires count { pos 0 ≤ℤ count }
     ensures { option_map (λ s. s.now) result ≡ slice (unsigned_abs offset) (unsigned_abs count) bytes.now }

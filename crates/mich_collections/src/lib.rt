@@ -10,7 +10,9 @@ mod tables;
 mod taking;
 mod texts;
 
+pub use bytes::{bytes_of, cut};
 pub use collections::collection_step;
+pub use tables::value_in;
 pub use texts::text_step;
 
 #[cfg(test)]

@@ -31,6 +31,14 @@ pub(crate) fn map_size(table: &Table<Value>) -> Value
     count_value(table.len())
 }
 
+/// The value at a key of a map, however big maps in it are seen. None where there is no entry.
+#[tactic(auto, using(crate::proofs::Entries::found_is))]
+pub fn value_in<'a>(table: &'a Table<Value>, key: &Datum) -> Option<&'a Value>
+    ensures { (big : Sight) → option_map (λ v. seen big v.now) result ≡ value_at (datum key.now) (pairs_by big table.now) }
+{
+    table.get(key)
+}
+
 // Whether a map has an entry at a key.
 #[tactic(auto, using(crate::proofs::Entries::found_is, crate::proofs::Entries::some_mapped))]
 pub(crate) fn has_key(table: &Table<Value>, key: &Datum) -> bool

@@ -39,7 +39,7 @@ fn act_step(alloc: Global, m: &mut State, costs: &Costs, instr: &Simple) -> Resu
     ensures less { IfOk result (λ a. Spends a m.old.meter m.new.meter) }
     ensures keeps { IfOk result (λ a. KeepsAct a m.old m.new) }
 {
-    let weight = weigh(instr, &m.stack)?;
+    let weight = weigh(alloc, instr, &m.stack)?;
     if !pay_capped(&mut m.meter, costs, price(instr), weight) {
         return Ok(Act::Failed(Failed::OutOfGas));
     }

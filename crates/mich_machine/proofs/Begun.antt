@@ -55,7 +55,7 @@ use Rattle.mich_instr.specs.declared.instr.Script.{Script, out-Script}
 use Rattle.mich_instr.specs.declared.instr.Script as scripts
 use Rattle.mich_interpreter.specs.Begins.{Opens}
 use Rattle.mich_interpreter.specs.Ends.{KeepsState, failure}
-use Rattle.mich_interpreter.specs.Runs.{IsEnd, state_of}
+use Rattle.mich_interpreter.specs.Runs.{IsEnd}
 use Rattle.mich_interpreter.specs.View.{Beyond, tops, around, tally}
 use Rattle.mich_interpreter.specs.declared.act.Failed.{Failed}
 use Rattle.mich_interpreter.specs.declared.state.Counts.{Counts}

@@ -1,2 +1,4 @@
 pub mod Weighed
 pub mod Sums
+pub mod Cutting
+pub mod Joining

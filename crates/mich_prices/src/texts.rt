@@ -1,15 +1,19 @@
 // What instructions on strings and bytes weigh.
-ghost use Rattle.std.specs.Prelude.{◌≡◌, IfOk};
+ghost use Rattle.std.specs.Prelude.{◌≡◌, ◌+◌, pos, length, unsigned_abs, IfOk};
 ghost use Rattle.rules_instructions.specs.Straight as i;
-ghost use Rattle.rules_steps.specs.Costs.{text_weight};
+ghost use Rattle.rules_steps.specs.Costs.{length_found, text_weight};
+ghost use Rattle.rules_steps.specs.Sets.{element_count};
+ghost use Rattle.rules_steps.specs.Texts.{joined, slice};
+ghost use Rattle.mich_collections.specs.Seen.{vals_by};
 ghost use Rattle.mich_overload.specs.View.{text_row};
 ghost use Rattle.mich_term.specs.Weights.{capped};
 ghost use Rattle.mich_stack.specs.Views.{Sight, values};
 
 use mich_base::{Memory, Rows};
+use mich_collections::{bytes_of, cut};
 use mich_overload::TextRow;
-use mich_stack::two_on_top;
-use mich_term::Value;
+use mich_stack::{split_top, three_on_top, two_on_top};
+use mich_term::{Chain, Value, split_head};
 
 // Those of two strings.
 fn strings_weight(stack: &Rows<Value>) -> Result<u64, Memory>
@@ -35,7 +39,80 @@ fn bytes_weight(stack: &Rows<Value>) -> Result<u64, Memory>
     }
 }
 
-// What one weighs, up to 2^64-1. Memory where the stack doesn't fit it; and so far for those that go over a list or cut.
+// Those of all strings or bytes of a list, and the number of them.
+fn list_weight(list: &Chain<Value>) -> u64
+    ensures { (big : Sight) → result ≡ capped (length (joined (vals_by big list.now)) + element_count (vals_by big list.now)) }
+{
+    let mut total: u64 = 0;
+    let mut left = list.as_reversed_slice();
+    while let Some((value, rest)) = split_head(left) {
+        total = total.saturating_add(bytes_of(value).len() as u64).saturating_add(1);
+        left = rest;
+    }
+    total
+}
+
+// Those of the list on top.
+fn joined_weight(stack: &Rows<Value>) -> Result<u64, Memory>
+    ensures strings { IfOk result (λ w. (big : Sight) → w ≡ capped (text_weight i.concat_string_list (values big stack.now))) }
+    ensures bytes { IfOk result (λ w. (big : Sight) → w ≡ capped (text_weight i.concat_bytes_list (values big stack.now))) }
+{
+    match split_top(stack.as_slice()) {
+        Some((Value::List(list), _)) => Ok(list_weight(list)),
+        _ => Err(Memory),
+    }
+}
+
+// Those that are cut.
+fn cut_weight(bytes: &[u8], offset: &i128, count: &i128) -> Result<u64, Memory>
+    ensures { IfOk result (λ w. (pos (unsigned_abs offset.now) ≡ offset.now) × (pos (unsigned_abs count.now) ≡ count.now) × (w ≡ capped (length_found (slice (unsigned_abs offset.now) (unsigned_abs count.now) bytes.now)))) }
+{
+    if *offset < 0 || *count < 0 {
+        return Err(Memory);
+    }
+    match cut(bytes, *offset, *count) {
+        Some(found) => Ok(found.len() as u64),
+        None => Ok(0),
+    }
+}
+
+fn slice_weight(stack: &Rows<Value>) -> Result<u64, Memory>
+    ensures { IfOk result (λ w. (big : Sight) → w ≡ capped (text_weight i.slice_string (values big stack.now))) }
+{
+    let Some((offset, count, s, _)) = three_on_top(stack.as_slice()) else {
+        return Err(Memory);
+    };
+    let Value::Number(offset) = offset else {
+        return Err(Memory);
+    };
+    let Value::Number(count) = count else {
+        return Err(Memory);
+    };
+    let Value::Text(s) = s else {
+        return Err(Memory);
+    };
+    cut_weight(s.as_slice(), offset, count)
+}
+
+fn bytes_slice_weight(stack: &Rows<Value>) -> Result<u64, Memory>
+    ensures { IfOk result (λ w. (big : Sight) → w ≡ capped (text_weight i.slice_bytes (values big stack.now))) }
+{
+    let Some((offset, count, s, _)) = three_on_top(stack.as_slice()) else {
+        return Err(Memory);
+    };
+    let Value::Number(offset) = offset else {
+        return Err(Memory);
+    };
+    let Value::Number(count) = count else {
+        return Err(Memory);
+    };
+    let Value::Bytes(s) = s else {
+        return Err(Memory);
+    };
+    cut_weight(s.as_slice(), offset, count)
+}
+
+// What one weighs, up to 2^64-1. Memory where the stack doesn't fit it.
 pub(crate) fn text_weight(row: &TextRow, stack: &Rows<Value>) -> Result<u64, Memory>
     ensures { IfOk result (λ w. (big : Sight) → w ≡ capped (text_weight (text_row row.now) (values big stack.now))) }
 {
@@ -43,6 +120,8 @@ pub(crate) fn text_weight(row: &TextRow, stack: &Rows<Value>) -> Result<u64, Mem
         TextRow::SizeString | TextRow::SizeBytes => Ok(0),
         TextRow::ConcatStrings => Ok(strings_weight(stack)?),
         TextRow::ConcatBytes => Ok(bytes_weight(stack)?),
-        _ => Err(Memory),
+        TextRow::ConcatStringList | TextRow::ConcatBytesList => Ok(joined_weight(stack)?),
+        TextRow::SliceString => Ok(slice_weight(stack)?),
+        TextRow::SliceBytes => Ok(bytes_slice_weight(stack)?),
     }
 }

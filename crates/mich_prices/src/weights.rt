@@ -1,7 +1,7 @@
 // What instructions without bodies weigh on a stack.
-ghost use Rattle.std.specs.Prelude.{◌≡◌, List, take, slice_get, option_map, IfOk};
+ghost use Rattle.std.specs.Prelude.{◌≡◌, take, slice_get, option_map, IfOk};
 ghost use Rattle.std.specs.List.{sum_by};
-ghost use Rattle.rules_values.specs.Val.{Val};
+ghost use Rattle.rules_instructions.specs.Straight as i;
 ghost use Rattle.rules_values.specs.Weight.{weight as whole};
 ghost use Rattle.rules_steps.specs.Costs.{weight_of, weight_found, stack_weight, collection_weight};
 ghost use Rattle.mich_overload.specs.View.{straight, stack_row, collection_row};
@@ -10,9 +10,11 @@ ghost use Rattle.mich_stack.specs.Views.{Sight, seen, values};
 
 use crate::texts::text_weight;
 use mich_base::{Memory, Rows};
+use mich_collections::value_in;
 use mich_overload::{CollectionRow, Simple, StackRow};
-use mich_stack::read_at;
+use mich_stack::{read_at, two_on_top};
 use mich_term::{Value, weight};
+use std::alloc::Global;
 
 // The weight of a value that may be there.
 fn found_weight(value: Option<&Value>) -> u64
@@ -52,24 +54,41 @@ fn order_weight(row: &StackRow, stack: &Rows<Value>) -> u64
     }
 }
 
-// What one on collections weighs. Memory, so far, where a value is looked up.
-fn collection_weight(row: &CollectionRow) -> Result<u64, Memory>
-    ensures { IfOk result (λ w. (V : List Val) → w ≡ capped (collection_weight (collection_row row.now) V)) }
+// The weight of the value that GET finds in the map on top.
+fn map_weight(alloc: Global, stack: &Rows<Value>) -> Result<u64, Memory>
+    ensures { IfOk result (λ w. (big : Sight) → w ≡ capped (collection_weight i.get_map (values big stack.now))) }
+{
+    let Some((key, table, _)) = two_on_top(stack.as_slice()) else {
+        return Err(Memory);
+    };
+    let Value::Map(table) = table else {
+        return Err(Memory);
+    };
+    let Some(key) = key.datum(alloc)? else {
+        return Err(Memory);
+    };
+    Ok(found_weight(value_in(table, &key)))
+}
+
+// What one on collections weighs. Memory, so far, where a value is looked up in a big map.
+fn collection_weight(alloc: Global, row: &CollectionRow, stack: &Rows<Value>) -> Result<u64, Memory>
+    ensures { IfOk result (λ w. (big : Sight) → w ≡ capped (collection_weight (collection_row row.now) (values big stack.now))) }
 {
     match row {
-        CollectionRow::GetMap | CollectionRow::GetBigMap => Err(Memory),
+        CollectionRow::GetMap => Ok(map_weight(alloc, stack)?),
+        CollectionRow::GetBigMap => Err(Memory),
         _ => Ok(0),
     }
 }
 
 /// What an instruction weighs on a stack, up to 2^64-1. Memory where the stack doesn't fit it; and, so far, for those that look a
-/// value up, cut, go over a list of strings or bytes, pack or hash (this host's cost table).
-pub fn weigh(instr: &Simple, stack: &Rows<Value>) -> Result<u64, Memory>
+/// value up in a big map, pack or hash (this host's cost table).
+pub fn weigh(alloc: Global, instr: &Simple, stack: &Rows<Value>) -> Result<u64, Memory>
     ensures { IfOk result (λ w. (big : Sight) → w ≡ capped (weight_of (straight instr.now) (values big stack.now))) }
 {
     match instr {
         Simple::Stack(row) => Ok(order_weight(row, stack)),
-        Simple::Collections(row) => Ok(collection_weight(row)?),
+        Simple::Collections(row) => Ok(collection_weight(alloc, row, stack)?),
         Simple::Texts(row) => Ok(text_weight(row, stack)?),
         Simple::Hashes(_) => Err(Memory),
         _ => Ok(0),

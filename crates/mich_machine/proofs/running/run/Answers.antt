@@ -1,6 +1,7 @@
 use Rattle.std.proofs.Common.{subst, ◌≡◌, Bool, true, false, Some, None, refl, sym, ap, ◌∙◌, is_some}
-use Rattle.mich_interpreter.specs.Ends.{KeepsState}
-use Rattle.mich_interpreter.specs.Runs.{IsEnd, state_of}
+use Rattle.mich_undo.specs.History.{Keeps as KeepsBooks}
+use Rattle.mich_interpreter.specs.Ends.{KeepsPast, KeepsState}
+use Rattle.mich_interpreter.specs.Runs.{IsEnd, KeepsEnd}
 use Rattle.mich_interpreter.specs.declared.machine.Ended.{Ended}
 use Rattle.mich_interpreter.specs.declared.state.State.{State}
 use Rattle.mich_world.proofs.Marks.{world_trans, ledger_lent}
@@ -54,7 +55,7 @@ finish-requires c =
     let left = c.in-Stack.left in
     let same = state_is q k there value seen_so gas c.in_ok-begun.begun b.stack b.meter b.counts b.env b.ledger b.issued in
     let keeps : KeepsState (begun q k there value seen_so gas) left =
-    subst (λ (s : State). KeepsState s left) same (subst (λ (d : Ended). KeepsState c.in_ok-begun.begun (state_of d)) c.in-Stack.is c.in_ok-left.ensures.keeps) in
+    subst (λ (s : State). KeepsState s left) same (subst (λ (d : Ended). KeepsEnd d c.in_ok-begun.begun) c.in-Stack.is c.in_ok-left.ensures.keeps) in
     let ends = subst (λ (d : Ended). IsEnd d (x q k there) (Z q k there value seen_so gas) (o q k there value seen_so gas)) c.in-Stack.is
     (c.in_ok-left.ensures.ends (x q k there) (Z q k there value seen_so gas) (o q k there value seen_so gas)
     (opens_at q k there value seen_so gas c.in_ok-code.code c.in_ok-begun.begun c.in_ok-code.ensures.code same)) in
@@ -78,7 +79,7 @@ returns-clause-ends c = λ w t h.
       | in-Stack d ↦
           let left = d.in-Stack.left in
           let keeps : KeepsState (begun q k there value seen_so gas) left =
-          subst (λ (s : State). KeepsState s left) same (subst (λ (e : Ended). KeepsState c.in_ok-begun.begun (state_of e)) d.in-Stack.is c.in_ok-left.ensures.keeps) in
+          subst (λ (s : State). KeepsState s left) same (subst (λ (e : Ended). KeepsEnd e c.in_ok-begun.begun) d.in-Stack.is c.in_ok-left.ensures.keeps) in
           let end = subst (λ (e : Ended). IsEnd e (x q k there) (Z q k there value seen_so gas) (o q k there value seen_so gas)) d.in-Stack.is ends in
           let world : d.put_ledger.new.world ≡ with_ledger q.v left.ledger =
           d.put_ledger.ensures ∙ ap (λ (v : World). with_ledger v left.ledger) c.in_ok-begun.ensures.world in
@@ -101,17 +102,18 @@ returns-clause-keeps c =
     let gas = c.args.meter.now in
     let b = c.in_ok-begun.ensures in
     let same = state_is q k there value seen_so gas c.in_ok-begun.begun b.stack b.meter b.counts b.env b.ledger b.issued in
-    let lent : (left : State) (v : World) → v ≡ with_ledger c.state.new.world left.ledger → KeepsState c.in_ok-begun.begun left → KeepsWorld q.v v = λ left v e s.
-    let keeps : KeepsState (begun q k there value seen_so gas) left = subst (λ (m : State). KeepsState m left) same s in
+    let lent : (left : State) (v : World) → v ≡ with_ledger c.state.new.world left.ledger → KeepsBooks c.in_ok-begun.begun.ledger.books left.ledger.books → KeepsWorld q.v v = λ left v e s.
+    let books : KeepsBooks (begun q k there value seen_so gas).ledger.books left.ledger.books = subst (λ (m : State). KeepsBooks m.ledger.books left.ledger.books) same s in
     let world : v ≡ with_ledger q.v left.ledger = e ∙ ap (λ (u : World). with_ledger u left.ledger) c.in_ok-begun.ensures.world in
-    subst (λ (z : World). KeepsWorld q.v z) (sym world) (ledger_lent q.v q.v.ledger left.ledger refl keeps.books) in
+    subst (λ (z : World). KeepsWorld q.v z) (sym world) (ledger_lent q.v q.v.ledger left.ledger refl books) in
     elim c.match-branch-4.branch [
       | in-Stack d ↦
-          let first = lent d.in-Stack.left d.put_ledger.new.world d.put_ledger.ensures (subst (λ (e : Ended). KeepsState c.in_ok-begun.begun (state_of e)) d.in-Stack.is c.in_ok-left.ensures.keeps) in
+          let first = lent d.in-Stack.left d.put_ledger.new.world d.put_ledger.ensures
+          (let end : KeepsState c.in_ok-begun.begun d.in-Stack.left = subst (λ (e : Ended). KeepsEnd e c.in_ok-begun.begun) d.in-Stack.is c.in_ok-left.ensures.keeps in end.books) in
           kept_as_said _ _ _ _ _ d.world-is d.result-is
           (with_memory d.finish.result (λ later. world_trans _ _ _ first later) d.finish.ensures.keeps)
       | in-Failed+in_ok-tell-in-Failed d ↦
           kept_as_said _ _ _ _ _ d.world-is d.result-is
           (lent d.in-Failed.left d.put_ledger-in-Failed.new.world d.put_ledger-in-Failed.ensures
-          (subst (λ (e : Ended). KeepsState c.in_ok-begun.begun (state_of e)) d.in-Failed.is c.in_ok-left.ensures.keeps))
+          (let end : KeepsPast c.in_ok-begun.begun d.in-Failed.left = subst (λ (e : Ended). KeepsEnd e c.in_ok-begun.begun) d.in-Failed.is c.in_ok-left.ensures.keeps in end.books))
     ]
