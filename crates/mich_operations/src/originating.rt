@@ -48,12 +48,7 @@ fn typed_script(alloc: Global, node: &Node) -> Result<Script, ApplyError>
 }
 
 // The storage of a type that a node spells in a world.
-fn read_storage(
-    alloc: Global,
-    world: &World,
-    ty: &Ty,
-    node: &Node,
-) -> Result<Value, ApplyError>
+fn read_storage(alloc: Global, world: &World, ty: &Ty, node: &Node) -> Result<Value, ApplyError>
     requires small { size (tree node.now) < 2 ^ 32 }
     requires typed { HasTypedScripts world.now }
     ensures storage { (w : PlainWorld) → StandsFor world.now w → IsStorageOf (literal_in w (kind ty.now) (tree node.now)) result }
@@ -93,5 +88,13 @@ pub(crate) fn originate(
     let hash = new_contract(counts.group, counts.originated);
     counts.originated += 1;
     let from = Place::Implicit(*source);
-    found(alloc, world, &from, hash, balance, Shared::new(alloc, typed)?, value)
+    found(
+        alloc,
+        world,
+        &from,
+        hash,
+        balance,
+        Shared::new(alloc, typed)?,
+        value,
+    )
 }

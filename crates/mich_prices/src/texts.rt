@@ -46,7 +46,9 @@ fn list_weight(list: &Chain<Value>) -> u64
     let mut total: u64 = 0;
     let mut left = list.as_reversed_slice();
     while let Some((value, rest)) = split_head(left) {
-        total = total.saturating_add(bytes_of(value).len() as u64).saturating_add(1);
+        total = total
+            .saturating_add(bytes_of(value).len() as u64)
+            .saturating_add(1);
         left = rest;
     }
     total

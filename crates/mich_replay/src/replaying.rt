@@ -19,7 +19,12 @@ use mich_report::state_lines;
 use std::alloc::Global;
 
 // The answer behind all statements of a file of so many bytes.
-fn ended(alloc: Global, course: Option<Course>, mut lines: Texts, size: u64) -> Result<Answer, Memory>
+fn ended(
+    alloc: Global,
+    course: Option<Course>,
+    mut lines: Texts,
+    size: u64,
+) -> Result<Answer, Memory>
     requires { (p : Option PlainCourse) × FollowsIf course p }
     ensures { (p : Option PlainCourse) → FollowsIf course p → IfOk result (λ a. answer_seen a ≡ closing lines (ending_of size p)) }
 {

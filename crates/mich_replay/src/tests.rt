@@ -200,10 +200,7 @@ static REFUSED: [(&str, &str); 20] = [
     ("Foo", "Refused BadStatement 0\n"),
     ("Foo ; 12a", "Refused BadStatement 0\n"),
     ("  Chain 0x7a06a770 1 0 0", "Refused BadStatement 2\n"),
-    (
-        "Chain 0x7a06a770 1 0 ; Block 1 0",
-        "Refused BadOrder 23\n",
-    ),
+    ("Chain 0x7a06a770 1 0 ; Block 1 0", "Refused BadOrder 23\n"),
     (
         "Chain 0x7a06a770 1 0 ; Chain 0x7a06a770 1 0",
         "Refused BadOrder 23\n",

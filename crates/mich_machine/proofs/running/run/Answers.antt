@@ -15,21 +15,60 @@ use Rattle.mich_machine.proofs.running.run.Goals as goal
 
 pub unreachable-requires : goal.unreachable-requires
 unreachable-requires c =
-    let q : Asked = record { v = c.args.world.now; w = c.requires.called.0; costs = c.args.costs.now; counts = c.args.counts.now; to = c.args.to.now; name = c.args.name.now;
-      argument = c.args.argument; env = c.args.env.now; t = c.requires.called.1; h = c.requires.hosting; formed = c.requires.formed; based = c.requires.based; c = c.requires.called.2 } in
+    let q : Asked = record {
+      v = c.args.world.now;
+      w = c.requires.called.0;
+      costs = c.args.costs.now;
+      counts = c.args.counts.now;
+      to = c.args.to.now;
+      name = c.args.name.now;
+      argument = c.args.argument;
+      env = c.args.env.now;
+      t = c.requires.called.1;
+      h = c.requires.hosting;
+      formed = c.requires.formed;
+      based = c.requires.based;
+      c = c.requires.called.2;
+    } in
     let none : None ≡ contract_at c.args.world.now.funds.present c.args.to.now = c.in_default.ensures in
     let off : false ≡ true = ap is_some none ∙ called_there q in cc
 
 pub opening-requires : goal.opening-requires
 opening-requires c =
-    let q : Asked = record { v = c.args.world.now; w = c.requires.called.0; costs = c.args.costs.now; counts = c.args.counts.now; to = c.args.to.now; name = c.args.name.now;
-      argument = c.args.argument; env = c.args.env.now; t = c.requires.called.1; h = c.requires.hosting; formed = c.requires.formed; based = c.requires.based; c = c.requires.called.2 } in
+    let q : Asked = record {
+      v = c.args.world.now;
+      w = c.requires.called.0;
+      costs = c.args.costs.now;
+      counts = c.args.counts.now;
+      to = c.args.to.now;
+      name = c.args.name.now;
+      argument = c.args.argument;
+      env = c.args.env.now;
+      t = c.requires.called.1;
+      h = c.requires.hosting;
+      formed = c.requires.formed;
+      based = c.requires.based;
+      c = c.requires.called.2;
+    } in
     entry_some q c.in-Some.contract.now (sym c.in-Some.ensures)
 
 pub run_code-requires : goal.run_code-requires
 run_code-requires c =
-    let q : Asked = record { v = c.args.world.now; w = c.requires.called.0; costs = c.args.costs.now; counts = c.args.counts.now; to = c.args.to.now; name = c.args.name.now;
-      argument = c.args.argument; env = c.args.env.now; t = c.requires.called.1; h = c.requires.hosting; formed = c.requires.formed; based = c.requires.based; c = c.requires.called.2 } in
+    let q : Asked = record {
+      v = c.args.world.now;
+      w = c.requires.called.0;
+      costs = c.args.costs.now;
+      counts = c.args.counts.now;
+      to = c.args.to.now;
+      name = c.args.name.now;
+      argument = c.args.argument;
+      env = c.args.env.now;
+      t = c.requires.called.1;
+      h = c.requires.hosting;
+      formed = c.requires.formed;
+      based = c.requires.based;
+      c = c.requires.called.2;
+    } in
     let k = c.in-Some.contract.now in
     let there : contract_at q.v.funds.present q.to ≡ Some k = sym c.in-Some.ensures in
     let value = c.in_ok-code.value in
@@ -44,8 +83,21 @@ run_code-requires c =
 
 pub finish-requires : goal.finish-requires
 finish-requires c =
-    let q : Asked = record { v = c.args.world.now; w = c.requires.called.0; costs = c.args.costs.now; counts = c.args.counts.now; to = c.args.to.now; name = c.args.name.now;
-      argument = c.args.argument; env = c.args.env.now; t = c.requires.called.1; h = c.requires.hosting; formed = c.requires.formed; based = c.requires.based; c = c.requires.called.2 } in
+    let q : Asked = record {
+      v = c.args.world.now;
+      w = c.requires.called.0;
+      costs = c.args.costs.now;
+      counts = c.args.counts.now;
+      to = c.args.to.now;
+      name = c.args.name.now;
+      argument = c.args.argument;
+      env = c.args.env.now;
+      t = c.requires.called.1;
+      h = c.requires.hosting;
+      formed = c.requires.formed;
+      based = c.requires.based;
+      c = c.requires.called.2;
+    } in
     let k = c.in-Some.contract.now in
     let there : contract_at q.v.funds.present q.to ≡ Some k = sym c.in-Some.ensures in
     let value = c.in_ok-code.value in
@@ -64,8 +116,21 @@ finish-requires c =
 
 pub returns-clause-ends : goal.returns-clause-ends
 returns-clause-ends c = λ w t h.
-    let q : Asked = record { v = c.args.world.now; w = w; costs = c.args.costs.now; counts = c.args.counts.now; to = c.args.to.now; name = c.args.name.now;
-      argument = c.args.argument; env = c.args.env.now; t = t; h = c.requires.hosting; formed = c.requires.formed; based = c.requires.based; c = h } in
+    let q : Asked = record {
+      v = c.args.world.now;
+      w = w;
+      costs = c.args.costs.now;
+      counts = c.args.counts.now;
+      to = c.args.to.now;
+      name = c.args.name.now;
+      argument = c.args.argument;
+      env = c.args.env.now;
+      t = t;
+      h = c.requires.hosting;
+      formed = c.requires.formed;
+      based = c.requires.based;
+      c = h;
+    } in
     let k = c.in-Some.contract.now in
     let there : contract_at q.v.funds.present q.to ≡ Some k = sym c.in-Some.ensures in
     let value = c.in_ok-code.value in
@@ -93,8 +158,21 @@ returns-clause-ends c = λ w t h.
 
 pub returns-clause-keeps : goal.returns-clause-keeps
 returns-clause-keeps c =
-    let q : Asked = record { v = c.args.world.now; w = c.requires.called.0; costs = c.args.costs.now; counts = c.args.counts.now; to = c.args.to.now; name = c.args.name.now;
-      argument = c.args.argument; env = c.args.env.now; t = c.requires.called.1; h = c.requires.hosting; formed = c.requires.formed; based = c.requires.based; c = c.requires.called.2 } in
+    let q : Asked = record {
+      v = c.args.world.now;
+      w = c.requires.called.0;
+      costs = c.args.costs.now;
+      counts = c.args.counts.now;
+      to = c.args.to.now;
+      name = c.args.name.now;
+      argument = c.args.argument;
+      env = c.args.env.now;
+      t = c.requires.called.1;
+      h = c.requires.hosting;
+      formed = c.requires.formed;
+      based = c.requires.based;
+      c = c.requires.called.2;
+    } in
     let k = c.in-Some.contract.now in
     let there : contract_at q.v.funds.present q.to ≡ Some k = sym c.in-Some.ensures in
     let value = c.in_ok-code.value in
