@@ -2,19 +2,14 @@
 use Rattle.std.specs.Prelude.{◌≡◌, ◌-◌, ℕ, nat_lt, true, false, List, Result, Ok, Err}
 use Rattle.rules_gas.specs.declared.Kind.{Kind}
 use Rattle.rules_gas.specs.Prices.{Listed, cost}
-use Rattle.rules_types.specs.Kind.{Kind as TypeKind}
 use Rattle.rules_typing.specs.Fits.{is_place}
 use Rattle.rules_world.specs.Arguments.{Argument}
 use Rattle.rules_world.specs.Forms.{IsWorld}
-use Rattle.rules_world.specs.Good.{FitsIn, MayRun}
 use Rattle.rules_world.specs.Transfers.{Transaction}
 use Rattle.rules_world.specs.World.{World as PlainWorld}
-use Rattle.mich_bigmap.specs.Standing.{val_in}
 use Rattle.mich_forms.specs.Spelled.{place_bytes}
 use Rattle.mich_forms.specs.declared.places.Place.{Place}
-use Rattle.mich_forms.specs.declared.places.Place.TheVariants as place
 use Rattle.mich_ops.specs.declared.failure.Failure.TheVariants.{OutOfGas}
-use Rattle.mich_term.specs.declared.value.Value.{Value}
 use Rattle.mich_world.specs.Standing.{StandsFor}
 use Rattle.mich_world.specs.World.{World}
 use Rattle.mich_operations.specs.declared.applied.ApplyError.{ApplyError}
@@ -43,10 +38,3 @@ pub record AreBetween (v : World) (w : PlainWorld) (from to : Place) : Type 0 wh
   pub form : IsWorld w
   pub sender : is_place (place_bytes from) ≡ true
   pub receiver : is_place (place_bytes to) ≡ true
-
--- and a value goes with them, which has a type and for which there is room
-pub record IsSent (v : World) (w : PlainWorld) (from : Place) (to : List ℕ) (value : Value) : Type 0 where
-  pub between : AreBetween v w from (place.Implicit to)
-  pub kind : TypeKind
-  pub fits : FitsIn w kind (val_in v.store.bases.present value)
-  pub may : MayRun w (val_in v.store.bases.present value)

@@ -1,12 +1,10 @@
 // Transfers to accounts.
-ghost use Rattle.std.specs.Prelude.{◌≡◌, ◌<◌, ◌^◌, [], ℕ, true, is_some, Some, None, IfOk};
+ghost use Rattle.std.specs.Prelude.{◌≡◌, ◌<◌, ◌^◌, [], ℕ, true, Some, None, IfOk};
 ghost use Rattle.rules_base.specs.Tree.{size};
 ghost use Rattle.rules_world.specs.Arguments.{Argument, node};
-ghost use Rattle.rules_world.specs.Arguments as rules;
 ghost use Rattle.rules_world.specs.Transfers.{as_ticket, to_account, with_taken};
 ghost use Rattle.rules_world.specs.World.{World as PlainWorld};
 ghost use Rattle.mich_base.specs.View.{tree};
-ghost use Rattle.mich_bigmap.specs.Bases.{Bases};
 ghost use Rattle.mich_bigmap.specs.Standing.{val_in};
 ghost use Rattle.mich_forms.specs.declared.places.Place.TheVariants as place;
 ghost use Rattle.mich_machine.specs.Calls.{counts_of, IsHosting};
@@ -15,15 +13,14 @@ ghost use Rattle.mich_ops.specs.declared.receipt.Effect.TheVariants as effect;
 ghost use Rattle.mich_world.specs.Holders.{may_receive};
 ghost use Rattle.mich_world.specs.Marks.{KeepsWorld};
 ghost use Rattle.mich_operations.specs.Going.{EndsAs, KeepsContracts};
-ghost use Rattle.mich_operations.specs.Transfers.{AreBetween, IsSent, transaction};
+ghost use Rattle.mich_operations.specs.Transfers.{AreBetween, transaction};
 
 use crate::applied::{Applied, ApplyError};
-use crate::crediting::credit;
 use crate::printing::{is_unit, printed};
 use mich_base::{Node, Rows};
 use mich_forms::{Address, Entrypoint, KeyHash, Place};
 use mich_ops::{Effect, Failure};
-use mich_term::{Value, abandon};
+use mich_term::Value;
 use mich_world::{MoveError, World};
 use std::alloc::Global;
 
@@ -106,79 +103,4 @@ pub(crate) fn call_account(
     }
     let from = Place::Implicit(*source);
     pay_account(alloc, world, &from, to, entry, amount, &Value::Unit)
-}
-
-// Whether a value is a ticket.
-fn is_ticket(value: &Value) -> bool
-    ensures { (bs : Bases) → result ≡ is_some (as_ticket (val_in bs value.now)) }
-{
-    match value {
-        Value::Ticket(_) => true,
-        _ => false,
-    }
-}
-
-// Mutez go from a place to an account, and a ticket with them.
-fn send_ticket(
-    alloc: Global,
-    world: &mut World,
-    from: &Place,
-    to: &KeyHash,
-    entry: &Entrypoint,
-    amount: u64,
-    value: Value,
-) -> Result<Applied, ApplyError>
-    requires there { may_receive world.old.funds.present from.now ≡ true }
-    requires sent { (w : PlainWorld) × IsSent world.old w from.now to.now value }
-    requires ticket { (bs : Bases) → is_some (as_ticket (val_in bs value)) ≡ true }
-    requires hosting { IsHosting world.old }
-    ensures ends { (w : PlainWorld) (argument : Argument) (gas : ℕ) (counts : Counts) → IsSent world.old w from.now to.now value → EndsAs (with_taken (Some (val_in world.old.store.bases.present value)) w (transaction from.now (place.Implicit to.now) entry.now amount argument) gas (counts_of counts)) world.new gas counts counts result }
-    ensures hosting { IfOk result (λ _. IsHosting world.new) }
-    ensures contracts { KeepsContracts world.old world.new }
-    ensures store { world.new.store ≡ world.old.store }
-    ensures keeps { KeepsWorld world.old world.new }
-{
-    let argument = printed(alloc, world.store(), &value)?;
-    match world.move_mutez(*from, Place::Implicit(*to), amount) {
-        Ok(()) => {}
-        Err(MoveError::BalanceTooLow) => return Err(ApplyError::Failed(Failure::BalanceTooLow)),
-        Err(MoveError::NoContract) => unreachable!(),
-        Err(MoveError::Memory) => return Err(ApplyError::Memory),
-    }
-    let Value::Ticket(ticket) = value else {
-        unreachable!();
-    };
-    credit(alloc, world, to, ticket.into_value())?;
-    Ok(moved(alloc, from, to, entry, amount, argument))
-}
-
-// What a contract sends goes to an account: mutez, or a ticket and mutez with it.
-pub(crate) fn send_account(
-    alloc: Global,
-    world: &mut World,
-    from: &Place,
-    to: &KeyHash,
-    entry: &Entrypoint,
-    amount: u64,
-    value: Value,
-) -> Result<Applied, ApplyError>
-    requires there { may_receive world.old.funds.present from.now ≡ true }
-    requires sent { (w : PlainWorld) × IsSent world.old w from.now to.now value }
-    requires hosting { IsHosting world.old }
-    ensures ends { (w : PlainWorld) (gas : ℕ) (counts : Counts) → IsSent world.old w from.now to.now value → EndsAs (to_account w (transaction from.now (place.Implicit to.now) entry.now amount (rules.value (val_in world.old.store.bases.present value))) gas (counts_of counts)) world.new gas counts counts result }
-    ensures hosting { IfOk result (λ _. IsHosting world.new) }
-    ensures contracts { KeepsContracts world.old world.new }
-    ensures store { world.new.store ≡ world.old.store }
-    ensures keeps { KeepsWorld world.old world.new }
-{
-    if !entry.is_default() {
-        abandon(value);
-        return Err(ApplyError::Failed(Failure::NoEntrypoint));
-    }
-    if is_ticket(&value) {
-        return send_ticket(alloc, world, from, to, entry, amount, value);
-    }
-    let paid = pay_account(alloc, world, from, to, entry, amount, &value);
-    abandon(value);
-    paid
 }
