@@ -96,7 +96,7 @@ views_of s = view_codes (out-Script s).views
 script_is : (s : Script) → script_code s ≡ made.script (script_node s) (kind (out-Script s).parameter.ty) (entries_of s) (kind (out-Script s).storage) (codes (code_of s)) (views_of s)
 script_is s = search (rules, scripts.the_lemmas)
 
-pub typed_is : (s : Script) → IsTypedScript s →
+typed_is : (s : Script) → IsTypedScript s →
     IsScript (script_node s) (made.script (script_node s) (kind (out-Script s).parameter.ty) (entries_of s) (kind (out-Script s).storage) (codes (code_of s)) (views_of s))
 typed_is s h = subst (IsScript (script_node s)) (script_is s) h
 
@@ -111,25 +111,9 @@ read_entries n p g es is vs t h read = by n n p g es is vs h read
         let same : record { parameter = p; entries = es; storage = g; code = seq ts; views = ws } ≡ t = found_one _ _ (sym typed ∙ read) in
         sym (ap (λ (s : PlainScript). s.entries) same)
 
--- a script that is typed is read, with its entrypoints and the type of its storage
-pub record IsRead (s : Script) : Type 0 where
-  pub plain : PlainScript
-  pub read : script (script_node s) ≡ found plain
-  pub entries : plain.entries ≡ entries_of s
-  pub storage : plain.storage ≡ kind (out-Script s).storage
-
-pub script_read : (s : Script) → IsTypedScript s → IsRead s
-script_read s h =
-    let r = by (script_node s) _ _ _ _ _ _ (typed_is s h) in
-    record { plain = r.0; read = r.1; entries = r.2; storage = r.3 }
-  where
-    by : (n m : Tree) (p g : Kind) (es : List Entry) (is : made.Codes) (vs : made.ViewCodes) → IsScript n (made.script m p es g is vs) →
-        (t : PlainScript) × (script n ≡ found t) × (t.entries ≡ es) × (t.storage ≡ g)
-    by n _ p g es is _ (is_script {ts = ts} {vs = ws} typed code view) = (record { parameter = p; entries = es; storage = g; code = seq ts; views = ws }, typed, refl, refl)
-
 -- ---- contracts
 
-pub at_one : (P : Contract → Type 0) (test : List ℕ → Bool) (cs : List (List ℕ × Contract)) (k : Contract) → AllByRecursion (λ c. P c.1) cs → lookup test cs ≡ Some k → P k
+at_one : (P : Contract → Type 0) (test : List ℕ → Bool) (cs : List (List ℕ × Contract)) (k : Contract) → AllByRecursion (λ c. P c.1) cs → lookup test cs ≡ Some k → P k
 at_one P test [] k h e = cc
 at_one P test (c ∷ cs) k h e = by (test c.0) e (λ g. at_one P test cs k h.1 g)
   where

@@ -5,3 +5,4 @@ pub mod Foundings
 pub mod Issuing
 pub mod Calling
 pub mod Orders
+pub mod Ran

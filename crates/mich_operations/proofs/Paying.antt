@@ -78,10 +78,10 @@ charged_out prices kind gas next h = ap (λ b. charged_by b (gas - cost prices k
 nonzero : (n : ℕ) → n ≢ 0 → (n == 0) ≡ false
 nonzero n h = grind (arith, nat_tests)
 
-below : (n m : ℕ) → n < m → nat_lt n m ≡ true
+pub below : (n m : ℕ) → n < m → nat_lt n m ≡ true
 below n m h = grind (arith, nat_tests)
 
-not_below : (n m : ℕ) → m ≤ n → nat_lt n m ≡ false
+pub not_below : (n m : ℕ) → m ≤ n → nat_lt n m ≡ false
 not_below n m h = grind (arith, nat_tests)
 
 module _ (w : PlainWorld) (t : Transaction) (x : Val) where
@@ -159,7 +159,7 @@ to_default w source to entry amount argument bs gas counts v r named taken h =
     ∙ ap (λ (o : Option Val). with_taken o w t gas (counts_of counts)) (taken ∙ ap Some (sym (unit_in bs))))
     h
 
-source_place : (source : List ℕ) → is_key_hash source ≡ true → is_place (implicit_place source) ≡ true
+pub source_place : (source : List ℕ) → is_key_hash source ≡ true → is_place (implicit_place source) ≡ true
 source_place source h = rw h refl
 
 -- where a source calls an account
@@ -173,7 +173,7 @@ between v w s amount entry argument to who counts e b = record {
       (All-head (IsGoodWaiting w) (ordered (Call amount (place_bytes to) entry argument)) b.next.behind b.next.going.good.waits).1.0;
 }
 
-or_false : (b : Bool) → (b || false) ≡ true → b ≡ true
+pub or_false : (b : Bool) → (b || false) ≡ true → b ≡ true
 or_false true h = refl
 or_false false h = h
 

@@ -1,3 +1,4 @@
 pub mod Going
 pub mod Transfers
 pub mod Foundings
+pub mod Calls

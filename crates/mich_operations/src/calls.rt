@@ -17,11 +17,12 @@ ghost use Rattle.mich_operations.specs.Going.{Begins, EndsAs, KeepsContracts, Wi
 
 use crate::accounts::call_account;
 use crate::applied::{Applied, ApplyError};
+use crate::arguments::argument_of;
+use crate::running::call_contract;
 use mich_base::Node;
 use mich_forms::{Entrypoint, KeyHash, Place};
 use mich_gas::{Costs, Meter};
 use mich_machine::{Bodies, Counts};
-use mich_ops::Failure;
 use mich_world::World;
 use std::alloc::Global;
 
@@ -49,9 +50,15 @@ pub(crate) fn call(
 {
     match to {
         Place::Implicit(who) => call_account(alloc, world, source, who, entry, amount, argument),
-        Place::Contract(hash) => match world.contract(hash) {
-            None => Err(ApplyError::Failed(Failure::NoContract)),
-            Some(_) => Err(ApplyError::Memory),
+        Place::Contract(hash) => match argument_of(alloc, world, hash, entry, argument) {
+            Ok(value) => {
+                let from = Place::Implicit(*source);
+                call_contract(
+                    alloc, world, costs, source, meter, counts, bodies, &from, hash, entry, amount,
+                    value,
+                )
+            }
+            Err(why) => Err(why),
         },
     }
 }

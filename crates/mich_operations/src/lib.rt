@@ -4,12 +4,14 @@
 mod accounts;
 mod action;
 mod applied;
+mod arguments;
 mod calls;
 mod charging;
 mod founding;
 mod issued;
 mod originating;
 mod printing;
+mod running;
 mod telling;
 
 pub use action::apply_action;

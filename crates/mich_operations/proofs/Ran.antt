@@ -1,0 +1,268 @@
+-- Contracts that are called, and what comes of it.
+use Rattle.std.proofs.Common.{◌≡◌, ◌≤◌, ◌<◌, ℕ, ℤ, Bool, true, false, List, [], ◌∷◌, length, map, None, Some, Ok, Err, Result, IfOk, refl, sym, ap, ◌∙◌, subst, is_some, arith}
+use Rattle.std.specs.Prelude.{nat_le, option_map}
+use Rattle.std.specs.declared.option.Option.{Option}
+use Rattle.std.specs.List.{AllByRecursion}
+use Rattle.std.proofs.lemmas.Bool.Decides.{nat_tests}
+use Rattle.rules_evaluation.specs.Operations as rules
+use Rattle.rules_evaluation.specs.Surroundings.{Contract as PlainContract}
+use Rattle.rules_forms.specs.Spelling.{contract_place, spelled_address}
+use Rattle.rules_gas.specs.Prices.{Listed}
+use Rattle.rules_steps.specs.Changes.{Change as PlainChange}
+use Rattle.rules_steps.specs.Environment.{Environment}
+use Rattle.rules_steps.specs.Failure.{balance_too_low}
+use Rattle.rules_typing.specs.Fits.{is_place}
+use Rattle.rules_values.specs.Canonical.{canonical}
+use Rattle.rules_values.specs.Val.{Val}
+use Rattle.rules_world.specs.Arguments.{Argument, value}
+use Rattle.rules_world.specs.Balances.{balance_or_none, moved}
+use Rattle.rules_world.specs.Forms.{IsWorld}
+use Rattle.rules_world.specs.Groups.{setting_of}
+use Rattle.rules_world.specs.Outcomes.{Setting, Waiting, Counts as PlainCounts, Outcome, applied, failed, stuck, issued}
+use Rattle.rules_world.specs.Receipts.{Effect as PlainEffect, Transfer}
+use Rattle.rules_world.specs.RunLaws.{IsCall}
+use Rattle.rules_world.specs.Runs.{Call, environment_of, Finished as PlainFinished, Ended, finished, run_failed, run_stuck, run_in, waiting_of, with_effect, run}
+use Rattle.rules_world.specs.Targets.{Target}
+use Rattle.rules_world.specs.Transfers.{Transaction, transfer_effect, called, if_covered}
+use Rattle.rules_world.specs.World.{World as PlainWorld, contract_at as plain_contract_at}
+use Rattle.laws_accounts.proofs.More.{Extends}
+use Rattle.laws_runs.specs.RunEnds.{IsFinished as IsFinishedRun, EndsWell}
+use Rattle.laws_runs.proofs.Runs.{runs_end_well}
+use Rattle.laws_runs.proofs.Worlds.{extends_replaced}
+use Rattle.mich_base.specs.View.{tree}
+use Rattle.mich_base.specs.declared.node.Node.{Node}
+use Rattle.mich_bigmap.specs.Bases.{Bases}
+use Rattle.mich_bigmap.specs.Stored.{Stored}
+use Rattle.mich_bigmap.specs.Standing.{val_in}
+use Rattle.mich_forms.specs.Spelled.{place_bytes}
+use Rattle.mich_forms.specs.declared.places.Place.{Place}
+use Rattle.mich_forms.specs.declared.places.Place.TheVariants as place
+use Rattle.mich_gas.specs.View.{listed}
+use Rattle.mich_gas.specs.declared.costs.Costs.{Costs}
+use Rattle.mich_instr.specs.declared.issued.Issued.{Issued}
+use Rattle.mich_interpreter.specs.declared.state.Counts.{Counts}
+use Rattle.mich_machine.specs.Calls.{Calls, counts_of, issued_in, run_of, setting}
+use Rattle.mich_machine.specs.Calls as machine
+use Rattle.mich_machine.specs.declared.running.Finished.{Finished}
+use Rattle.mich_machine.specs.declared.running.RunError.TheVariants as errors
+use Rattle.mich_ops.specs.Told.{told}
+use Rattle.mich_ops.specs.View.{failure, effect as effect_of, change as change_of}
+use Rattle.mich_ops.specs.declared.failure.Failure.{Failure as Why}
+use Rattle.mich_ops.specs.declared.receipt.Effect.TheVariants as effect
+use Rattle.mich_standing.proofs.Agreement.{contracts_agree}
+use Rattle.mich_standing.proofs.Contracts.{length_is}
+use Rattle.mich_standing.proofs.Owners.{contract_is_place}
+use Rattle.mich_step.specs.Views.{environment}
+use Rattle.mich_step.specs.declared.environment.Env.{Env}
+use Rattle.mich_term.specs.declared.ticket.Change.{Change}
+use Rattle.mich_term.specs.declared.ticket.Change.TheVariants as made
+use Rattle.mich_term.specs.declared.value.Value.{Value}
+use Rattle.mich_tickets.specs.Effects.{change}
+use Rattle.mich_world.specs.Holders.{contract_at, may_receive, balance_or_none as balance_in, moved as moved_in}
+use Rattle.mich_world.specs.Standing.{plain, StandsFor}
+use Rattle.mich_world.specs.World.{World, with_funds}
+use Rattle.mich_world.specs.declared.contract.Contract.{Contract}
+use Rattle.mich_world.proofs.Agreeing.{balance_or_none_is, moves_agree}
+use Rattle.mich_operations.specs.Calls.{call_of, covered, IsReady, IsDue}
+use Rattle.mich_operations.specs.Going.{EndsAs, KeepsContracts, WithMemory, issued_by}
+use Rattle.mich_operations.specs.Transfers.{transaction}
+use Rattle.mich_operations.specs.declared.applied.Applied.{Applied}
+use Rattle.mich_operations.specs.declared.applied.ApplyError.{ApplyError}
+use Rattle.mich_operations.specs.declared.applied.ApplyError.TheVariants.{Failed, Memory}
+use Rattle.mich_operations.proofs.Paying.{ends_along, ends_failed}
+
+-- ---- contracts that are there
+
+some_mapped : (f : Contract → PlainContract) (o : Option Contract) → is_some (option_map f o) ≡ is_some o
+some_mapped f None = refl
+some_mapped f (Some c) = refl
+
+some_one : (o : Option PlainContract) → is_some o ≡ true → (c : PlainContract) × (o ≡ Some c)
+some_one (Some c) h = (c, refl)
+some_one None h = absurd cc
+
+-- one that is there is there in the world that a world stands for
+pub there_in : (v : World) (w : PlainWorld) (hash : List ℕ) → StandsFor v w → is_some (plain_contract_at w hash) ≡ is_some (contract_at v.funds.present hash)
+there_in v w hash s = ap is_some (contracts_agree v w hash s) ∙ some_mapped (plain v.store.bases.present) (contract_at v.funds.present hash)
+
+pub twenty_of : (v : World) (w : PlainWorld) (hash : List ℕ) → StandsFor v w → IsWorld w → is_some (contract_at v.funds.present hash) ≡ true → length hash ≡ 20
+twenty_of v w hash s form there =
+    let c = some_one (plain_contract_at w hash) (there_in v w hash s ∙ there) in
+    length_is w hash c.0 form c.1
+
+-- ---- what surrounds one
+
+pub surrounds : (v : World) (w : PlainWorld) (prices : Listed) (group : ℕ) (source : List ℕ) (from : Place) (to : List ℕ) (amount : ℕ) (t : Target) (x : Val)
+    (chain : List ℕ) (level : ℕ) (now : ℤ) (balance : ℕ) → StandsFor v w → t.hash ≡ to → length to ≡ 20 → chain ≡ v.chain → level ≡ v.level → now ≡ v.moment →
+    balance ≡ balance_in v.funds.present (place.Contract to) →
+    environment (record { chain = chain; level = level; now = now; source = source; sender = from; me = to; amount = amount; balance = balance })
+    ≡ environment_of (setting_of prices group source) w (call_of from amount t x)
+surrounds v w prices group source from to amount t x chain level now balance s hash twenty is_chain is_level is_now is_balance = (λ i. record {
+  chain = (is_chain ∙ sym s.chain) i;
+  level = (is_level ∙ sym s.level) i;
+  moment = (is_now ∙ sym s.moment) i;
+  source = source;
+  sender = place_bytes from;
+  own = sym hash i;
+  amount = amount;
+  balance = (is_balance
+      ∙ balance_or_none_is v.funds.present v.store.bases.present v.ledger.books.present w (place.Contract to) s.those (contract_is_place to twenty)
+      ∙ ap (λ (h : List ℕ). balance_or_none w (contract_place h)) (sym hash)) i;
+})
+
+-- ---- one that runs
+
+module _ (v : World) (w : PlainWorld) (costs : Costs) (counts : Counts) (source : List ℕ) (from : Place) (to name : List ℕ) (amount : ℕ) (argument : Value) (t : Target) (env : Env)
+    (ready : IsReady v w (setting_of (listed costs) counts.group source) (counts_of counts) from to name amount argument t) where
+  abbrev s : Setting
+  s = setting_of (listed costs) counts.group source
+
+  abbrev x : Val
+  x = val_in v.store.bases.present argument
+
+  abbrev call : Call
+  call = call_of from amount t x
+
+  module _ (around : environment env ≡ environment_of s w call) (src : env.source ≡ source) where
+    -- it may run
+    pub ready_calls : Calls v w (listed costs) counts to name argument env t
+    ready_calls = record {
+      stands = ready.stands;
+      hash = ready.hash;
+      named = ready.named;
+      call = subst (λ (e : Environment). IsCall e (setting (listed costs) counts env) w t x (counts_of counts)) (sym around)
+          (subst (λ (who : List ℕ). IsCall (environment_of s w call) (setting_of (listed costs) counts.group who) w t x (counts_of counts)) (sym src) ready.call);
+    }
+
+    run_is : (gas : ℕ) → run_of v w (listed costs) counts gas argument env t ≡ run_in (environment_of s w call) s w t x gas (counts_of counts)
+    run_is gas = (λ i. run_in (around i) (setting_of (listed costs) counts.group (src i)) w t x gas (counts_of counts))
+
+    -- contracts that were there are there
+    kept_by : (gas : ℕ) (f : PlainFinished) → run_in (environment_of s w call) s w t x gas (counts_of counts) ≡ finished f → (z : World) → StandsFor z f.world → KeepsContracts v z
+    kept_by gas f end z stands hash there =
+        let is : IsFinishedRun s w t x (counts_of counts) f =
+        subst (EndsWell s w t x (counts_of counts)) end (runs_end_well (environment_of s w call) s w t x gas (counts_of counts) ready.call) in
+        let more : Extends (plain_contract_at w) (plain_contract_at f.world) =
+        subst (λ (y : PlainWorld). Extends (plain_contract_at w) (plain_contract_at y)) (sym is.world) (extends_replaced w t.hash (record is.before { storage = is.storage }) is.before is.there refl) in
+        let c = some_one (plain_contract_at w hash) (there_in v w hash ready.stands ∙ there) in
+        let d = more hash c.0 c.1 in
+        sym (there_in z f.world hash stands) ∙ ap is_some d.1
+
+    pub keeps_contracts : (gas : ℕ) (z : World) (new : Counts) (left : ℕ) (done : Finished) →
+        machine.IsFinished (run_of v w (listed costs) counts gas argument env t) z left counts new done → KeepsContracts v z
+    keeps_contracts gas z new left done h = kept_by gas _ (sym (run_is gas) ∙ h.same) z h.stands
+
+    -- ---- its end
+
+    abbrev T : Transaction
+    T = transaction from (place.Contract to) name amount (value x)
+
+    emits : (bs : Bases) (xs : List Issued) → waiting_of (contract_place t.hash) (map (issued_in bs) xs) ≡ map (issued_by bs to) xs
+    emits bs [] = refl
+    emits bs (i ∷ xs) = (λ j. issued (contract_place (ready.hash j)) (issued_in bs i).operation ∷ emits bs xs j)
+
+    same_change : (c : Change) → change c ≡ change_of c
+    same_change (made.Minted id n) = refl
+    same_change (made.Burnt id n) = refl
+
+    same_changes : (cs : List Change) → map change cs ≡ map change_of cs
+    same_changes [] = refl
+    same_changes (c ∷ cs) = (λ i. same_change c i ∷ same_changes cs i)
+
+    pub ran : (gas left : ℕ) (z : World) (new : Counts) (done : Finished) (a : Applied) (literal : Node) → tree literal ≡ canonical x →
+        a.effect ≡ effect.Transfer from (record { place = place.Contract to; entrypoint = name }) amount literal done.changes → a.by ≡ to → a.emitted ≡ done.returned →
+        is_some (contract_at v.funds.present to) ≡ true →
+        machine.IsFinished (run_of v w (listed costs) counts gas argument env t) z left counts new done →
+        EndsAs (run s w call gas (counts_of counts) (transfer_effect T x)) z left counts new (Ok a)
+    ran gas left z new done a literal printed did by emitted there h = record {
+      world = h.world;
+      stands = h.stands;
+      same = ap (with_effect t.hash (transfer_effect T x)) (sym (run_is gas) ∙ h.same)
+          ∙ (λ i. applied (record {
+            world = h.world;
+            emitted = (emits z.store.bases.present done.returned ∙ (λ j. map (issued_by z.store.bases.present (sym by j)) (sym emitted j))) i;
+            effects = ((λ j. Transfer (place_bytes from) (spelled_address (contract_place to) name) amount (sym printed j) (same_changes done.changes j))
+                ∙ ap effect_of (sym did)) i ∷ [];
+            gas = left;
+            counts = counts_of new;
+          }));
+      group = h.group;
+      handed = subst (AllByRecursion (machine.IsHanded z.store.bases.present)) (sym emitted) h.handed;
+      there = λ _. subst (λ (hash : List ℕ). is_some (contract_at z.funds.present hash) ≡ true) (sym by) (keeps_contracts gas z new left done h to there);
+    }
+
+    pub ran_failed : (gas left : ℕ) (z : World) (new : Counts) (f : Why) → machine.EndsAs (run_of v w (listed costs) counts gas argument env t) z left counts new (Err (errors.Failed f)) →
+        EndsAs (run s w call gas (counts_of counts) (transfer_effect T x)) z left counts new (Err (Failed f))
+    ran_failed gas left z new f h = by (run_in (environment_of s w call) s w t x gas (counts_of counts)) (subst (λ (o : Ended). machine.EndsAs o z left counts new (Err (errors.Failed f))) (run_is gas) h)
+      where
+        by : (o : Ended) → machine.EndsAs o z left counts new (Err (errors.Failed f)) → EndsAs (with_effect t.hash (transfer_effect T x) o) z left counts new (Err (Failed f))
+        by (run_failed why) g = g
+        by (finished e) g = absurd g
+        by run_stuck g = absurd g
+
+pub ends_memory : (o : Outcome) (v : World) (gas : ℕ) (old new : Counts) → EndsAs o v gas old new (Err Memory)
+ends_memory (applied a) v gas old new = tt
+ends_memory (failed why) v gas old new = tt
+ends_memory stuck v gas old new = tt
+
+pub with_memory : {A B : Type 0} (r : Result Applied ApplyError) → (A → B) → WithMemory r A → WithMemory r B
+with_memory (Ok a) g h = g h
+with_memory (Err (Failed f)) g h = g h
+with_memory (Err Memory) g h = h
+
+pub contracts_then : (u v w : World) (r : Result Applied ApplyError) → KeepsContracts u v → IfOk r (λ _. KeepsContracts v w) → IfOk r (λ _. KeepsContracts u w)
+contracts_then u v w (Ok a) g h = λ hash there. h hash (g hash there)
+contracts_then u v w (Err e) g h = tt
+
+-- ---- mutez that go to one
+
+at_most : (n m : ℕ) → n ≤ m → nat_le n m ≡ true
+at_most n m h = grind (arith, nat_tests)
+
+not_at_most : (n m : ℕ) → m < n → nat_le n m ≡ false
+not_at_most n m h = grind (arith, nat_tests)
+
+module _ (v : World) (w : PlainWorld) (s : Setting) (counts : PlainCounts) (from : Place) (to name : List ℕ) (amount : ℕ) (argument : Value) (t : Target)
+    (due : IsDue v w s counts from to name amount argument t) where
+  abbrev bs : Bases
+  bs = v.store.bases.present
+
+  balance_here : balance_in v.funds.present from ≡ balance_or_none w (place_bytes from)
+  balance_here = balance_or_none_is v.funds.present bs v.ledger.books.present w from due.stands.those due.sender
+
+  receiver : is_place (contract_place to) ≡ true
+  receiver = contract_is_place to (twenty_of v w to due.stands due.form due.there)
+
+  module _ (payer : may_receive v.funds.present from ≡ true) (enough : amount ≤ balance_in v.funds.present from) (z : World) (same : z ≡ with_funds v z.funds)
+      (moves : z.funds.present ≡ moved_in v.funds.present from (place.Contract to) amount) where
+    pub same_bases : z.store.bases.present ≡ bs
+    same_bases = ap (λ (y : World). y.store.bases.present) same
+
+    pub due_ready : IsReady z (moved w (place_bytes from) (contract_place to) amount) s counts from to name amount argument t
+    due_ready = record {
+      stands = moves_agree v z w from (place.Contract to) amount due.stands due.form due.sender receiver payer due.there same moves;
+      hash = due.hash;
+      named = due.named;
+      call = subst (λ (cs : Bases). IsCall (environment_of s (moved w (place_bytes from) (contract_place to) amount) (call_of from amount t (val_in cs argument))) s
+          (moved w (place_bytes from) (contract_place to) amount) t (val_in cs argument) counts) (sym same_bases)
+          (due.call (subst (λ (n : ℕ). amount ≤ n) balance_here enough));
+    }
+
+    pub covers : (a : Argument) (gas left : ℕ) (old new : Counts) (y : World) (r : Result Applied ApplyError) →
+        EndsAs (run s (moved w (place_bytes from) (contract_place to) amount) (call_of from amount t (val_in z.store.bases.present argument)) gas (counts_of old)
+        (transfer_effect (transaction from (place.Contract to) name amount (value (val_in z.store.bases.present argument))) (val_in z.store.bases.present argument))) y left old new r →
+        EndsAs (covered s w (transaction from (place.Contract to) name amount a) t (val_in bs argument) gas (counts_of old)) y left old new r
+    covers a gas left old new y r h =
+        ends_along _ _ y left old new r
+        (ap (λ (b : Bool). if_covered b s w (transaction from (place.Contract to) name amount a) t (val_in bs argument) gas (counts_of old))
+        (at_most amount (balance_or_none w (place_bytes from)) (subst (λ (n : ℕ). amount ≤ n) balance_here enough)))
+        (subst (λ (cs : Bases). EndsAs (run s (moved w (place_bytes from) (contract_place to) amount) (call_of from amount t (val_in cs argument)) gas (counts_of old)
+        (transfer_effect (transaction from (place.Contract to) name amount (value (val_in cs argument))) (val_in cs argument))) y left old new r) same_bases h)
+
+  pub not_covered : (a : Argument) (gas left : ℕ) (old new : Counts) (y : World) (f : Why) → balance_in v.funds.present from < amount → failure f ≡ told balance_too_low →
+      EndsAs (covered s w (transaction from (place.Contract to) name amount a) t (val_in bs argument) gas (counts_of old)) y left old new (Err (Failed f))
+  not_covered a gas left old new y f low h =
+      ends_failed _ y left old new f balance_too_low
+      (ap (λ (b : Bool). if_covered b s w (transaction from (place.Contract to) name amount a) t (val_in bs argument) gas (counts_of old))
+      (not_at_most amount (balance_or_none w (place_bytes from)) (subst (λ (n : ℕ). n < amount) balance_here low)))
+      h

@@ -1,0 +1,139 @@
+// Contracts that are called.
+ghost use Rattle.std.specs.Prelude.{◌≡◌, ℕ, is_some, true, IfOk};
+ghost use Rattle.rules_gas.specs.Prices.{Listed};
+ghost use Rattle.rules_values.specs.Val.{Val};
+ghost use Rattle.rules_world.specs.Arguments.{Argument, value};
+ghost use Rattle.rules_world.specs.Groups.{setting_of};
+ghost use Rattle.rules_world.specs.Runs.{environment_of, run};
+ghost use Rattle.rules_world.specs.Targets.{Target};
+ghost use Rattle.rules_world.specs.Transfers.{transfer_effect};
+ghost use Rattle.rules_world.specs.World.{World as PlainWorld};
+ghost use Rattle.mich_bigmap.specs.Extended.{Extends};
+ghost use Rattle.mich_bigmap.specs.Layers.{HasBases};
+ghost use Rattle.mich_bigmap.specs.Standing.{val_in};
+ghost use Rattle.mich_forms.specs.declared.places.Place.TheVariants as place;
+ghost use Rattle.mich_gas.specs.View.{listed};
+ghost use Rattle.mich_machine.specs.Calls.{counts_of, IsHosting};
+ghost use Rattle.mich_step.specs.Views.{environment};
+ghost use Rattle.mich_term.specs.Layers.{AreFormed};
+ghost use Rattle.mich_world.specs.Holders.{contract_at, may_receive};
+ghost use Rattle.mich_world.specs.Marks.{KeepsWorld};
+ghost use Rattle.mich_world.specs.Standing.{StandsFor};
+ghost use Rattle.mich_operations.specs.Calls.{call_of, covered, IsDue, IsReady};
+ghost use Rattle.mich_operations.specs.Going.{EndsAs, KeepsContracts, WithMemory};
+ghost use Rattle.mich_operations.specs.Transfers.{transaction};
+
+use crate::applied::{Applied, ApplyError};
+use crate::printing::printed;
+use mich_forms::{Address, Entrypoint, KeyHash, Place};
+use mich_gas::{Costs, Meter};
+use mich_machine::{Bodies, Counts, RunError, run};
+use mich_ops::{Effect, Failure};
+use mich_step::Env;
+use mich_term::{Value, abandon};
+use mich_world::{MoveError, World};
+use std::alloc::Global;
+
+// What surrounds a contract of these 20 bytes that a place calls with mutez that it has already.
+fn surroundings(world: &World, source: &KeyHash, from: &Place, to: [u8; 20], amount: u64) -> Env
+    ensures source { result.source ≡ source.now }
+    ensures environment { (w : PlainWorld) (prices : Listed) (group : ℕ) (t : Target) (x : Val) → StandsFor world.now w → t.hash ≡ to → environment result ≡ environment_of (setting_of prices group source.now) w (call_of from.now amount t x) }
+{
+    let (chain, level, now) = world.clock();
+    Env {
+        chain,
+        level,
+        now,
+        source: *source,
+        sender: *from,
+        me: to,
+        amount,
+        balance: world.balance(Place::Contract(to)).unwrap_or(0),
+    }
+}
+
+// A contract runs, which has the mutez already.
+fn run_contract(
+    alloc: Global,
+    world: &mut World,
+    costs: &Costs,
+    source: &KeyHash,
+    meter: &mut Meter,
+    counts: &mut Counts,
+    bodies: &mut Bodies,
+    from: &Place,
+    to: &[u8; 20],
+    name: &Entrypoint,
+    amount: u64,
+    argument: Value,
+) -> Result<Applied, ApplyError>
+    requires ready { (w : PlainWorld) × (t : Target) × IsReady world.old w (setting_of (listed costs.now) counts.old.group source.now) (counts_of counts.old) from.now to.now name.now amount argument t }
+    requires hosting { IsHosting world.old }
+    requires there { is_some (contract_at world.old.funds.present to.now) ≡ true }
+    requires formed { AreFormed argument }
+    requires based { HasBases world.old.store.bases.present argument }
+    ensures ends { (w : PlainWorld) (t : Target) → IsReady world.old w (setting_of (listed costs.entry.now) counts.old.group source.entry.now) (counts_of counts.old) from.entry.now to.entry.now name.entry.now amount argument t → EndsAs (run (setting_of (listed costs.entry.now) counts.old.group source.entry.now) w (call_of from.entry.now amount t (val_in world.old.store.bases.present argument)) meter.old (counts_of counts.old) (transfer_effect (transaction from.entry.now (place.Contract to.entry.now) name.entry.now amount (value (val_in world.old.store.bases.present argument))) (val_in world.old.store.bases.present argument))) world.new meter.new counts.old counts.new result }
+    ensures hosting { IfOk result (λ _. IsHosting world.new) }
+    ensures bases { IfOk result (λ _. Extends world.old.store.bases.present world.new.store.bases.present) }
+    ensures contracts { IfOk result (λ _. KeepsContracts world.old world.new) }
+    ensures keeps { WithMemory result (KeepsWorld world.old world.new) }
+{
+    let literal = printed(alloc, world.store(), &argument)?;
+    let env = surroundings(world, source, from, *to, amount);
+    match run(
+        alloc, world, costs, meter, counts, bodies, to, name, argument, &env,
+    ) {
+        Ok(done) => {
+            let address = Address {
+                place: Place::Contract(*to),
+                entrypoint: *name,
+            };
+            Ok(Applied {
+                effect: Effect::Transfer(*from, address, amount, literal, done.changes),
+                by: *to,
+                emitted: done.returned,
+            })
+        }
+        Err(RunError::Failed(why)) => Err(ApplyError::Failed(why)),
+        Err(RunError::Memory) => Err(ApplyError::Memory),
+    }
+}
+
+// Mutez go from a place to a contract, whose entrypoint is called with a value.
+pub(crate) fn call_contract(
+    alloc: Global,
+    world: &mut World,
+    costs: &Costs,
+    source: &KeyHash,
+    meter: &mut Meter,
+    counts: &mut Counts,
+    bodies: &mut Bodies,
+    from: &Place,
+    to: &[u8; 20],
+    name: &Entrypoint,
+    amount: u64,
+    argument: Value,
+) -> Result<Applied, ApplyError>
+    requires due { (w : PlainWorld) × (t : Target) × IsDue world.old w (setting_of (listed costs.now) counts.old.group source.now) (counts_of counts.old) from.now to.now name.now amount argument t }
+    requires payer { may_receive world.old.funds.present from.now ≡ true }
+    requires hosting { IsHosting world.old }
+    requires formed { AreFormed argument }
+    requires based { HasBases world.old.store.bases.present argument }
+    ensures ends { (w : PlainWorld) (t : Target) (a : Argument) → IsDue world.old w (setting_of (listed costs.entry.now) counts.old.group source.entry.now) (counts_of counts.old) from.entry.now to.entry.now name.entry.now amount argument t → EndsAs (covered (setting_of (listed costs.entry.now) counts.old.group source.entry.now) w (transaction from.entry.now (place.Contract to.entry.now) name.entry.now amount a) t (val_in world.old.store.bases.present argument) meter.old (counts_of counts.old)) world.new meter.new counts.old counts.new result }
+    ensures hosting { IfOk result (λ _. IsHosting world.new) }
+    ensures bases { IfOk result (λ _. Extends world.old.store.bases.present world.new.store.bases.present) }
+    ensures contracts { IfOk result (λ _. KeepsContracts world.old world.new) }
+    ensures keeps { WithMemory result (KeepsWorld world.old world.new) }
+{
+    match world.move_mutez(*from, Place::Contract(*to), amount) {
+        Ok(()) => run_contract(
+            alloc, world, costs, source, meter, counts, bodies, from, to, name, amount, argument,
+        ),
+        Err(MoveError::BalanceTooLow) => {
+            abandon(argument);
+            Err(ApplyError::Failed(Failure::BalanceTooLow))
+        }
+        Err(MoveError::NoContract) => unreachable!(),
+        Err(MoveError::Memory) => Err(ApplyError::Memory),
+    }
+}
