@@ -16,6 +16,4 @@ pub use receipts::receipt_text;
 pub use state::{state_lines, state_text};
 
 #[cfg(test)]
-mod state_tests;
-#[cfg(test)]
 mod tests;
