@@ -107,8 +107,8 @@ impl Course {
     }
 
     /// The next statement: prices are set, an account is made, a block begins, or a group is applied, whose receipt is answered. A
-    /// statement is refused exactly where the rules refuse it, and the course is then as far as it was. After Memory it is given up
-    /// (this host's own).
+    /// statement is refused exactly where the rules refuse it. After a refusal, and after Memory, the course is given up (this host's
+    /// own).
     pub fn take(
         &mut self,
         alloc: Global,
