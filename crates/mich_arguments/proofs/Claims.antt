@@ -1,5 +1,5 @@
 -- Which addresses are contracts of a type.
-use Rattle.std.proofs.Common.{◌≡◌, ℕ, Bool, true, false, List, Some, None, length, map, is_some, refl, sym, ap, ◌∙◌, subst}
+use Rattle.std.proofs.Common.{◌≡◌, ℕ, Bool, true, false, List, Some, None, length, is_some, refl, sym, ap, ◌∙◌, subst}
 use Rattle.std.specs.Prelude.{◌&&◌, if◌then◌else◌, option_and_then, option_map}
 use Rattle.std.specs.declared.option.Option.{Option}
 use Rattle.std.specs.Bool.{IsTrue}
@@ -7,8 +7,8 @@ use Rattle.std.specs.Str.{bytes_eq}
 use Rattle.std.proofs.lemmas.Slice.Eq.{bytes_eq-Decides}
 use Rattle.rules_forms.specs.Spelling.{IsPlace, default_name, implicit_place, contract_place, spelled_address, entrypoint_of}
 use Rattle.rules_types.specs.Kind.{Kind}
-use Rattle.rules_types.specs.Entrypoints.{Entry, find_entry}
-use Rattle.rules_values.specs.ByteForms.{is_entrypoint, is_implicit, is_key_hash}
+use Rattle.rules_types.specs.Entrypoints.{find_entry}
+use Rattle.rules_values.specs.ByteForms.{is_entrypoint, is_key_hash}
 use Rattle.rules_evaluation.specs.Contracts.{Lookup, address_where, chosen_entrypoint, contract_named, entry_in, has_kind, hash_in, is_contract_of, is_taken_by_account, takes}
 use Rattle.rules_evaluation.specs.Surroundings.{Contract as PlainContract}
 use Rattle.rules_world.specs.World.{World as PlainWorld, contract_at as plain_contract_at}

@@ -1,15 +1,9 @@
 -- Entrypoints that are searched, and their arguments.
-use Rattle.std.proofs.Common.{◌≡◌, ℕ, List, Some, None, sym, ap, ◌∙◌, subst}
-use Rattle.std.specs.Prelude.{option_map, Ok}
-use Rattle.std.specs.declared.option.Option.{Option}
-use Rattle.rules_base.specs.Tree.{Tree}
-use Rattle.rules_instructions.specs.Arguments.{Found, found, fault}
+use Rattle.std.proofs.Common.{◌≡◌, ℕ, List, Some, None, ap, ◌∙◌}
+use Rattle.std.specs.Prelude.{option_map}
 use Rattle.rules_types.specs.Entrypoints.{Entry, find_entry}
-use Rattle.rules_typing.specs.Scripts.{Script as PlainScript}
-use Rattle.rules_evaluation.specs.Surroundings.{Contract as PlainContract}
 use Rattle.rules_steps.specs.Failure.{no_contract, no_entrypoint}
-use Rattle.rules_world.specs.Arguments.{literal_in}
-use Rattle.rules_world.specs.Targets.{Target, Search, met, missing, in_contract, in_script, search, with_entry}
+use Rattle.rules_world.specs.Targets.{Target, met, missing, in_contract, in_script, search, with_entry}
 use Rattle.rules_world.specs.World.{World as PlainWorld}
 use Rattle.mich_standing.proofs.Agreement.{contracts_agree}
 use Rattle.mich_world.specs.Holders.{contract_at}

@@ -1,24 +1,22 @@
 -- Calls of contracts that a source orders.
-use Rattle.std.proofs.Common.{◌≡◌, ◌≤◌, ◌<◌, ◌^◌, ℕ, ℤ, pos, true, List, length, Some, Err, Result, refl, sym, ap, ◌∙◌, subst, is_some}
+use Rattle.std.proofs.Common.{◌≡◌, ◌≤◌, ◌<◌, ◌^◌, ℕ, pos, true, List, Err, Result, refl, sym, ap, ◌∙◌, subst, is_some}
 use Rattle.std.proofs.lemmas.List.Elements.{All-head}
 use Rattle.rules_base.specs.Tree.{Tree, size}
 use Rattle.rules_evaluation.specs.Contracts.{hash_in}
-use Rattle.rules_forms.specs.Spelling.{implicit_place, contract_place}
-use Rattle.rules_instructions.specs.Arguments.{Found, found, fault}
-use Rattle.rules_steps.specs.Changes.{amount_among, amount_in}
+use Rattle.rules_forms.specs.Spelling.{contract_place}
+use Rattle.rules_instructions.specs.Arguments.{Found, found}
+use Rattle.rules_steps.specs.Changes.{amount_among}
 use Rattle.rules_steps.specs.Failure.{Failure, no_contract, no_entrypoint, bad_parameter}
-use Rattle.rules_typing.specs.Fits.{is_place}
-use Rattle.rules_values.specs.ByteForms.{is_implicit, is_key_hash}
-use Rattle.rules_values.specs.Tickets.{Identity}
+use Rattle.rules_values.specs.ByteForms.{is_implicit}
 use Rattle.rules_values.specs.Val.{Val}
 use Rattle.rules_world.specs.Application.{ordered_transaction}
 use Rattle.rules_world.specs.Arguments.{node, literal_in}
 use Rattle.rules_world.specs.Balances.{most_mutez}
 use Rattle.rules_world.specs.Contents.{Call}
 use Rattle.rules_world.specs.Forms.{AreDestination, IsSmall}
-use Rattle.rules_world.specs.Good.{FitsIn, IsGoodWaiting}
-use Rattle.rules_world.specs.Outcomes.{Setting, Waiting, ordered, Counts as PlainCounts, Outcome, failed}
-use Rattle.rules_world.specs.Targets.{Target, Search, met, missing, search, on_met}
+use Rattle.rules_world.specs.Good.{IsGoodWaiting}
+use Rattle.rules_world.specs.Outcomes.{Setting, Waiting, ordered, Counts as PlainCounts}
+use Rattle.rules_world.specs.Targets.{Search, met, missing, search, on_met}
 use Rattle.rules_world.specs.Transfers.{Transaction, delivered, with_argument}
 use Rattle.rules_world.specs.World.{World as PlainWorld, contract_at as plain_contract_at}
 use Rattle.laws_accounts.proofs.ReadLiterals.{literal_fits, literal_empty}

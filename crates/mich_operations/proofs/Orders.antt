@@ -1,11 +1,10 @@
 -- Contracts that a source makes.
-use Rattle.std.proofs.Common.{◌≡◌, ◌≤◌, ◌<◌, ◌+◌, ◌^◌, ℕ, List, [], length, false, true, is_some, None, Some, refl, sym, ap, ◌∙◌, subst, arith, Ok, Err, Result}
+use Rattle.std.proofs.Common.{◌≡◌, ◌≤◌, ◌<◌, ◌+◌, ◌^◌, ℕ, List, false, is_some, refl, sym, ap, ◌∙◌, subst, arith, Ok, Err, Result}
 use Rattle.std.proofs.lemmas.List.Elements.{All-head}
 use Rattle.rules_base.specs.Tree.{Tree, size}
 use Rattle.rules_evaluation.specs.Operations.{new_contract}
 use Rattle.rules_instructions.specs.Arguments.{Found, found, fault}
 use Rattle.rules_steps.specs.Failure.{ill_typed, bad_storage}
-use Rattle.rules_typing.specs.Fits.{is_place}
 use Rattle.rules_typing.specs.Nodes.{script}
 use Rattle.rules_typing.specs.Scripts.{Script as PlainScript}
 use Rattle.rules_forms.specs.Spelling.{implicit_place}
@@ -37,10 +36,7 @@ use Rattle.mich_instr.specs.View.{script_node}
 use Rattle.mich_instr.specs.declared.instr.Script.{Script, out-Script}
 use Rattle.mich_arguments.proofs.Entries.{storage_read}
 use Rattle.mich_interpreter.specs.declared.state.Counts.{Counts}
-use Rattle.mich_machine.specs.Calls.{counts_of, IsHosting}
-use Rattle.mich_ops.specs.Told.{told}
-use Rattle.mich_ops.specs.View.{failure}
-use Rattle.mich_ops.specs.declared.failure.Failure.{Failure as Why}
+use Rattle.mich_machine.specs.Calls.{counts_of}
 use Rattle.mich_ops.specs.declared.failure.Failure.TheVariants as failures
 use Rattle.mich_standing.proofs.Agreement.{contracts_agree}
 use Rattle.mich_standing.proofs.Owners.{account_is_place}

@@ -4,11 +4,9 @@ use Rattle.std.specs.Prelude.{nat_le, option_map}
 use Rattle.std.specs.declared.option.Option.{Option}
 use Rattle.std.specs.List.{AllByRecursion}
 use Rattle.std.proofs.lemmas.Bool.Decides.{nat_tests}
-use Rattle.rules_evaluation.specs.Operations as rules
 use Rattle.rules_evaluation.specs.Surroundings.{Contract as PlainContract}
 use Rattle.rules_forms.specs.Spelling.{contract_place, spelled_address}
 use Rattle.rules_gas.specs.Prices.{Listed}
-use Rattle.rules_steps.specs.Changes.{Change as PlainChange}
 use Rattle.rules_steps.specs.Environment.{Environment}
 use Rattle.rules_steps.specs.Failure.{balance_too_low}
 use Rattle.rules_typing.specs.Fits.{is_place}
@@ -18,12 +16,12 @@ use Rattle.rules_world.specs.Arguments.{Argument, value}
 use Rattle.rules_world.specs.Balances.{balance_or_none, moved}
 use Rattle.rules_world.specs.Forms.{IsWorld}
 use Rattle.rules_world.specs.Groups.{setting_of}
-use Rattle.rules_world.specs.Outcomes.{Setting, Waiting, Counts as PlainCounts, Outcome, applied, failed, stuck, issued}
-use Rattle.rules_world.specs.Receipts.{Effect as PlainEffect, Transfer}
+use Rattle.rules_world.specs.Outcomes.{Setting, Counts as PlainCounts, Outcome, applied, failed, stuck, issued}
+use Rattle.rules_world.specs.Receipts.{Transfer}
 use Rattle.rules_world.specs.RunLaws.{IsCall}
 use Rattle.rules_world.specs.Runs.{Call, environment_of, Finished as PlainFinished, Ended, finished, run_failed, run_stuck, run_in, waiting_of, with_effect, run}
 use Rattle.rules_world.specs.Targets.{Target}
-use Rattle.rules_world.specs.Transfers.{Transaction, transfer_effect, called, if_covered}
+use Rattle.rules_world.specs.Transfers.{Transaction, transfer_effect, if_covered}
 use Rattle.rules_world.specs.World.{World as PlainWorld, contract_at as plain_contract_at}
 use Rattle.laws_accounts.proofs.More.{Extends}
 use Rattle.laws_runs.specs.RunEnds.{IsFinished as IsFinishedRun, EndsWell}
@@ -32,7 +30,6 @@ use Rattle.laws_runs.proofs.Worlds.{extends_replaced}
 use Rattle.mich_base.specs.View.{tree}
 use Rattle.mich_base.specs.declared.node.Node.{Node}
 use Rattle.mich_bigmap.specs.Bases.{Bases}
-use Rattle.mich_bigmap.specs.Stored.{Stored}
 use Rattle.mich_bigmap.specs.Standing.{val_in}
 use Rattle.mich_forms.specs.Spelled.{place_bytes}
 use Rattle.mich_forms.specs.declared.places.Place.{Place}

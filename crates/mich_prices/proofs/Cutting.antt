@@ -1,15 +1,14 @@
 -- What is cut from a string or from bytes, and what is found in a map.
-use Rattle.std.proofs.Common.{◌≡◌, ℕ, ℤ, true, List, ◌∷◌, map, Option, Some, None, sym, ap, ◌∙◌, Result, Ok, Err}
+use Rattle.std.proofs.Common.{◌≡◌, ℕ, ℤ, true, List, ◌∷◌, sym, ap, ◌∙◌, Result, Ok, Err}
 use Rattle.std.specs.Prelude.{pos, unsigned_abs, IfOk}
 use Rattle.rules_instructions.specs.Straight as i
 use Rattle.rules_steps.specs.Costs.{collection_weight, length_found, text_weight, weight_found}
 use Rattle.rules_steps.specs.Texts.{slice}
 use Rattle.rules_values.specs.Tables.{value_at}
-use Rattle.rules_values.specs.Val.{Val, Pairs, number, text, bytes, table, is_comparable}
+use Rattle.rules_values.specs.Val.{Val, Pairs, number, bytes, is_comparable}
 use Rattle.mich_base.specs.declared.memory.Memory.{Memory}
 use Rattle.mich_collections.specs.Seen.{pairs_by}
 use Rattle.mich_collections.proofs.Opened.{map_seen}
-use Rattle.mich_term.specs.Weights.{capped}
 use Rattle.mich_term.specs.View.{datum}
 use Rattle.mich_term.specs.ValueView.{val, value_step}
 use Rattle.mich_term.specs.declared.datum.Datum.{Datum}
@@ -17,7 +16,7 @@ use Rattle.mich_term.specs.declared.value.Value.{Value, fold-roll-Value}
 use Rattle.mich_term.specs.declared.value.Value.TheOpen.{Value-F}
 use Rattle.mich_term.specs.declared.value.Value.TheVariants as value
 use Rattle.mich_term.specs.declared.value.Value.TheVariants.{rolls-Bytes}
-use Rattle.mich_stack.specs.Views.{Sight, seen, values}
+use Rattle.mich_stack.specs.Views.{Sight, seen}
 use Rattle.mich_stack.proofs.Comparable.{comparable_seen}
 use Rattle.mich_stack.proofs.Standing.{number_seen, text_seen}
 

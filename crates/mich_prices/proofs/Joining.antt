@@ -1,5 +1,5 @@
 -- What the elements of a list weigh together.
-use Rattle.std.proofs.Common.{◌≡◌, ◌+◌, ◌++◌, ℕ, suc, List, [], ◌∷◌, length, map, min, sym, ap, ◌∙◌, arith}
+use Rattle.std.proofs.Common.{◌≡◌, ◌+◌, ℕ, List, ◌∷◌, length, min, sym, ap, ◌∙◌, arith}
 use Rattle.std.proofs.lemmas.List.{length-append}
 use Rattle.rules_steps.specs.Sets.{element_count}
 use Rattle.rules_steps.specs.Texts.{bytes_of, joined}

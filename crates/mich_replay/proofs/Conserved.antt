@@ -1,21 +1,18 @@
 -- What holds behind each statement of a file, and so at its end.
-use Rattle.std.proofs.Common.{◌≡◌, ◌≢◌, ◌≤◌, ◌<◌, ◌+◌, ◌-◌, ◌^◌, ℕ, inl, inr, List, [], ◌∷◌, ◌++◌, length, drop, Some, None, refl, sym, ap, ◌∙◌, subst, arith}
-use Rattle.std.specs.Prelude.{ℤ, pos, ◌+ℤ◌, ◌-ℤ◌}
+use Rattle.std.proofs.Common.{◌≡◌, ◌≤◌, ◌<◌, ◌+◌, ◌^◌, ℕ, inl, inr, List, [], ◌∷◌, length, drop, Some, None, refl, sym, ap, ◌∙◌, subst, arith}
+use Rattle.std.specs.Prelude.{ℤ, pos, ◌+ℤ◌}
 use Rattle.std.specs.declared.option.Option.{Option}
 use Rattle.std.specs.List.{AllByRecursion}
 use Rattle.std.proofs.lemmas.Int.{ints}
 use Rattle.std.proofs.lemmas.List.{length-append, length-drop}
-use Rattle.rules_base.specs.Tree.{Tree, size}
+use Rattle.rules_base.specs.Tree.{size}
 use Rattle.rules_course.specs.Course.{Course, Step, goes_on, stops, stuck_step}
 use Rattle.rules_course.specs.Ranges.{IsStatement}
 use Rattle.rules_text.specs.Fault.{file_limit}
-use Rattle.rules_text.specs.declared.TextKind.{TextKind}
-use Rattle.rules_replay.specs.Places.{Placed, IsNodeAt, IsEndAt, AreStatements}
+use Rattle.rules_replay.specs.Places.{Placed, IsEndAt, AreStatements}
 use Rattle.rules_replay.specs.Replay.{Replay, Closes, FileFault, TextFault, BadOrder, State, RefusedAt, IsReplay, Run, going, stopped, stuck_run, step, continued, taken, run_one, run_all, ending_of}
 use Rattle.rules_statements.specs.Statements.{Statement, form}
-use Rattle.rules_values.specs.Tickets.{Identity}
-use Rattle.rules_world.specs.Balances.{most_mutez, supply}
-use Rattle.rules_world.specs.Holdings.{held, minted_ever, burnt_ever}
+use Rattle.rules_world.specs.Holdings.{held}
 use Rattle.rules_world.specs.Receipts.{Receipt}
 use Rattle.rules_world.specs.World.{World}
 use Rattle.laws_runs.specs.Worlds.{IsWhole}

@@ -1,10 +1,9 @@
 -- The statuses of packing.
-use Rattle.std.proofs.Common.{◌≡◌, ℕ, ◌+◌, Bool, true, false, List, [], ◌∷◌, length, Option, Some, None, Result, Ok, Err, IfOk, inl, inr, refl, sym, subst}
+use Rattle.std.proofs.Common.{ℕ, ◌+◌, Bool, true, false, List, [], ◌∷◌, length, Option, Some, None, Result, Ok, Err, IfOk, inl, inr, refl, sym, subst}
 use Rattle.std.specs.Prelude.{nat_le, if◌then◌else◌, codes}
 use Rattle.std.specs.Str.{bytes_eq}
 use Rattle.rules_base.specs.Tree.{Tree, int, str, bytes, prim, seq, size}
 use Rattle.rules_text.specs.declared.TextKind.{TextKind}
-use Rattle.rules_types.specs.Kind.{Kind}
 use Rattle.rules_types.specs.Attributes.{packable}
 use Rattle.rules_types.specs.Reading.{Reading, a_type, bad_type, too_large, type_at}
 use Rattle.rules_values.specs.Val.{Val}
@@ -14,7 +13,7 @@ use Rattle.rules_typing.specs.Literals.{Checked, of_reading}
 use Rattle.rules_steps.specs.Packing.{packed}
 use Rattle.rules_replay.specs.Answers.{Answer, done_with, refused_with}
 use Rattle.rules_replay.specs.Codec.{alone, bytes_line, fitting, of_statements, of_text, IsCodecAnswer}
-use Rattle.rules_replay.specs.Packs.{ill_typed_at, packed_answer, first_claim, unless_claimed, literal_answer, pack_literal, packing_answer, pack_fields, pack_by, pack_node}
+use Rattle.rules_replay.specs.Packs.{ill_typed_at, first_claim, unless_claimed, literal_answer, packing_answer, pack_fields, pack_node}
 use Rattle.rules_replay.specs.Places.{Placed}
 use Rattle.rules_statements.specs.Statements.{nodes_of}
 use Rattle.mich_base.specs.declared.memory.Memory.{Memory}

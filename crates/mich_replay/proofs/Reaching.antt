@@ -1,7 +1,6 @@
 -- How a file is replayed, statement by statement.
-use Rattle.std.proofs.Common.{◌≡◌, ℕ, ◌+◌, ◌<◌, ◌^◌, List, [], ◌∷◌, ◌++◌, length, Option, Some, None, Result, Ok, Err, refl, sym, ap, ◌∙◌, subst, inl, inr, arith}
+use Rattle.std.proofs.Common.{◌≡◌, ℕ, List, [], ◌∷◌, ◌++◌, length, Option, Some, None, Ok, refl, sym, ap, ◌∙◌, subst, inl, inr}
 use Rattle.rules_base.specs.Tree.{Tree}
-use Rattle.rules_course.specs.Course.{Course as PlainCourse}
 use Rattle.rules_text.specs.declared.TextKind.{TextKind}
 use Rattle.rules_replay.specs.Places.{Placed, IsNodeAt, IsEndAt, IsFaultAt, AreStatements}
 use Rattle.rules_replay.specs.Replay.{Replay, IsReplay, Closes, Ending, RefusedAt, TextFault, FileFault, Run, going, stopped, stuck_run, taken, run_one, run_all, ending_of}
@@ -11,7 +10,7 @@ use Rattle.rules_world.specs.Receipts.{Receipt}
 use Rattle.mich_answers.proofs.Stated.{statements-more}
 use Rattle.mich_course.specs.declared.course.Course.{Course}
 use Rattle.mich_replay.specs.declared.outcome.FileFault.{FileFault as CodeFault}
-use Rattle.mich_replay.specs.Steps.{FollowsIf, IsTaken, Reached, Stands, closing}
+use Rattle.mich_replay.specs.Steps.{IsTaken, Reached, closing}
 use Rattle.mich_replay.specs.View.{file_fault_seen}
 
 run-more : (r : Run) (ss : List Placed) (s : Placed) → run_all r (ss ++ s ∷ []) ≡ run_one (run_all r ss) s

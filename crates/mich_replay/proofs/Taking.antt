@@ -1,5 +1,5 @@
 -- What a statement leads to, and what is told of it.
-use Rattle.std.proofs.Common.{◌≡◌, ◌+◌, ◌<◌, ◌≤◌, ◌^◌, ℕ, List, [], ◌∷◌, ◌++◌, length, map, Option, Some, None, Result, Ok, Err, refl, sym, ap, ◌∙◌, subst, arith}
+use Rattle.std.proofs.Common.{◌≡◌, ◌+◌, ◌<◌, ◌≤◌, ◌^◌, ℕ, List, [], ◌∷◌, ◌++◌, length, map, Option, Some, None, Ok, Err, refl, sym, ap, ◌∙◌, subst, arith}
 use Rattle.std.proofs.lemmas.List.{length-append}
 use Rattle.rules_course.specs.Course.{Course as PlainCourse, Step, goes_on, stops, stuck_step, BadOrder, BadCosts, RepeatedAccount, SupplyLimit, first_step, step_behind}
 use Rattle.rules_course.specs.Ranges.{IsStatement}
@@ -12,7 +12,6 @@ use Rattle.laws_course.specs.Laws.{IsGoodCourse, StaysGood, granted_by}
 use Rattle.laws_course.proofs.Good.{courses_begin_good, courses_stay_good}
 use Rattle.mich_course.specs.Following.{Follows, Goes, Begins, told}
 use Rattle.mich_course.specs.declared.course.Course.{Course}
-use Rattle.mich_course.specs.declared.error.CourseError.{CourseError}
 use Rattle.mich_course.specs.declared.error.CourseError.TheVariants as error
 use Rattle.mich_ops.specs.Told.{ToldReceipt, told_receipt}
 use Rattle.mich_ops.specs.View.{receipt}

@@ -4,7 +4,7 @@ use Rattle.rules_course.specs.Course.{Course as PlainCourse, Step}
 use Rattle.rules_replay.specs.Answers.{Answer, status_of}
 use Rattle.rules_replay.specs.Lines.{group_lines, ending_lines}
 use Rattle.rules_replay.specs.Places.{Placed, AreStatements}
-use Rattle.rules_replay.specs.Replay.{Run, going, stopped, stuck_run, run_all, Ending}
+use Rattle.rules_replay.specs.Replay.{Run, going, stopped, run_all, Ending}
 use Rattle.rules_world.specs.Receipts.{Receipt}
 use Rattle.mich_base.specs.declared.memory.Memory.{Memory}
 use Rattle.mich_course.specs.Following.{Follows, Goes, Begins}

@@ -1,5 +1,4 @@
 -- What the code's values stand for.
-use Rattle.std.specs.Prelude.{ℕ}
 use Rattle.rules_replay.specs.Replay as replay
 use Rattle.rules_replay.specs.Commands as commands
 use Rattle.mich_replay.specs.declared.command.Verb.{Verb}

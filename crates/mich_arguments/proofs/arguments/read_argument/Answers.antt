@@ -1,9 +1,8 @@
-use Rattle.std.proofs.Common.{◌≡◌, map, Some, None, sym, ap, ◌∙◌, subst}
+use Rattle.std.proofs.Common.{◌≡◌, map, Some, sym, ap, ◌∙◌, subst}
 use Rattle.std.specs.Prelude.{Err}
 use Rattle.rules_world.specs.Arguments.{literal_in}
 use Rattle.mich_control.specs.declared.error.CheckError.{CheckError}
-use Rattle.rules_base.specs.Tree.{Tree}
-use Rattle.rules_types.specs.Entrypoints.{Entry, find_entry}
+use Rattle.rules_types.specs.Entrypoints.{find_entry}
 use Rattle.mich_base.specs.View.{tree}
 use Rattle.mich_instr.specs.declared.instr.Script.{Script, out-Script}
 use Rattle.mich_types.specs.Entered.{entry_of}

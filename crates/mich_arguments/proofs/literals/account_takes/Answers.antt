@@ -1,7 +1,6 @@
-use Rattle.std.proofs.Common.{rules, ◌≡◌, Bool, true, false, sym, ap, ◌∙◌}
+use Rattle.std.proofs.Common.{rules, ◌≡◌, Bool, true, sym, ap, ◌∙◌}
 use Rattle.std.specs.Prelude.{◌&&◌}
-use Rattle.std.specs.Str.{bytes_eq}
-use Rattle.rules_forms.specs.Spelling.{default_name, implicit_place}
+use Rattle.rules_forms.specs.Spelling.{implicit_place}
 use Rattle.rules_values.specs.ByteForms.{is_entrypoint, is_key_hash}
 use Rattle.rules_evaluation.specs.Contracts.{is_taken_by_account}
 use Rattle.mich_base.specs.TypeView.{kind}

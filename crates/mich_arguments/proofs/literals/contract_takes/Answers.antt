@@ -1,4 +1,4 @@
-use Rattle.std.proofs.Common.{rules, ◌≡◌, true, length, sym, ap, ◌∙◌, arith}
+use Rattle.std.proofs.Common.{rules, ◌≡◌, true, length, sym, ◌∙◌, arith}
 use Rattle.rules_forms.specs.Spelling.{contract_place}
 use Rattle.rules_values.specs.ByteForms.{is_entrypoint}
 use Rattle.rules_world.specs.World.{contract_at}

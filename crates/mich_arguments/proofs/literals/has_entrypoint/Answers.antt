@@ -1,4 +1,4 @@
-use Rattle.std.proofs.Common.{◌≡◌, map, ap, ◌∙◌}
+use Rattle.std.proofs.Common.{map, ap, ◌∙◌}
 use Rattle.rules_evaluation.specs.Contracts.{has_kind}
 use Rattle.rules_types.specs.Entrypoints.{find_entry}
 use Rattle.mich_base.specs.TypeView.{kind}

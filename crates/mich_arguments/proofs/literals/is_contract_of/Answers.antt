@@ -1,4 +1,4 @@
-use Rattle.std.proofs.Common.{◌≡◌, sym, ap, ◌∙◌}
+use Rattle.std.proofs.Common.{sym, ap, ◌∙◌}
 use Rattle.rules_evaluation.specs.Contracts.{is_contract_of}
 use Rattle.rules_forms.specs.Spelling.{spelled_address}
 use Rattle.rules_world.specs.World.{contract_at}

@@ -1,4 +1,4 @@
-use Rattle.std.proofs.Common.{◌≡◌, ℕ, true, Ok, Err, Result, IfOk, refl, sym, ap, ◌∙◌, subst, is_some}
+use Rattle.std.proofs.Common.{refl}
 use Rattle.rules_world.specs.Groups.{setting_of}
 use Rattle.rules_world.specs.Balances.{moved}
 use Rattle.rules_forms.specs.Spelling.{contract_place}

@@ -1,4 +1,4 @@
-use Rattle.std.proofs.Common.{◌≡◌, ℕ, List, Err, refl, ap, ◌∙◌, subst}
+use Rattle.std.proofs.Common.{Err, refl, ap, ◌∙◌, subst}
 use Rattle.rules_values.specs.Canonical.{canonical}
 use Rattle.mich_bigmap.specs.Standing.{val_in}
 use Rattle.mich_bigmap.specs.Stored.{Stored}

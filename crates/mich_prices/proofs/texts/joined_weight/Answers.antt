@@ -1,4 +1,4 @@
-use Rattle.std.proofs.Common.{◌≡◌, List, ◌∷◌, sym, ap, ◌∙◌}
+use Rattle.std.proofs.Common.{List, ◌∷◌, sym, ap, ◌∙◌}
 use Rattle.rules_instructions.specs.Straight as i
 use Rattle.rules_steps.specs.Costs.{text_weight}
 use Rattle.mich_stack.specs.Views.{seen, values}

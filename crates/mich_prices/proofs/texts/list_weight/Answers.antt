@@ -1,8 +1,7 @@
-use Rattle.std.proofs.Common.{◌≡◌, ◌+◌, ℕ, List, length, reverse, sym, ap, ◌∙◌, subst, arith}
+use Rattle.std.proofs.Common.{◌≡◌, ◌+◌, length, reverse, ap, ◌∙◌, arith}
 use Rattle.rules_steps.specs.Texts.{bytes_of}
 use Rattle.mich_stack.specs.Views.{seen}
 use Rattle.mich_term.specs.Weights.{capped}
-use Rattle.mich_term.specs.declared.value.Value.{Value}
 use Rattle.mich_prices.proofs.Joining.{capped_more, joined_weight, one_joined}
 use Rattle.mich_prices.proofs.texts.list_weight.Goals as goal
 

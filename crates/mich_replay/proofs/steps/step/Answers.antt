@@ -1,4 +1,4 @@
-use Rattle.std.proofs.Common.{◌≡◌, List, ℕ, Ok, subst}
+use Rattle.std.proofs.Common.{Ok, subst}
 use Rattle.std.specs.declared.option.Option.{Option}
 use Rattle.rules_replay.specs.Replay.{step}
 use Rattle.mich_ops.specs.declared.receipt.GroupReceipt.{GroupReceipt}

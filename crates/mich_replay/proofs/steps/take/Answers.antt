@@ -1,9 +1,7 @@
-use Rattle.std.proofs.Common.{◌≡◌, sym, ap, ◌∙◌, subst}
+use Rattle.std.proofs.Common.{sym, subst}
 use Rattle.std.specs.declared.option.Option.{Option}
-use Rattle.std.specs.Prelude.{Some}
-use Rattle.rules_course.specs.Ranges.{IsStatement}
 use Rattle.rules_replay.specs.Replay.{taken}
-use Rattle.rules_statements.specs.Statements.{Statement, form}
+use Rattle.rules_statements.specs.Statements.{Statement}
 use Rattle.laws_course.proofs.Fields.{statements_have_ranges}
 use Rattle.mich_base.specs.View.{tree}
 use Rattle.mich_scenario.specs.View.{said}
