@@ -1,12 +1,12 @@
 -- Where the code of a contract begins, and that it ends as the definitions say.
-use Rattle.std.proofs.Common.{rules, ◌≡◌, ℕ, ℤ, pos, ◌-ℤ◌, Bool, true, false, cond, List, [], ◌∷◌, ◌++◌, map, Some, None, Ok, Err, Result, refl, sym, ap, ◌∙◌, subst, arith, is_some}
+use Rattle.std.proofs.Common.{rules, ◌≡◌, ℕ, ℤ, pos, ◌-ℤ◌, Bool, true, false, cond, List, [], ◌∷◌, map, Some, None, Ok, Err, Result, refl, sym, ap, ◌∙◌, subst, arith, is_some}
 use Rattle.std.specs.Prelude.{option_map}
 use Rattle.std.specs.declared.option.Option.{Option}
 use Rattle.std.specs.BTreeMap.{is_at}
 use Rattle.std.specs.List.{AllByRecursion}
 use Rattle.std.specs.Map.{lookup}
 use Rattle.std.proofs.lemmas.Int.{ints}
-use Rattle.rules_base.specs.Tree.{Tree, Trees, seq}
+use Rattle.rules_base.specs.Tree.{Tree, seq}
 use Rattle.rules_types.specs.Entrypoints.{Entry, find_entry}
 use Rattle.rules_types.specs.Kind.{Kind}
 use Rattle.rules_instructions.specs.Arguments.{found}
@@ -18,16 +18,14 @@ use Rattle.rules_steps.specs.Changes.{Change}
 use Rattle.rules_steps.specs.Failure.{Failure}
 use Rattle.rules_evaluation.specs.Evaluation.{eval}
 use Rattle.rules_evaluation.specs.Loops.{ending}
-use Rattle.rules_evaluation.specs.Operations.{Tally}
 use Rattle.rules_evaluation.specs.Outcome.{Outcome, stack, failed, only_if}
 use Rattle.rules_evaluation.specs.Surroundings.{Contract as PlainContract}
-use Rattle.rules_world.specs.Outcomes.{Setting, Counts as PlainCounts}
+use Rattle.rules_world.specs.Outcomes.{Setting}
 use Rattle.rules_world.specs.Runs.{surroundings_of, tally_of, type_before, type_after, value_before, returned, with_returned, behind_code, run_of, Ended, finished, run_failed, run_stuck, run_in}
 use Rattle.rules_world.specs.Targets.{Target, wrapped}
 use Rattle.rules_world.specs.World.{World as PlainWorld, contract_at as plain_contract_at}
-use Rattle.rules_world.specs.Holdings.{minted_ever, burnt_ever}
+use Rattle.rules_world.specs.Holdings.{burnt_ever}
 use Rattle.laws_types.proofs.SameKinds.{same_kinds_refl}
-use Rattle.rules_instructions.specs.Same.{same_kinds}
 use Rattle.laws_operations.specs.NewOperations.{AreInTurn, Advances, AdvancesTo}
 use Rattle.laws_operations.proofs.AdvancingLevels.{operations_are_new}
 use Rattle.laws_runs.proofs.Scripts.{IsMet}
@@ -55,7 +53,6 @@ use Rattle.mich_instr.specs.declared.instr.Script.{Script, out-Script}
 use Rattle.mich_instr.specs.declared.instr.Script as scripts
 use Rattle.mich_interpreter.specs.Begins.{Opens}
 use Rattle.mich_interpreter.specs.Ends.{KeepsState, failure}
-use Rattle.mich_interpreter.specs.Runs.{IsEnd}
 use Rattle.mich_interpreter.specs.View.{Beyond, tops, around, tally}
 use Rattle.mich_interpreter.specs.declared.act.Failed.{Failed}
 use Rattle.mich_interpreter.specs.declared.state.Counts.{Counts}
@@ -65,20 +62,17 @@ use Rattle.mich_step.specs.Views.{environment}
 use Rattle.mich_step.specs.declared.environment.Env.{Env}
 use Rattle.mich_term.specs.Layers.{AreFormed, FormedLayer}
 use Rattle.mich_term.specs.declared.value.Value.{Value}
-use Rattle.mich_tickets.specs.Books.{State as Ledger}
-use Rattle.mich_tickets.specs.Effects.{change, Adds, Tells}
-use Rattle.mich_world.specs.Holders.{Holders, by_bytes, contract_at}
+use Rattle.mich_tickets.specs.Effects.{change, Adds}
+use Rattle.mich_world.specs.Holders.{by_bytes, contract_at}
 use Rattle.mich_world.specs.Marks.{KeepsWorld}
-use Rattle.mich_world.specs.Standing.{plain, StandsFor}
+use Rattle.mich_world.specs.Standing.{plain}
 use Rattle.mich_world.specs.Storages.{IsStored}
 use Rattle.mich_world.specs.World.{World, with_ledger}
 use Rattle.mich_world.specs.declared.contract.Contract.{Contract}
-use Rattle.mich_standing.specs.Runs.{Runs}
 use Rattle.mich_standing.proofs.Runs.{ledgers_run}
 use Rattle.mich_standing.proofs.Agreement.{contracts_agree}
 use Rattle.mich_machine.specs.Begins.{entries_of, code_of}
 use Rattle.mich_machine.specs.Calls.{IsHosting, Calls, setting, counts_of, EndsAs, WithMemory}
-use Rattle.mich_machine.specs.Calls as calls
 use Rattle.mich_machine.specs.Endings.{IsEnding}
 use Rattle.mich_machine.specs.Ends.{FailsSo, EndsSo}
 use Rattle.mich_machine.specs.declared.running.Finished.{Finished}

@@ -1,5 +1,5 @@
 -- What is made of the end of a contract's code stands for what the definitions make of it.
-use Rattle.std.proofs.Common.{◌≡◌, ℕ, ℤ, pos, ◌+ℤ◌, ◌-ℤ◌, ◌≤ℤ◌, Bool, true, false, List, [], ◌∷◌, ◌++◌, map, filter, flat_map, Some, None, refl, sym, ap, ◌∙◌, subst, ◌⊎◌, inl, inr, arith}
+use Rattle.std.proofs.Common.{◌≡◌, ℕ, ℤ, pos, ◌+ℤ◌, ◌-ℤ◌, ◌≤ℤ◌, true, List, [], ◌∷◌, ◌++◌, map, filter, flat_map, Some, None, refl, sym, ap, ◌∙◌, subst, ◌⊎◌, inl, inr, arith}
 use Rattle.std.specs.Prelude.{is_some, option_map}
 use Rattle.std.specs.declared.option.Option.{Option}
 use Rattle.std.specs.List.{All, AllByRecursion}
@@ -11,23 +11,19 @@ use Rattle.rules_evaluation.specs.Operations as rules
 use Rattle.rules_evaluation.specs.Surroundings.{Contract as PlainContract}
 use Rattle.rules_steps.specs.Changes.{Change, burns, burnt, minted_in, burnt_in, amount_in, amount_among}
 use Rattle.rules_steps.specs.Failure.{operation_replay}
-use Rattle.rules_typing.specs.Fits.{Known}
 use Rattle.rules_values.specs.Tickets.{Identity, Held, tickets}
-use Rattle.rules_values.specs.Val.{Val, both, list}
+use Rattle.rules_values.specs.Val.{Val}
 use Rattle.rules_world.specs.Forms.{IsTicket, IsChange}
-use Rattle.rules_world.specs.Good.{known_with, FitsIn, IsGoodOperation, MayRun}
+use Rattle.rules_world.specs.Good.{known_with, FitsIn, IsGoodOperation}
 use Rattle.rules_world.specs.Holdings.{held, minted_ever, burnt_ever}
-use Rattle.rules_world.specs.Outcomes.{Setting, Counts}
-use Rattle.rules_world.specs.Runs.{Returned, returned, has_twice, issued_with, unreturned, discarded, Finished, Ended, finished, run_failed, kept, unless_twice, with_returned, run_in}
+use Rattle.rules_world.specs.Runs.{Returned, returned, has_twice, issued_with, unreturned, Finished, finished, run_failed, kept, unless_twice, with_returned}
 use Rattle.rules_world.specs.RunLaws.{amount_returned}
-use Rattle.rules_world.specs.Targets.{Target}
-use Rattle.rules_world.specs.World.{World as PlainWorld, contract_at as plain_contract_at, with_contract}
+use Rattle.rules_world.specs.World.{World as PlainWorld, contract_at as plain_contract_at}
 use Rattle.laws_accounts.proofs.Amounts.{minted_append, burnt_append, among_positive, in_positive}
 use Rattle.laws_agreement.proofs.Amounts.{burnt_of_burns, minted_of_burns}
 use Rattle.laws_operations.specs.NewOperations.{AreInTurn}
 use Rattle.laws_runs.specs.RunEnds.{IsFinished, EndsWell}
 use Rattle.laws_runs.proofs.Runs.{runs_end_well}
-use Rattle.laws_runs.proofs.RunStacks.{tickets_of}
 use Rattle.laws_runs.proofs.Surrounded.{held_within, orderly}
 use Rattle.laws_runs.proofs.Waiting.{operation_good}
 use Rattle.laws_runs.proofs.Worlds.{set_here}

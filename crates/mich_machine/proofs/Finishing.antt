@@ -1,19 +1,16 @@
 -- What `finish` asks of the calls that it makes, and what it leaves.
 use Rattle.std.proofs.Common.{◌≡◌, ℕ, Bool, true, false, cond, List, [], ◌∷◌, map, Some, None, refl, sym, ap, ◌∙◌, subst, is_some}
-use Rattle.std.specs.Prelude.{option_map}
 use Rattle.std.specs.declared.option.Option.{Option}
 use Rattle.std.specs.BTreeMap.{is_at}
 use Rattle.std.specs.List.{AllByRecursion}
 use Rattle.std.specs.Map.{values_of}
 use Rattle.rules_steps.specs.Changes.{burns}
-use Rattle.rules_steps.specs.Failure.{operation_replay}
 use Rattle.rules_values.specs.Tickets.{tickets}
 use Rattle.rules_values.specs.Val.{Val, Vals, both, list}
-use Rattle.rules_world.specs.Runs.{Returned, numbers_in, Ended, run_failed}
+use Rattle.rules_world.specs.Runs.{Returned, numbers_in, Ended}
 use Rattle.laws_sights.specs.Sights.{sight}
 use Rattle.mich_bigmap.specs.Extended.{Extends}
 use Rattle.mich_bigmap.specs.Layers.{HasBases}
-use Rattle.mich_bigmap.specs.Ticketless.{HoldNoTickets}
 use Rattle.mich_instr.specs.Scripts.{IsTypedScript}
 use Rattle.mich_instr.specs.declared.issued.Issued.{Issued}
 use Rattle.mich_interpreter.specs.View.{tops}
@@ -24,18 +21,17 @@ use Rattle.mich_term.specs.ValueView.{val}
 use Rattle.mich_term.specs.declared.ticket.Change.{Change}
 use Rattle.mich_term.specs.declared.value.Value.{Value}
 use Rattle.mich_tickets.specs.Books.{State}
-use Rattle.mich_tickets.specs.Effects.{Tells, change}
+use Rattle.mich_tickets.specs.Effects.{Tells}
 use Rattle.mich_undo.specs.Undone.{changed_at}
 use Rattle.mich_world.specs.Holders.{Holders, by_bytes, restored, contract_at}
 use Rattle.mich_world.specs.Standing.{StandsFor}
 use Rattle.mich_world.specs.Storages.{AreStored, MayReplace, owner_of, stored_tickets, Commits}
 use Rattle.mich_world.specs.World.{World, with_ledger}
 use Rattle.mich_world.specs.declared.contract.Contract.{Contract}
-use Rattle.mich_machine.specs.Calls.{IsHosting, issued_in, IsHanded}
+use Rattle.mich_machine.specs.Calls.{IsHosting}
 use Rattle.mich_machine.specs.Endings.{IsEnding}
 use Rattle.mich_machine.specs.Ends.{run_at, FailsSo, EndsWith}
 use Rattle.mich_machine.specs.Returned.{by_number, handed, Numbered, Pick, picks, IsPicked}
-use Rattle.mich_machine.specs.declared.running.Finished.{Finished}
 use Rattle.mich_machine.proofs.Ended.{some, shape, replayed, there_so, may_replace, y_stored, new_world, z_stands, bases_more, z_ticketless, run_so, handed_so, given_based}
 
 -- ---- the stack

@@ -1,5 +1,5 @@
 -- The numbers that a list of operations holds.
-use Rattle.std.proofs.Common.{◌≡◌, ℕ, List, [], ◌∷◌, map, Some, None, refl, sym, ap, ◌∙◌, subst}
+use Rattle.std.proofs.Common.{◌≡◌, ℕ, List, ◌∷◌, map, Some, None, refl, sym, ap, ◌∙◌, subst}
 use Rattle.std.specs.declared.option.Option.{Option}
 use Rattle.rules_values.specs.Val.{Val, Pairs, operation, more_vals}
 use Rattle.rules_world.specs.Runs.{operation_number, with_number, numbers_in}

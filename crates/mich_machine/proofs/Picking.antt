@@ -1,8 +1,7 @@
 -- Operations are put by their numbers, and picked one after the other.
-use Rattle.std.proofs.Common.{◌≡◌, ◌<◌, ℕ, Bool, true, false, cond, List, [], ◌∷◌, ◌++◌, map, Some, None, refl, sym, ap, ◌∙◌, subst, append_assoc, ◌==◌, arith}
+use Rattle.std.proofs.Common.{◌≡◌, ◌<◌, ℕ, Bool, true, false, cond, List, [], ◌∷◌, ◌++◌, Some, None, refl, sym, ap, ◌∙◌, subst, append_assoc, ◌==◌, arith}
 use Rattle.std.specs.Prelude.{nat_lt}
 use Rattle.std.specs.declared.option.Option.{Option}
-use Rattle.std.specs.declared.cmp.Ordering.{Ordering}
 use Rattle.std.specs.declared.cmp.Ordering.TheVariants.{Less, Equal, Greater}
 use Rattle.std.specs.BTreeMap.{is_at, insert_entry}
 use Rattle.std.specs.List.{AllByRecursion}
@@ -10,7 +9,7 @@ use Rattle.std.specs.Map.{lookup, remove_entry}
 use Rattle.std.specs.Ordering.{nat_cmp, match_ordering}
 use Rattle.std.proofs.lemmas.Bool.{ltb-true, eqb-true}
 use Rattle.std.proofs.lemmas.List.{append-nil}
-use Rattle.rules_values.specs.Val.{Val, Vals, operation, more_vals, no_val}
+use Rattle.rules_values.specs.Val.{Vals, operation, more_vals, no_val}
 use Rattle.rules_world.specs.Runs.{with_number, numbers_in}
 use Rattle.mich_instr.specs.declared.issued.Issued.{Issued}
 use Rattle.mich_machine.specs.Returned.{number_of, AreRising, Numbered, numbered, by_number, Pick, with_pick, picks}

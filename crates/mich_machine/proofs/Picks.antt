@@ -1,18 +1,17 @@
 -- Operations that are picked by their numbers out of those that were issued, and those that are left.
 use Rattle.std.proofs.Common.{◌≡◌, ◌<◌, ℕ, Bool, true, false, cond, List, [], ◌∷◌, map, Some, None, refl, sym, ap, ◌∙◌, subst, ◌||◌, ◌==◌, ◌⊎◌, inl, inr, arith}
-use Rattle.std.specs.Prelude.{not, filter, option_map, is_some, nat_lt}
+use Rattle.std.specs.Prelude.{not, filter, option_map, nat_lt}
 use Rattle.std.specs.declared.option.Option.{Option}
 use Rattle.std.specs.BTreeMap.{is_at}
 use Rattle.std.specs.List.{AllByRecursion, find}
 use Rattle.std.specs.Map.{lookup, remove_entry, values_of}
 use Rattle.std.specs.Ordering.{nat_cmp, is_eq}
-use Rattle.std.specs.declared.cmp.Ordering.{Ordering}
 use Rattle.std.specs.declared.cmp.Ordering.TheVariants.{Less, Equal, Greater}
 use Rattle.std.proofs.lemmas.Bool.{eqb-true, eqb-false, ltb-true}
 use Rattle.rules_evaluation.specs.Operations as rules
 use Rattle.rules_world.specs.Runs.{stands_in, has_twice, with_issued, issued_with, unreturned}
 use Rattle.mich_instr.specs.declared.issued.Issued.{Issued}
-use Rattle.mich_machine.specs.Returned.{number_of, AreRising, Numbered, numbered, by_number, Pick, with_pick, picks}
+use Rattle.mich_machine.specs.Returned.{number_of, AreRising, numbered, by_number, Pick, with_pick, picks}
 
 -- ---- tests
 

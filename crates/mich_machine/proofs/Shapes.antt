@@ -1,5 +1,5 @@
 -- The shape of the stack at the end of a contract's code, and what follows of the operations that it returns.
-use Rattle.std.proofs.Common.{◌≡◌, ℕ, Bool, true, false, List, [], ◌∷◌, ◌++◌, Some, None, refl, sym, ap, ◌∙◌, ◌⊎◌, inl, inr}
+use Rattle.std.proofs.Common.{◌≡◌, ℕ, Bool, true, false, List, [], ◌∷◌, ◌++◌, Some, None, refl, ap, ◌∙◌, ◌⊎◌, inl, inr}
 use Rattle.std.specs.Prelude.{option_map}
 use Rattle.std.specs.declared.option.Option.{Option}
 use Rattle.rules_evaluation.specs.Operations.{Issued, Tally}
@@ -7,10 +7,10 @@ use Rattle.rules_evaluation.specs.Surroundings.{Contract}
 use Rattle.rules_steps.specs.Failure.{operation_replay}
 use Rattle.rules_values.specs.Val.{Val, Vals, both, list}
 use Rattle.rules_world.specs.Outcomes.{Setting, Counts}
-use Rattle.rules_world.specs.Runs.{Returned, numbers_in, returned, has_twice, issued_with, discarded, Finished, Ended, finished, run_failed, run_stuck, kept, finished_with, unless_twice, with_returned}
+use Rattle.rules_world.specs.Runs.{Returned, numbers_in, returned, has_twice, issued_with, discarded, Finished, finished, run_failed, kept, finished_with, unless_twice, with_returned}
 use Rattle.rules_world.specs.Targets.{Target}
 use Rattle.rules_world.specs.World.{World}
-use Rattle.laws_runs.specs.RunEnds.{IsFinished, EndsWell}
+use Rattle.laws_runs.specs.RunEnds.{EndsWell}
 
 -- operations and a storage
 pub record IsShape (V : List Val) (r : Returned) : Type 0 where

@@ -1,5 +1,5 @@
 -- The numbers of operations in order of issue rise.
-use Rattle.std.proofs.Common.{◌≡◌, ◌<◌, ◌≤◌, ◌+◌, ℕ, suc, List, [], ◌∷◌, map, subst, arith}
+use Rattle.std.proofs.Common.{◌≡◌, ◌<◌, ◌≤◌, ℕ, suc, List, [], ◌∷◌, map, arith}
 use Rattle.std.specs.List.{AllByRecursion}
 use Rattle.rules_evaluation.specs.Operations as rules
 use Rattle.laws_operations.specs.NewOperations.{AreInTurn}

@@ -6,7 +6,7 @@ use Rattle.rules_gas.specs.Prices.{Listed}
 use Rattle.rules_world.specs.World.{World as PlainWorld}
 use Rattle.rules_world.specs.Outcomes.{Setting, Counts as PlainCounts}
 use Rattle.rules_world.specs.Targets.{Target}
-use Rattle.rules_world.specs.Runs.{Ended, finished, run_failed, run_stuck, run_in}
+use Rattle.rules_world.specs.Runs.{Ended, finished, run_failed, run_in}
 use Rattle.rules_world.specs.RunLaws.{IsCall}
 use Rattle.mich_base.specs.TypeView.{kind}
 use Rattle.mich_bigmap.specs.Bases.{Bases}
@@ -26,7 +26,6 @@ use Rattle.mich_step.specs.declared.environment.Env.{Env}
 use Rattle.mich_term.specs.Layers.{AreFormed}
 use Rattle.mich_term.specs.declared.value.Value.{Value}
 use Rattle.mich_tickets.specs.Effects.{change}
-use Rattle.mich_world.specs.Marks.{KeepsWorld}
 use Rattle.mich_world.specs.Standing.{StandsFor}
 use Rattle.mich_world.specs.Storages.{AreStored}
 use Rattle.mich_world.specs.World.{World}

@@ -1,5 +1,5 @@
 use Rattle.std.proofs.Common.{◌-◌, arith}
-use Rattle.mich_stack.specs.Views.{Sight, seen}
+use Rattle.mich_stack.specs.Views.{seen}
 use Rattle.mich_machine.proofs.Wrapping.{wrap_on}
 use Rattle.mich_machine.proofs.beginning.wrap.Goals as goal
 

@@ -1,5 +1,5 @@
 -- The run that the definitions give is followed from the stack on.
-use Rattle.std.proofs.Common.{◌≡◌, List, [], Some, None, refl, sym, ap, ◌∙◌, subst}
+use Rattle.std.proofs.Common.{List, [], refl, sym, subst}
 use Rattle.std.specs.declared.option.Option.{Option}
 use Rattle.std.specs.Map.{values_of}
 use Rattle.rules_steps.specs.Changes.{burns}
@@ -7,13 +7,13 @@ use Rattle.laws_sights.specs.Sights.{sight}
 use Rattle.mich_instr.specs.declared.issued.Issued.{Issued}
 use Rattle.mich_tickets.specs.Effects.{Tells}
 use Rattle.mich_tickets.specs.Limits.{IsReady}
-use Rattle.mich_world.proofs.Marks.{world_same, world_trans, world_equal, ledger_lent}
+use Rattle.mich_world.proofs.Marks.{world_same, world_trans, ledger_lent}
 use Rattle.mich_undo.proofs.Histories.{keeps_same}
 use Rattle.mich_world.specs.Marks.{KeepsWorld}
 use Rattle.mich_world.specs.World.{World}
 use Rattle.mich_machine.specs.Calls.{IsHosting}
 use Rattle.mich_machine.specs.Ends.{EndsWith}
-use Rattle.mich_machine.specs.Returned.{Numbered, Pick, picks, IsPicked, handed}
+use Rattle.mich_machine.specs.Returned.{Numbered, picks, IsPicked, handed}
 use Rattle.mich_machine.proofs.Ended.{some, shape, rising, ready, given_formed}
 use Rattle.mich_machine.proofs.Finishing.{numbers_so, storage_so, replay_so, picked_so, replace_so, there_still, based_so, stored_so, ends_so, hosting_so}
 use Rattle.mich_machine.proofs.ending.finish.Goals as goal

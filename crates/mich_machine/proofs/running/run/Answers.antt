@@ -1,4 +1,4 @@
-use Rattle.std.proofs.Common.{subst, ◌≡◌, Bool, true, false, Some, None, refl, sym, ap, ◌∙◌, is_some}
+use Rattle.std.proofs.Common.{subst, ◌≡◌, true, false, Some, None, refl, sym, ap, ◌∙◌, is_some}
 use Rattle.mich_undo.specs.History.{Keeps as KeepsBooks}
 use Rattle.mich_interpreter.specs.Ends.{KeepsPast, KeepsState}
 use Rattle.mich_interpreter.specs.Runs.{IsEnd, KeepsEnd}
