@@ -1,4 +1,4 @@
-use Rattle.std.proofs.Common.{true, Err, refl, subst}
+use Rattle.std.proofs.Common.{Err, refl, subst}
 use Rattle.mich_overload.specs.View.{straight}
 use Rattle.mich_stack.specs.Views.{values}
 use Rattle.mich_term.specs.ValueView.{big_step}
