@@ -174,7 +174,10 @@ static CONTRACTS: [(&str, &str); 7] = [
 #[test]
 fn contracts(rt: HostRuntime) -> Result<(), Fail> {
     for (file, expected) in CONTRACTS {
-        assert!(rt; is_answered(rt.alloc(), "replay", file, 0, expected)?, "{file}");
+        assert!(rt;
+            is_answered(rt.alloc(), "replay", file, 0, expected)?,
+            "{file}"
+        );
     }
     Ok(())
 }
