@@ -393,7 +393,7 @@ fn many_accounts(alloc: Global) -> Result<World, GrantError> {
 }
 
 fn rounds(world: &mut World) -> Result<(), MoveError> {
-    for _ in 0..200_000 {
+    for _ in 0..50_000 {
         let mark = world.mark();
         world.take_fee(key_hash(0), 1)?;
         world.undo_to(mark);
