@@ -1,7 +1,6 @@
 -- Transfers that contracts issue.
-use Rattle.std.proofs.Common.{◌≡◌, ◌≤◌, ℕ, ◌∷◌, [], Bool, true, false, List, length, Some, None, Result, Err, refl, sym, ap, ◌∙◌, subst, is_some, arith, inl, inr}
+use Rattle.std.proofs.Common.{◌≡◌, ◌≤◌, ℕ, ◌∷◌, [], Bool, true, List, length, length-append, Some, Result, refl, sym, ap, ◌∙◌, subst, is_some, arith, inl, inr}
 use Rattle.std.specs.Prelude.{if◌then◌else◌}
-use Rattle.std.specs.declared.option.Option.{Option}
 use Rattle.std.specs.Str.{bytes_eq}
 use Rattle.std.proofs.lemmas.Bool.Decides.{nat_tests}
 use Rattle.std.proofs.lemmas.List.Elements.{All-head}
@@ -14,7 +13,6 @@ use Rattle.rules_steps.specs.Failure.{no_entrypoint}
 use Rattle.rules_types.specs.Kind.{Kind}
 use Rattle.rules_typing.specs.Fits.{is_place}
 use Rattle.rules_values.specs.ByteForms.{is_implicit, is_key_hash}
-use Rattle.rules_values.specs.Tickets.{Held}
 use Rattle.rules_values.specs.Val.{Val}
 use Rattle.rules_world.specs.Application.{issued_transaction}
 use Rattle.rules_world.specs.Arguments.{value}
@@ -29,6 +27,7 @@ use Rattle.laws_world.proofs.Calls.{called_call}
 use Rattle.laws_world.proofs.Taken.{taken_transfer}
 use Rattle.mich_bigmap.specs.Standing.{val_in}
 use Rattle.mich_forms.specs.Spelled.{place_bytes}
+use Rattle.mich_forms.proofs.Joining.{IsPlace-length}
 use Rattle.mich_forms.specs.declared.places.Place.{Place}
 use Rattle.mich_forms.specs.declared.places.Place.TheVariants as place
 use Rattle.mich_interpreter.specs.declared.state.Counts.{Counts}
@@ -47,10 +46,6 @@ use Rattle.mich_operations.proofs.Paying.{ends_along}
 use Rattle.mich_operations.proofs.Ran.{there_in}
 
 -- ---- to an account
-
-pub no_ticket : (o : Option Held) → is_some o ≡ false → o ≡ None
-no_ticket None h = refl
-no_ticket (Some t) h = absurd cc
 
 -- an account takes what a contract sends at its one entrypoint
 module _ (w : PlainWorld) (from : Place) (who name : List ℕ) (amount : ℕ) (x : Val) (gas : ℕ) (counts : Counts) (z : World) where
@@ -73,6 +68,9 @@ account_so : (who : List ℕ) → IsPlace (implicit_place who) → is_place (imp
 account_so who h = elim h [ inl a ↦ account_is_place who (key_hash_so who a.1) | inr b ↦ let no : ◌≡◌ {A = ℕ} 0 1 = b.0 in let none : ⊥ = omega arith in absurd none ]
 
 -- ---- to a place
+
+twenty_so : (hash : List ℕ) → IsPlace (contract_place hash) → length hash ≡ 20
+twenty_so hash h = let long : length (contract_place hash) ≡ 22 = IsPlace-length (contract_place hash) h in omega (arith, long, length-append hash (0 ∷ []))
 
 module _ (v : World) (w : PlainWorld) (s : Setting) (by : List ℕ) (to : Place) (name : List ℕ) (amount : ℕ) (argument : Value) (counts : PlainCounts) (address : List ℕ)
     (spelled : spelled_address (place_bytes to) name ≡ address) (is_target : IsPlace (place_bytes to)) (is_name : IsEntrypoint name)
@@ -122,12 +120,12 @@ module _ (v : World) (w : PlainWorld) (s : Setting) (by : List ℕ) (to : Place)
         ∙ ap (λ (i : Bool). delivered i s w (transaction (place.Contract by) (place.Implicit who) name amount (value x)) gas (counts_of counts)) (implicit_of who account))
         h)
 
-  module _ (hash : List ℕ) (twenty : length hash ≡ 20) (is : to ≡ place.Contract hash) where
-    abbrev T : Transaction
-    T = transaction (place.Contract by) (place.Contract hash) name amount (value x)
+  module _ (hash : List ℕ) (is : to ≡ place.Contract hash) where
+    abbrev sending : Transaction
+    sending = transaction (place.Contract by) (place.Contract hash) name amount (value x)
 
     same_hash : hash_in (contract_place hash) ≡ hash
-    same_hash = hash_of hash twenty
+    same_hash = hash_of hash (twenty_so hash (subst (λ (p : Place). IsPlace (place_bytes p)) is is_target))
 
     goes_there : place_of address ≡ contract_place hash
     goes_there = goes ∙ ap place_bytes is
@@ -162,7 +160,7 @@ module _ (v : World) (w : PlainWorld) (s : Setting) (by : List ℕ) (to : Place)
       hash = met_so.1;
       named = met_so.2;
       call = λ enough.
-          called_call b.next.start s b.next.setting b.next.contents b.next.few w T b.next.behind counts (λ id. amount_in id x)
+          called_call b.next.start s b.next.setting b.next.contents b.next.few w sending b.next.behind counts (λ id. amount_in id x)
           (taken_transfer b.next.start s.group b.next.contents w b.next.behind counts (contract_place by) x amount address b.next.going)
           refl first.0 first.1.3 met_there.0 x met_so.0 (met_so.1 ∙ sym same_hash)
           (subst (λ (k : Kind). FitsIn w k x) (sym same_kind) first.1.2)
@@ -171,13 +169,13 @@ module _ (v : World) (w : PlainWorld) (s : Setting) (by : List ℕ) (to : Place)
     })
 
     pub sends_contract : (gas left : ℕ) (old new : Counts) (z : World) (r : Result Applied ApplyError) →
-        EndsAs (covered s w T sent_due.0 x gas (counts_of old)) z left old new r →
+        EndsAs (covered s w sending sent_due.0 x gas (counts_of old)) z left old new r →
         EndsAs (delivered (is_implicit (place_of address)) s w (issued_transaction (contract_place by) x amount address) gas (counts_of old)) z left old new r
     sends_contract gas left old new z r k =
         spelled_ends gas left old new z r
         (ends_along (delivered (is_implicit (place_bytes to)) s w (transaction (place.Contract by) to name amount (value x)) gas (counts_of old))
-        (covered s w T met_there.0 x gas (counts_of old)) z left old new r
+        (covered s w sending met_there.0 x gas (counts_of old)) z left old new r
         (ap (λ (p : Place). delivered (is_implicit (place_bytes p)) s w (transaction (place.Contract by) p name amount (value x)) gas (counts_of old)) is
-        ∙ ap (λ (q : List ℕ). on_met (search w q name) (λ target. with_argument (found x) s w T target gas (counts_of old))) same_hash
-        ∙ ap (λ (q : Search). on_met q (λ target. with_argument (found x) s w T target gas (counts_of old))) met_there.1)
+        ∙ ap (λ (q : List ℕ). on_met (search w q name) (λ target. with_argument (found x) s w sending target gas (counts_of old))) same_hash
+        ∙ ap (λ (q : Search). on_met q (λ target. with_argument (found x) s w sending target gas (counts_of old))) met_there.1)
         k)
