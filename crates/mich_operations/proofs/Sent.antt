@@ -171,6 +171,7 @@ module _ (v : World) (w : PlainWorld) (s : Setting) (by : List ℕ) (to : Place)
     pub sends_contract : (gas left : ℕ) (old new : Counts) (z : World) (r : Result Applied ApplyError) →
         EndsAs (covered s w sending sent_due.0 x gas (counts_of old)) z left old new r →
         EndsAs (delivered (is_implicit (place_of address)) s w (issued_transaction (contract_place by) x amount address) gas (counts_of old)) z left old new r
+    unfolding met_there sent_due
     sends_contract gas left old new z r k =
         spelled_ends gas left old new z r
         (ends_along (delivered (is_implicit (place_bytes to)) s w (transaction (place.Contract by) to name amount (value x)) gas (counts_of old))
