@@ -1,16 +1,15 @@
 -- Addresses, and the entrypoints of contracts that they name.
-use Rattle.std.proofs.Common.{◌≡◌, ℕ, Bool, true, false, List, None, Some, refl, sym, ap, ◌∙◌, subst}
+use Rattle.std.proofs.Common.{◌≡◌, ℕ, true, List, None, Some, refl, sym, ap, ◌∙◌}
 use Rattle.std.specs.Prelude.{option_and_then}
 use Rattle.std.specs.declared.option.Option.{Option}
 use Rattle.std.proofs.lemmas.List.{take_at}
 use Rattle.rules_evaluation.specs.Contracts.{has_kind, entry_in, hash_in, takes}
 use Rattle.rules_evaluation.specs.Surroundings.{Contract}
 use Rattle.rules_forms.specs.Spelling.{IsPlace, IsEntrypoint, spelled_address, written_entrypoint, place_of, entrypoint_of, contract_place}
-use Rattle.rules_instructions.specs.Arguments.{Found, found}
 use Rattle.rules_types.specs.Entrypoints.{Entry, find_entry}
 use Rattle.rules_types.specs.Kind.{Kind}
 use Rattle.rules_typing.specs.Scripts.{Script}
-use Rattle.rules_world.specs.Targets.{Target, Search, met, with_entry, in_script, in_contract, search}
+use Rattle.rules_world.specs.Targets.{Target, met, with_entry, in_script, in_contract, search}
 use Rattle.rules_world.specs.World.{World, contract_at}
 use Rattle.laws_runs.proofs.Scripts.{entry_of_script}
 use Rattle.laws_runs.proofs.Worlds.{IsOrderly, contract_stores}

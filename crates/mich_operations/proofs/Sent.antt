@@ -152,21 +152,24 @@ module _ (v : World) (w : PlainWorld) (s : Setting) (by : List ℕ) (to : Place)
         ∙ ap is_some met_so.0.there
 
     pub sent_due : (t : Target) × IsDue v w s counts (place.Contract by) hash name amount argument t
-    sent_due = (met_there.0, record {
-      stands = b.stands;
-      form = b.next.going.good.sound.form;
-      sender = first.0;
-      there = there;
-      hash = met_so.1;
-      named = met_so.2;
-      call = λ enough.
-          called_call b.next.start s b.next.setting b.next.contents b.next.few w sending b.next.behind counts (λ id. amount_in id x)
-          (taken_transfer b.next.start s.group b.next.contents w b.next.behind counts (contract_place by) x amount address b.next.going)
-          refl first.0 first.1.3 met_there.0 x met_so.0 (met_so.1 ∙ sym same_hash)
-          (subst (λ (k : Kind). FitsIn w k x) (sym same_kind) first.1.2)
-          (λ id. refl)
-          enough;
-    })
+    sent_due = (
+      met_there.0,
+      record {
+        stands = b.stands;
+        form = b.next.going.good.sound.form;
+        sender = first.0;
+        there = there;
+        hash = met_so.1;
+        named = met_so.2;
+        call = λ enough.
+            called_call b.next.start s b.next.setting b.next.contents b.next.few w sending b.next.behind counts (λ id. amount_in id x)
+            (taken_transfer b.next.start s.group b.next.contents w b.next.behind counts (contract_place by) x amount address b.next.going)
+            refl first.0 first.1.3 met_there.0 x met_so.0 (met_so.1 ∙ sym same_hash)
+            (subst (λ (k : Kind). FitsIn w k x) (sym same_kind) first.1.2)
+            (λ id. refl)
+            enough;
+      },
+    )
 
     pub sends_contract : (gas left : ℕ) (old new : Counts) (z : World) (r : Result Applied ApplyError) →
         EndsAs (covered s w sending sent_due.0 x gas (counts_of old)) z left old new r →
