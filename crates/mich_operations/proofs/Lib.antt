@@ -6,3 +6,5 @@ pub mod Issuing
 pub mod Calling
 pub mod Orders
 pub mod Ran
+pub mod Entering
+pub mod Sent

@@ -1,10 +1,12 @@
 // Transfers to accounts.
-ghost use Rattle.std.specs.Prelude.{◌≡◌, ◌<◌, ◌^◌, [], ℕ, true, Some, None, IfOk};
+ghost use Rattle.std.specs.Prelude.{◌≡◌, ◌<◌, ◌^◌, [], ℕ, true, is_some, Some, None, IfOk};
 ghost use Rattle.rules_base.specs.Tree.{size};
 ghost use Rattle.rules_world.specs.Arguments.{Argument, node};
+ghost use Rattle.rules_world.specs.Arguments as rules;
 ghost use Rattle.rules_world.specs.Transfers.{as_ticket, to_account, with_taken};
 ghost use Rattle.rules_world.specs.World.{World as PlainWorld};
 ghost use Rattle.mich_base.specs.View.{tree};
+ghost use Rattle.mich_bigmap.specs.Bases.{Bases};
 ghost use Rattle.mich_bigmap.specs.Standing.{val_in};
 ghost use Rattle.mich_forms.specs.declared.places.Place.TheVariants as place;
 ghost use Rattle.mich_machine.specs.Calls.{counts_of, IsHosting};
@@ -20,7 +22,7 @@ use crate::printing::{is_unit, printed};
 use mich_base::{Node, Rows};
 use mich_forms::{Address, Entrypoint, KeyHash, Place};
 use mich_ops::{Effect, Failure};
-use mich_term::Value;
+use mich_term::{Value, abandon};
 use mich_world::{MoveError, World};
 use std::alloc::Global;
 
@@ -103,4 +105,45 @@ pub(crate) fn call_account(
     }
     let from = Place::Implicit(*source);
     pay_account(alloc, world, &from, to, entry, amount, &Value::Unit)
+}
+
+// Whether a value is a ticket.
+fn is_ticket(value: &Value) -> bool
+    ensures { (bs : Bases) → result ≡ is_some (as_ticket (val_in bs value.now)) }
+{
+    match value {
+        Value::Ticket(_) => true,
+        _ => false,
+    }
+}
+
+// Mutez and a value that a contract sends go to an account.
+pub(crate) fn send_account(
+    alloc: Global,
+    world: &mut World,
+    from: &Place,
+    to: &KeyHash,
+    entry: &Entrypoint,
+    amount: u64,
+    value: Value,
+) -> Result<Applied, ApplyError>
+    requires there { may_receive world.old.funds.present from.now ≡ true }
+    ensures ends { (w : PlainWorld) (gas : ℕ) (counts : Counts) → AreBetween world.old w from.now (place.Implicit to.now) → EndsAs (to_account w (transaction from.now (place.Implicit to.now) entry.now amount (rules.value (val_in world.old.store.bases.present value))) gas (counts_of counts)) world.new gas counts counts result }
+    ensures hosting { IsHosting world.old → IfOk result (λ _. IsHosting world.new) }
+    ensures contracts { KeepsContracts world.old world.new }
+    ensures store { world.new.store ≡ world.old.store }
+    ensures keeps { KeepsWorld world.old world.new }
+{
+    if !entry.is_default() {
+        abandon(value);
+        return Err(ApplyError::Failed(Failure::NoEntrypoint));
+    }
+    // Accounts are not yet credited with tickets that contracts send.
+    if is_ticket(&value) {
+        abandon(value);
+        return Err(ApplyError::Memory);
+    }
+    let paid = pay_account(alloc, world, from, to, entry, amount, &value);
+    abandon(value);
+    paid
 }

@@ -13,6 +13,7 @@ ghost use Rattle.mich_operations.specs.Going.{Begins, EndsAs, KeepsContracts, Wi
 use crate::applied::{Applied, ApplyError};
 use crate::charging::charge;
 use crate::founding::found;
+use crate::sending::send;
 use crate::telling::tell;
 use mich_forms::{KeyHash, Place};
 use mich_gas::{Costs, Kind, Meter};
@@ -47,7 +48,17 @@ pub fn apply_issued(
     ensures keeps { WithMemory result (KeepsWorld world.old world.new) }
 {
     match operation {
-        Issued::Transfer { .. } => Err(ApplyError::Memory),
+        Issued::Transfer {
+            argument,
+            amount,
+            to,
+            ..
+        } => {
+            charge(costs, meter, Kind::Transfer)?;
+            send(
+                alloc, world, costs, source, meter, counts, bodies, by, &to, amount, argument,
+            )
+        }
         Issued::Origination {
             delegate,
             amount,

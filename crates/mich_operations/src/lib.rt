@@ -12,6 +12,7 @@ mod issued;
 mod originating;
 mod printing;
 mod running;
+mod sending;
 mod telling;
 
 pub use action::apply_action;

@@ -9,8 +9,11 @@ use Rattle.mich_operations.specs.Going.{Begins, EndsAs, issued_by}
 use Rattle.mich_operations.proofs.Issuing.{absent_yet, keeps_either, makes, may_enter, none_of, pays_for, tells}
 use Rattle.mich_operations.proofs.issued.apply_issued.Goals as goal
 
+pub returns-in_err-charge-in-Transfer-clause-keeps : goal.returns-in_err-charge-in-Transfer-clause-keeps
+returns-in_err-charge-in-Transfer-clause-keeps c = keeps_either c.from_residual.result c.args.world.now
+
 pub returns-in_err-charge-in-Origination-clause-keeps : goal.returns-in_err-charge-in-Origination-clause-keeps
-returns-in_err-charge-in-Origination-clause-keeps c = keeps_either c.from_residual.result c.args.world.now
+returns-in_err-charge-in-Origination-clause-keeps c = keeps_either c.from_residual-in_err-charge-in-Origination.result c.args.world.now
 
 pub returns-in_err-charge-in-Event-clause-keeps : goal.returns-in_err-charge-in-Event-clause-keeps
 returns-in_err-charge-in-Event-clause-keeps c = keeps_either c.from_residual-in_err-charge-in-Event.result c.args.world.now
@@ -18,8 +21,8 @@ returns-in_err-charge-in-Event-clause-keeps c = keeps_either c.from_residual-in_
 pub returns-then-is_some-clause-keeps : goal.returns-then-is_some-clause-keeps
 returns-then-is_some-clause-keeps c = world_same _
 
-pub returns-clause-keeps : goal.returns-clause-keeps
-returns-clause-keeps c = keeps_either c.tell-told.result c.args.world.now
+pub returns-in_ok-charge-in-Event-clause-keeps : goal.returns-in_ok-charge-in-Event-clause-keeps
+returns-in_ok-charge-in-Event-clause-keeps c = keeps_either c.tell-told.result c.args.world.now
 
 pub found-requires-clause-absent : goal.found-requires-clause-absent
 found-requires-clause-absent c =
@@ -40,22 +43,22 @@ found-requires-clause-enter c =
     (subst (λ (op : Issued). Begins v g.0 s (issued_by v.store.bases.present c.args.by op) (counts_of c.args.counts.now)) o.is g.1)
     c.requires.hosting.ticketless (subst (IsHanded v.store.bases.present) o.is c.requires.handed).0
 
-pub returns-in-Origination-clause-ends : goal.returns-in-Origination-clause-ends
-returns-in-Origination-clause-ends c = λ w b.
+pub returns-else-is_some-clause-ends : goal.returns-else-is_some-clause-ends
+returns-else-is_some-clause-ends c = λ w b.
     let o = c.in-Origination in
     let v = c.args.world.now in
     let s = setting_of (listed c.args.costs.now) c.args.counts.now.group c.args.source.now in
     let paid = c.in_ok-charge-in-Origination.ensures in
     let none : o.delegate ≡ None = search (rules, none_of) in
     let begins = subst (λ (op : Issued). Begins v w s (issued_by v.store.bases.present c.args.by op) (counts_of c.args.counts.now)) o.is b in
-    subst (λ (op : Issued). EndsAs (apply s w (issued_by v.store.bases.present c.args.by op) c.args.meter.now (counts_of c.args.counts.now)) c.found.new.world c.charge.new.meter
+    subst (λ (op : Issued). EndsAs (apply s w (issued_by v.store.bases.present c.args.by op) c.args.meter.now (counts_of c.args.counts.now)) c.found.new.world c.charge-in-Origination.new.meter
     c.args.counts.now c.args.counts.now c.found.result) (sym o.is)
-    (makes v w s c.args.by o.number o.delegate o.amount o.script o.storage o.hash c.found.new.world c.args.meter.now c.charge.new.meter c.args.counts.now c.found.result paid.0 paid.1 none
-    (c.found.ensures.ends w c.charge.new.meter c.args.counts.now
+    (makes v w s c.args.by o.number o.delegate o.amount o.script o.storage o.hash c.found.new.world c.args.meter.now c.charge-in-Origination.new.meter c.args.counts.now c.found.result paid.0 paid.1 none
+    (c.found.ensures.ends w c.charge-in-Origination.new.meter c.args.counts.now
     (pays_for v w s c.args.by o.number o.delegate o.amount o.script o.storage o.hash (counts_of c.args.counts.now) begins)))
 
-pub returns-clause-ends : goal.returns-clause-ends
-returns-clause-ends c = λ w b.
+pub returns-in_ok-charge-in-Event-clause-ends : goal.returns-in_ok-charge-in-Event-clause-ends
+returns-in_ok-charge-in-Event-clause-ends c = λ w b.
     let o = c.in-Event in
     let v = c.args.world.now in
     let s = setting_of (listed c.args.costs.now) c.args.counts.now.group c.args.source.now in

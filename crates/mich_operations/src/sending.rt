@@ -1,0 +1,78 @@
+// Transfers that contracts issue.
+ghost use Rattle.std.specs.Prelude.{◌≡◌, is_some, true, IfOk};
+ghost use Rattle.rules_evaluation.specs.Operations.{transfer};
+ghost use Rattle.rules_forms.specs.Spelling.{IsEntrypoint, IsPlace, contract_place, place_of, spelled_address};
+ghost use Rattle.rules_values.specs.ByteForms.{is_implicit};
+ghost use Rattle.rules_world.specs.Application.{issued_transaction};
+ghost use Rattle.rules_world.specs.Groups.{setting_of};
+ghost use Rattle.rules_world.specs.Outcomes.{issued};
+ghost use Rattle.rules_world.specs.Transfers.{delivered};
+ghost use Rattle.rules_world.specs.World.{World as PlainWorld};
+ghost use Rattle.mich_bigmap.specs.Extended.{Extends};
+ghost use Rattle.mich_bigmap.specs.Layers.{HasBases};
+ghost use Rattle.mich_bigmap.specs.Standing.{val_in};
+ghost use Rattle.mich_forms.specs.Spelled.{address_bytes, place_bytes};
+ghost use Rattle.mich_gas.specs.View.{listed};
+ghost use Rattle.mich_machine.specs.Calls.{counts_of, IsHosting};
+ghost use Rattle.mich_term.specs.Layers.{AreFormed};
+ghost use Rattle.mich_world.specs.Holders.{contract_at};
+ghost use Rattle.mich_world.specs.Marks.{KeepsWorld};
+ghost use Rattle.mich_operations.specs.Going.{Begins, EndsAs, KeepsContracts, WithMemory};
+
+use crate::accounts::send_account;
+use crate::applied::{Applied, ApplyError};
+use crate::running::call_contract;
+use mich_forms::{Address, Entrypoint, KeyHash, Place};
+use mich_gas::{Costs, Meter};
+use mich_machine::{Bodies, Counts};
+use mich_term::Value;
+use mich_world::World;
+use std::alloc::Global;
+
+// The place and the entrypoint of an address, which its bytes spell.
+fn parts(to: &Address) -> (Place, Entrypoint)
+    ensures spelled { spelled_address (place_bytes result.0) result.1 ≡ address_bytes to.now }
+    ensures place { IsPlace (place_bytes result.0) }
+    ensures name { IsEntrypoint result.1 }
+{
+    // Only these say that the parts have their forms.
+    let _ = to.place.bytes();
+    let _ = to.entrypoint.as_slice();
+    (to.place, to.entrypoint)
+}
+
+// Mutez and a value go from the contract of these 20 bytes to an address.
+pub(crate) fn send(
+    alloc: Global,
+    world: &mut World,
+    costs: &Costs,
+    source: &KeyHash,
+    meter: &mut Meter,
+    counts: &mut Counts,
+    bodies: &mut Bodies,
+    by: [u8; 20],
+    to: &Address,
+    amount: u64,
+    argument: Value,
+) -> Result<Applied, ApplyError>
+    requires next { (w : PlainWorld) × Begins world.old w (setting_of (listed costs.now) counts.old.group source.now) (issued (contract_place by) (transfer (val_in world.old.store.bases.present argument) amount (address_bytes to.now))) (counts_of counts.old) }
+    requires hosting { IsHosting world.old }
+    requires there { is_some (contract_at world.old.funds.present by) ≡ true }
+    requires formed { AreFormed argument }
+    requires based { HasBases world.old.store.bases.present argument }
+    ensures ends { (w : PlainWorld) → Begins world.old w (setting_of (listed costs.entry.now) counts.old.group source.entry.now) (issued (contract_place by) (transfer (val_in world.old.store.bases.present argument) amount (address_bytes to.entry.now))) (counts_of counts.old) → EndsAs (delivered (is_implicit (place_of (address_bytes to.entry.now))) (setting_of (listed costs.entry.now) counts.old.group source.entry.now) w (issued_transaction (contract_place by) (val_in world.old.store.bases.present argument) amount (address_bytes to.entry.now)) meter.old (counts_of counts.old)) world.new meter.new counts.old counts.new result }
+    ensures hosting { IfOk result (λ _. IsHosting world.new) }
+    ensures bases { IfOk result (λ _. Extends world.old.store.bases.present world.new.store.bases.present) }
+    ensures contracts { IfOk result (λ _. KeepsContracts world.old world.new) }
+    ensures keeps { WithMemory result (KeepsWorld world.old world.new) }
+{
+    let from = Place::Contract(by);
+    let (place, name) = parts(to);
+    match &place {
+        Place::Implicit(who) => send_account(alloc, world, &from, who, &name, amount, argument),
+        Place::Contract(hash) => call_contract(
+            alloc, world, costs, source, meter, counts, bodies, &from, hash, &name, amount,
+            argument,
+        ),
+    }
+}
