@@ -383,7 +383,7 @@ fn a_contract_that_is_made_is_undone(rt: HostRuntime) -> Result<(), Fail> {
     Ok(())
 }
 
-// 50,000 accounts with 1 mutez each.
+// 2,000 accounts with 1 mutez each.
 fn many_accounts(alloc: Global) -> Result<World, GrantError> {
     let mut world = World::new(alloc, ChainId { body: [0; 4] }, 0, 0);
     for number in 0..2_000 {
@@ -401,7 +401,7 @@ fn rounds(world: &mut World) -> Result<(), MoveError> {
     Ok(())
 }
 
-// Copying the world at each mark would not end in time.
+// Each round leaves the world as it was.
 #[test]
 fn many_marks_are_undone(rt: HostRuntime) -> Result<(), Fail> {
     let mut world = many_accounts(rt.alloc())?;
