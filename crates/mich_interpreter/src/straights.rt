@@ -50,7 +50,7 @@ fn act_step(alloc: Global, m: &mut State, costs: &Costs, instr: &Simple) -> Resu
     }
 }
 
-// Memory, so far, for those that pack, hash or look up, or work on big maps.
+// Memory, so far, for those that pack, hash, look a contract up, or work on big maps.
 #[tactic(auto, using(crate::proofs::Keeping::acts_group))]
 pub(crate) fn act_straight(
     alloc: Global,
