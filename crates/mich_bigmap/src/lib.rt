@@ -13,7 +13,7 @@ mod settling;
 mod settling_all;
 mod store;
 
-pub use entries::{get, put, take};
+pub use entries::{erase, get, put, take, write};
 pub use laws::{
     big_maps_stay, kept_are_reached, kept_bases_stand, kept_values_stand, plain_values_stand,
     tickets_lie_in_values, values_stay,
