@@ -29,6 +29,8 @@ use Rattle.mich_term.specs.ValueView.{val}
 use Rattle.mich_tickets.specs.Effects.{Tells}
 use Rattle.mich_interpreter.specs.Issues.{KeepsScripts}
 use Rattle.mich_interpreter.specs.View.{Beyond, tops, frame, around, tally}
+use Rattle.mich_interpreter.specs.Sees.{Sees}
+use Rattle.mich_world.specs.World.{World}
 
 -- what a kind costs at a weight was taken, or there isn't so much gas
 abbrev pub IsPaid : Bool → Listed → Priced → ℕ → ℕ → ℕ → Type 0
@@ -111,6 +113,16 @@ Waits f costs m = (x : Beyond) × (fs : List fr.Frame) × (d : ℕ) × (Z : List
 abbrev pub Carries : Code → Costs → State → State → Result Act Memory → Type 0
 Carries i costs old new r =
     (x : Beyond) (fs : List fr.Frame) (d : ℕ) (Z : List Kind) (o : Outcome) → Meets i x costs old fs d Z o →
+    IfOk r (λ a. Acts a x costs new fs d Z o)
+
+-- the same for what sees a world
+abbrev pub ComesIn : World → Code → Costs → State → Type 0
+ComesIn v i costs m =
+    (x : Beyond) × (fs : List fr.Frame) × (d : ℕ) × (Z : List Kind) × (o : Outcome) × Meets i x costs m fs d Z o × Sees v x
+
+abbrev pub CarriesIn : World → Code → Costs → State → State → Result Act Memory → Type 0
+CarriesIn v i costs old new r =
+    (x : Beyond) (fs : List fr.Frame) (d : ℕ) (Z : List Kind) (o : Outcome) → Meets i x costs old fs d Z o → Sees v x →
     IfOk r (λ a. Acts a x costs new fs d Z o)
 
 -- wherever the frame does

@@ -3,6 +3,7 @@ pub mod Issues
 pub mod Made
 pub mod Parts
 pub mod View
+pub mod Sees
 pub mod Ends
 pub mod Runs
 pub mod Begins

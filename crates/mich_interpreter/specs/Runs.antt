@@ -20,6 +20,8 @@ use Rattle.mich_interpreter.specs.declared.machine.Step.TheVariants as s
 use Rattle.mich_interpreter.specs.declared.machine.Ended.{Ended}
 use Rattle.mich_interpreter.specs.declared.machine.Ended.TheVariants as e
 use Rattle.mich_interpreter.specs.View.{Beyond, tops, frames, around, tally}
+use Rattle.mich_interpreter.specs.Sees.{Sees}
+use Rattle.mich_world.specs.World.{World}
 use Rattle.mich_interpreter.specs.Ends.{failure, ActsAt, KeepsPast, KeepsState}
 use Rattle.mich_term.specs.ValueView.{big_step}
 
@@ -105,9 +107,9 @@ IsPaidStep (s.Failed why) old new = Unit {0}
 abbrev pub IsSettled : Step → Machine → Machine → Type 0
 IsSettled step old new = IsPaidStep step old.state.meter new.state.meter
 
--- where the run stands somewhere
-abbrev pub SomeRun : Costs → Machine → Type 0
-SomeRun costs m = (x : Beyond) × (Z : List Kind) × (o : Outcome) × InBlock x costs m Z o
+-- where the run stands somewhere, and sees a world
+abbrev pub SomeRun : World → Costs → Machine → Type 0
+SomeRun v costs m = (x : Beyond) × (Z : List Kind) × (o : Outcome) × InBlock x costs m Z o × Sees v x
 
 abbrev pub SomeEnd : Costs → Machine → Type 0
 SomeEnd costs m = (x : Beyond) × (Z : List Kind) × (o : Outcome) × Behind x costs m Z o

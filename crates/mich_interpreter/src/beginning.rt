@@ -5,20 +5,30 @@ ghost use Rattle.rules_evaluation.specs.Outcome.{Outcome};
 ghost use Rattle.mich_interpreter.specs.View.{Beyond};
 ghost use Rattle.mich_interpreter.specs.Begins.{Opens};
 ghost use Rattle.mich_interpreter.specs.Runs.{IsEnd, KeepsEnd};
+ghost use Rattle.mich_interpreter.specs.Sees.{Sees};
 
+use crate::bodies::Bodies;
 use crate::machine::{Ended, Machine, work};
 use crate::state::State;
 use mich_base::{Memory, Rows};
 use mich_gas::Costs;
 use mich_instr::Block;
+use mich_world::World;
 use std::alloc::Global;
 
-/// Runs typed code from a state: it ends as the evaluation of the nodes that the code is of says, with the same values, gas and
+/// Runs typed code from a state, in a world that it sees: it ends as the evaluation of the nodes that the code is of says, with the same values, gas and
 /// counts or with the same failure. It has no answer for a stack of the wrong type. Memory where there is no room for it, and,
 /// so far, at instructions that aren't built (Michelson reference, "Semantics").
-pub fn run_code(alloc: Global, code: Block, state: State, costs: &Costs) -> Result<Ended, Memory>
-    requires { (x : Beyond) × (Z : List Kind) × (o : Outcome) × Opens x costs.now code state Z o }
-    ensures ends { (x : Beyond) (Z : List Kind) (o : Outcome) → Opens x costs.now code state Z o → IfOk result (λ e. IsEnd e x Z o) }
+pub fn run_code(
+    alloc: Global,
+    code: Block,
+    state: State,
+    costs: &Costs,
+    world: &World,
+    bodies: &mut Bodies,
+) -> Result<Ended, Memory>
+    requires { (x : Beyond) × (Z : List Kind) × (o : Outcome) × Opens x costs.now code state Z o × Sees world.now x }
+    ensures ends { (x : Beyond) (Z : List Kind) (o : Outcome) → Opens x costs.now code state Z o → Sees world.now x → IfOk result (λ e. IsEnd e x Z o) }
     ensures keeps { IfOk result (λ e. KeepsEnd e state) }
 {
     let m = Machine {
@@ -28,6 +38,6 @@ pub fn run_code(alloc: Global, code: Block, state: State, costs: &Costs) -> Resu
         frames: Rows::new(alloc),
         depth: 1,
     };
-    let ended = work(alloc, m, costs)?;
+    let ended = work(alloc, m, costs, world, bodies)?;
     Ok(ended)
 }

@@ -13,9 +13,10 @@ ghost use Rattle.mich_stack.specs.Views.{Sight};
 ghost use Rattle.mich_interpreter.specs.View.{tops};
 ghost use Rattle.mich_interpreter.specs.Issues.{KeepsScripts};
 ghost use Rattle.mich_interpreter.specs.Parts.{HasAmount, HasAddress};
-ghost use Rattle.mich_interpreter.specs.Ends.{Comes, Carries, Spends};
+ghost use Rattle.mich_interpreter.specs.Ends.{Comes, Carries, ComesIn, CarriesIn, Spends};
 
 use crate::act::{Act, Failed};
+use crate::bodies::Bodies;
 use crate::paying::pay;
 use crate::stack::{pop, push};
 use crate::state::{Counts, State};
@@ -25,6 +26,7 @@ use mich_gas::{Costs, Kind};
 use mich_instr::Issued;
 use mich_overload::OperationRow;
 use mich_term::Value;
+use mich_world::World;
 use std::alloc::Global;
 
 /// How many operations may be issued in a group.
@@ -128,10 +130,12 @@ pub(crate) fn act_operation(
     alloc: Global,
     m: &mut State,
     costs: &Costs,
+    world: &World,
+    bodies: &mut Bodies,
     row: &OperationRow,
 ) -> Result<Act, Memory>
-    requires { (app : Tree) × Comes (made.straight (on_operations (operation_row row.now)) app) costs.now m.old }
-    ensures acts { (app : Tree) → Carries (made.straight (on_operations (operation_row row.now)) app) costs.now m.old m.new result }
+    requires { (app : Tree) × ComesIn world.now (made.straight (on_operations (operation_row row.now)) app) costs.now m.old }
+    ensures acts { (app : Tree) → CarriesIn world.now (made.straight (on_operations (operation_row row.now)) app) costs.now m.old m.new result }
     ensures less { IfOk result (λ a. Spends a m.old.meter m.new.meter) }
     ensures ledger { m.new.ledger ≡ m.old.ledger }
     ensures group { m.new.counts.group ≡ m.old.counts.group }

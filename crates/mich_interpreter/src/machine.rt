@@ -5,11 +5,13 @@ ghost use Rattle.rules_evaluation.specs.Outcome.{Outcome};
 ghost use Rattle.mich_gas.specs.declared.costs.Costs.{Costs as Prices};
 ghost use Rattle.mich_instr.specs.View.{code};
 ghost use Rattle.mich_interpreter.specs.View.{Beyond};
-ghost use Rattle.mich_interpreter.specs.Ends.{Comes, Carries, Waits, Resumes, Spends, Turns, KeepsAct};
+ghost use Rattle.mich_interpreter.specs.Ends.{ComesIn, CarriesIn, Waits, Resumes, Spends, Turns, KeepsAct};
 ghost use Rattle.mich_interpreter.specs.declared.state.State.{State as PlainState};
+ghost use Rattle.mich_interpreter.specs.Sees.{Sees};
 ghost use Rattle.mich_interpreter.specs.Runs.{InBlock, Behind, HasActedIn, IsStep, IsBegun, IsSpent, IsPaidStep, IsSettled, HasLeft, with_below, with_rest, SomeRun, SomeEnd, IsEnd, KeepsStep, KeepsEnd, IsNoBlock, IsNoSequence};
 
 use crate::act::{Act, Failed};
+use crate::bodies::Bodies;
 use crate::branches::{act_if, act_if_cons, act_if_left, act_if_none};
 use crate::calls::{act_failwith, act_never};
 use crate::dipping::act_dip;
@@ -24,6 +26,7 @@ use crate::straights::act_straight;
 use mich_base::{Memory, Rows};
 use mich_gas::Costs;
 use mich_instr::{Block, Instr};
+use mich_world::World;
 use std::alloc::Global;
 
 /// How many blocks may be open.
@@ -59,10 +62,17 @@ pub enum Ended {
 
 // An instruction, which isn't a sequence.
 #[tactic(auto, using(crate::proofs::Keeping::acts_same, crate::proofs::Keeping::same_keeps))]
-fn perform(alloc: Global, m: &mut State, costs: &Costs, instr: &Instr) -> Result<Act, Memory>
+fn perform(
+    alloc: Global,
+    m: &mut State,
+    costs: &Costs,
+    world: &World,
+    bodies: &mut Bodies,
+    instr: &Instr,
+) -> Result<Act, Memory>
     requires charged { IsNoSequence instr.now }
-    requires comes { Comes (code instr.now) costs.now m.old }
-    ensures acts { Carries (code instr.now) costs.now m.old m.new result }
+    requires comes { ComesIn world.now (code instr.now) costs.now m.old }
+    ensures acts { CarriesIn world.now (code instr.now) costs.now m.old m.new result }
     ensures less { IfOk result (λ a. Spends a m.old.meter m.new.meter) }
     ensures keeps { IfOk result (λ a. KeepsAct a m.old m.new) }
 {
@@ -85,7 +95,7 @@ fn perform(alloc: Global, m: &mut State, costs: &Costs, instr: &Instr) -> Result
         Instr::Never => Ok(act_never(m, costs)?),
         Instr::Push { ty, literal, .. } => Ok(act_push(alloc, m, costs, ty, literal)?),
         Instr::SelfContract { entrypoint, .. } => Ok(act_self(alloc, m, costs, entrypoint)?),
-        Instr::Straight(simple, _) => Ok(act_straight(alloc, m, costs, simple)?),
+        Instr::Straight(simple, _) => Ok(act_straight(alloc, m, costs, world, bodies, simple)?),
         Instr::Seq(_) => unreachable!(),
         _ => Err(Memory),
     }
@@ -210,11 +220,17 @@ fn leave(alloc: Global, m: &mut Machine, costs: &Costs) -> Result<Step, Memory>
 
 // The next instruction of the block, at a place within it.
 #[tactic(auto, using(crate::proofs::Keeping::same_keeps, crate::proofs::Keeping::keeps_state, crate::proofs::Keeping::keeps_on))]
-fn advance_inside(alloc: Global, m: &mut Machine, costs: &Costs) -> Result<Step, Memory>
+fn advance_inside(
+    alloc: Global,
+    m: &mut Machine,
+    costs: &Costs,
+    world: &World,
+    bodies: &mut Bodies,
+) -> Result<Step, Memory>
     requires within { m.old.at < length m.old.block }
     requires fits { m.old.at + 1 < 2 ^ 64 }
-    requires stands { SomeRun costs.now m.old }
-    ensures stays { (x : Beyond) (Z : List Kind) (o : Outcome) → InBlock x costs.now m.old Z o → IfOk result (λ s. IsStep s x costs.now m.new Z o) }
+    requires stands { SomeRun world.now costs.now m.old }
+    ensures stays { (x : Beyond) (Z : List Kind) (o : Outcome) → InBlock x costs.now m.old Z o → Sees world.now x → IfOk result (λ s. IsStep s x costs.now m.new Z o) }
     ensures spent { IfOk result (λ s. IsSpent s m.old m.new) }
     ensures keeps { IfOk result (λ s. KeepsStep s m.old.state m.new.state) }
 {
@@ -229,7 +245,7 @@ fn advance_inside(alloc: Global, m: &mut Machine, costs: &Costs) -> Result<Step,
             Ok(Step::Failed(Failed::DepthLimit))
         }
     } else {
-        let act = perform(alloc, &mut m.state, costs, instr)?;
+        let act = perform(alloc, &mut m.state, costs, world, bodies, instr)?;
         m.at += 1;
         let step = follow(m, act)?;
         Ok(step)
@@ -238,14 +254,20 @@ fn advance_inside(alloc: Global, m: &mut Machine, costs: &Costs) -> Result<Step,
 
 // The next step.
 #[tactic(auto, using(crate::proofs::Keeping::same_keeps, crate::proofs::Keeping::keeps_state, crate::proofs::Keeping::keeps_on))]
-fn advance(alloc: Global, m: &mut Machine, costs: &Costs) -> Result<Step, Memory>
-    requires { SomeRun costs.now m.old }
-    ensures stays { (x : Beyond) (Z : List Kind) (o : Outcome) → InBlock x costs.now m.old Z o → IfOk result (λ s. IsStep s x costs.now m.new Z o) }
+fn advance(
+    alloc: Global,
+    m: &mut Machine,
+    costs: &Costs,
+    world: &World,
+    bodies: &mut Bodies,
+) -> Result<Step, Memory>
+    requires { SomeRun world.now costs.now m.old }
+    ensures stays { (x : Beyond) (Z : List Kind) (o : Outcome) → InBlock x costs.now m.old Z o → Sees world.now x → IfOk result (λ s. IsStep s x costs.now m.new Z o) }
     ensures spent { IfOk result (λ s. IsSpent s m.old m.new) }
     ensures keeps { IfOk result (λ s. KeepsStep s m.old.state m.new.state) }
 {
     if m.at < m.block.get().len() {
-        let step = advance_inside(alloc, m, costs)?;
+        let step = advance_inside(alloc, m, costs, world, bodies)?;
         Ok(step)
     } else {
         m.depth -= 1;
@@ -256,14 +278,20 @@ fn advance(alloc: Global, m: &mut Machine, costs: &Costs) -> Result<Step, Memory
 
 // Steps up to one that was paid for, or an end.
 #[tactic(auto, using(crate::proofs::Keeping::same_keeps, crate::proofs::Keeping::keeps_state, crate::proofs::Keeping::keeps_on))]
-fn settle(alloc: Global, m: &mut Machine, costs: &Costs) -> Result<Step, Memory>
-    requires { SomeRun costs.now m.old }
-    ensures stays { (x : Beyond) (Z : List Kind) (o : Outcome) → InBlock x costs.now m.old Z o → IfOk result (λ s. IsStep s x costs.now m.new Z o) }
+fn settle(
+    alloc: Global,
+    m: &mut Machine,
+    costs: &Costs,
+    world: &World,
+    bodies: &mut Bodies,
+) -> Result<Step, Memory>
+    requires { SomeRun world.now costs.now m.old }
+    ensures stays { (x : Beyond) (Z : List Kind) (o : Outcome) → InBlock x costs.now m.old Z o → Sees world.now x → IfOk result (λ s. IsStep s x costs.now m.new Z o) }
     ensures less { IfOk result (λ s. IsSettled s m.old m.new) }
     ensures keeps { IfOk result (λ s. KeepsStep s m.old.state m.new.state) }
 {
     'free: loop {
-        match advance(alloc, m, costs)? {
+        match advance(alloc, m, costs, world, bodies)? {
             Step::Free => {}
             other => return Ok(other),
         }
@@ -272,14 +300,20 @@ fn settle(alloc: Global, m: &mut Machine, costs: &Costs) -> Result<Step, Memory>
 
 // Runs to the end.
 #[tactic(auto, using(crate::proofs::Keeping::same_keeps, crate::proofs::Keeping::keeps_state, crate::proofs::Keeping::keeps_on))]
-pub(crate) fn work(alloc: Global, m: Machine, costs: &Costs) -> Result<Ended, Memory>
-    requires { SomeRun costs.now m }
-    ensures ends { (x : Beyond) (Z : List Kind) (o : Outcome) → InBlock x costs.now m Z o → IfOk result (λ e. IsEnd e x Z o) }
+pub(crate) fn work(
+    alloc: Global,
+    m: Machine,
+    costs: &Costs,
+    world: &World,
+    bodies: &mut Bodies,
+) -> Result<Ended, Memory>
+    requires { SomeRun world.now costs.now m }
+    ensures ends { (x : Beyond) (Z : List Kind) (o : Outcome) → InBlock x costs.now m Z o → Sees world.now x → IfOk result (λ e. IsEnd e x Z o) }
     ensures keeps { IfOk result (λ e. KeepsEnd e m.state) }
 {
     let mut m = m;
     'paid: loop {
-        match settle(alloc, &mut m, costs)? {
+        match settle(alloc, &mut m, costs, world, bodies)? {
             Step::Free => unreachable!(),
             Step::Paid => {}
             Step::Done => return Ok(Ended::Stack(m.state)),

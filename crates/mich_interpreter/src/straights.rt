@@ -5,9 +5,10 @@ ghost use Rattle.mich_instr.specs.Code as made;
 ghost use Rattle.mich_overload.specs.View.{straight};
 ghost use Rattle.mich_overload.specs.Steps.{in_step};
 ghost use Rattle.mich_stack.specs.Views.{Sight, failure as step_failure};
-ghost use Rattle.mich_interpreter.specs.Ends.{Comes, Carries, Spends, KeepsAct, failure};
+ghost use Rattle.mich_interpreter.specs.Ends.{Comes, Carries, ComesIn, CarriesIn, Spends, KeepsAct, failure};
 
 use crate::act::{Act, Failed};
+use crate::bodies::Bodies;
 use crate::issuing::act_operation;
 use crate::paying::pay_capped;
 use crate::state::State;
@@ -17,6 +18,7 @@ use mich_overload::Simple;
 use mich_prices::{price, weigh};
 use mich_stack::{StepError, StepFailure};
 use mich_step::step;
+use mich_world::World;
 use std::alloc::Global;
 
 // The failure of a run by that of an instruction.
@@ -56,10 +58,12 @@ pub(crate) fn act_straight(
     alloc: Global,
     m: &mut State,
     costs: &Costs,
+    world: &World,
+    bodies: &mut Bodies,
     instr: &Simple,
 ) -> Result<Act, Memory>
-    requires { (app : Tree) × Comes (made.straight (straight instr.now) app) costs.now m.old }
-    ensures acts { (app : Tree) → Carries (made.straight (straight instr.now) app) costs.now m.old m.new result }
+    requires { (app : Tree) × ComesIn world.now (made.straight (straight instr.now) app) costs.now m.old }
+    ensures acts { (app : Tree) → CarriesIn world.now (made.straight (straight instr.now) app) costs.now m.old m.new result }
     ensures less { IfOk result (λ a. Spends a m.old.meter m.new.meter) }
     ensures keeps { IfOk result (λ a. KeepsAct a m.old m.new) }
 {
@@ -68,7 +72,7 @@ pub(crate) fn act_straight(
         return Ok(act);
     }
     match instr {
-        Simple::Operations(row) => Ok(act_operation(alloc, m, costs, row)?),
+        Simple::Operations(row) => Ok(act_operation(alloc, m, costs, world, bodies, row)?),
         _ => Err(Memory),
     }
 }

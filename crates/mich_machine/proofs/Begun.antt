@@ -53,6 +53,7 @@ use Rattle.mich_instr.specs.declared.instr.Script.{Script, out-Script}
 use Rattle.mich_instr.specs.declared.instr.Script as scripts
 use Rattle.mich_interpreter.specs.Begins.{Opens}
 use Rattle.mich_interpreter.specs.Ends.{KeepsState, failure}
+use Rattle.mich_interpreter.specs.Sees.{Sees}
 use Rattle.mich_interpreter.specs.View.{Beyond, tops, around, tally}
 use Rattle.mich_interpreter.specs.declared.act.Failed.{Failed}
 use Rattle.mich_interpreter.specs.declared.state.Counts.{Counts}
@@ -62,6 +63,7 @@ use Rattle.mich_step.specs.Views.{environment}
 use Rattle.mich_step.specs.declared.environment.Env.{Env}
 use Rattle.mich_term.specs.Layers.{AreFormed, FormedLayer}
 use Rattle.mich_term.specs.declared.value.Value.{Value}
+use Rattle.mich_tickets.specs.Books.{State as Ledger}
 use Rattle.mich_tickets.specs.Effects.{change, Adds}
 use Rattle.mich_world.specs.Holders.{by_bytes, contract_at}
 use Rattle.mich_world.specs.Marks.{KeepsWorld}
@@ -227,6 +229,15 @@ module _ (q : Asked) where
 
     abbrev pub x : Beyond
     x = record { sight = sight bs; shows = sight_shows bs q.h.ticketless; contract_at = plain_contract_at q.w }
+
+    -- it sees the world, without the ledger too
+    pub sees_so : (u : World) (l : Ledger) → u ≡ with_ledger q.v l → Sees u x
+    sees_so u l e = subst (λ (z : World). Sees z x) (sym e) (record {
+      sight = refl;
+      contracts = λ hash. contracts_agree q.v q.w hash q.c.stands;
+      typed = q.h.typed;
+      stored = q.h.stored;
+    })
 
     module _ (value : Value)
         (seen_so : (big : Sight) (d : Entry) → find_entry q.name (entries_of k.script) ≡ Some d → seen big value ≡ both (wrapped d.path (seen big q.argument)) (seen big k.storage))

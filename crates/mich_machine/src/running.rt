@@ -74,13 +74,12 @@ pub fn run(
     ensures bases { IfOk result (λ _. Extends world.old.store.bases.present world.new.store.bases.present) }
     ensures keeps { WithMemory result (KeepsWorld world.old world.new) }
 {
-    let _bodies = bodies;
     let Some(contract) = world.contract(to) else {
         unreachable!();
     };
     let (code, value) = opening(alloc, contract, name, argument)?;
     let begun = state(alloc, world, meter, counts, env, value)?;
-    match run_code(alloc, code, begun, costs)? {
+    match run_code(alloc, code, begun, costs, world, bodies)? {
         Ended::Stack(left) => {
             let State {
                 stack,

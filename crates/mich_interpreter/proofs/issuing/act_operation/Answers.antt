@@ -9,20 +9,22 @@ use Rattle.mich_interpreter.proofs.issuing.act_operation.Goals as goal
 
 pub act_transfer-requires : goal.act_transfer-requires
 act_transfer-requires c =
+    let r = c.requires.1 in
     subst (λ (row : OperationRow). (app : Tree) × Comes (made.straight (on_operations (operation_row row)) app) c.args.costs.now c.args.m.now)
-    c.in-TransferTokens.is c.requires
+    c.in-TransferTokens.is (c.requires.0, (r.0, r.1, r.2, r.3, r.4, r.5))
 
 pub act_emit-requires : goal.act_emit-requires
 act_emit-requires c =
+    let r = c.requires.1 in
     subst (λ (row : OperationRow). (app : Tree) × Comes (made.straight (on_operations (operation_row row)) app) c.args.costs.now c.args.m.now)
-    c.in-Emit.is c.requires
+    c.in-Emit.is (c.requires.0, (r.0, r.1, r.2, r.3, r.4, r.5))
 
 pub returns-in_ok-act_transfer-in-TransferTokens-clause-acts : goal.returns-in_ok-act_transfer-in-TransferTokens-clause-acts
-returns-in_ok-act_transfer-in-TransferTokens-clause-acts c = λ app x fs d Z o h.
+returns-in_ok-act_transfer-in-TransferTokens-clause-acts c = λ app x fs d Z o h w.
     c.in_ok-act_transfer-in-TransferTokens.ensures.acts app x fs d Z o
     (subst (λ (row : OperationRow). Meets (made.straight (on_operations (operation_row row)) app) x c.args.costs.now c.args.m.now fs d Z o) c.in-TransferTokens.is h)
 
 pub returns-in_ok-act_emit-in-Emit-clause-acts : goal.returns-in_ok-act_emit-in-Emit-clause-acts
-returns-in_ok-act_emit-in-Emit-clause-acts c = λ app x fs d Z o h.
+returns-in_ok-act_emit-in-Emit-clause-acts c = λ app x fs d Z o h w.
     c.in_ok-act_emit-in-Emit.ensures.acts app x fs d Z o
     (subst (λ (row : OperationRow). Meets (made.straight (on_operations (operation_row row)) app) x c.args.costs.now c.args.m.now fs d Z o) c.in-Emit.is h)

@@ -11,7 +11,7 @@ leave-requires c =
     (r.0, r.1, r.2, ends_behind r.0 c.args.costs.now r.1 r.2 c.args.m.now r.3 le)
 
 pub returns-in_ok-step-2-clause-stays : goal.returns-in_ok-step-2-clause-stays
-returns-in_ok-step-2-clause-stays c = λ x Z o h.
+returns-in_ok-step-2-clause-stays c = λ x Z o h s.
     let n : c.len.result ≡ length c.args.m.now.block = c.len.ensures ∙ ap length c.get.ensures in
     let over = c.if-m-len.false in
     let le : length c.args.m.now.block ≤ c.args.m.now.at = omega (arith, n, over) in

@@ -30,11 +30,12 @@ perform-requires c =
         r.1,
         r.2,
         meets_at r.0 c.args.costs.now r.1 r.2 c.args.m.now r.3 c.at-instr.result.now c.requires.within e,
+        r.4,
       );
     }
 
 pub returns-then-begun-clause-stays : goal.returns-then-begun-clause-stays
-returns-then-begun-clause-stays c = λ x Z o h.
+returns-then-begun-clause-stays c = λ x Z o h s.
     let e : slice_get c.args.m.now.block c.args.m.now.at ≡ Some c.at-instr.result.now = ap (λ b. slice_get b c.args.m.now.at) (sym c.get.ensures) ∙ c.at-instr.ensures in
     let mid : Machine = record c.args.m.now { at = c.args.m.now.at + 1 } in
     let meets = rw (ap code c.in-Seq.is ∙ code_seq c.in-Seq.inner) at (meets_at x c.args.costs.now Z o c.args.m.now h c.at-instr.result.now c.requires.within e) in
@@ -52,7 +53,7 @@ returns-then-begun-clause-spent c =
     (ap (λ s. s.meter) c.begin_inside.ensures.state, seq_smaller c.args.m.now mid c.begin_inside.new.m c.in_ok-inner.inner (one ∙ two) refl begun)
 
 pub returns-else-begun-clause-stays : goal.returns-else-begun-clause-stays
-returns-else-begun-clause-stays c = λ x Z o h.
+returns-else-begun-clause-stays c = λ x Z o h s.
     let e : slice_get c.args.m.now.block c.args.m.now.at ≡ Some c.at-instr.result.now = ap (λ b. slice_get b c.args.m.now.at) (sym c.get.ensures) ∙ c.at-instr.ensures in
     let mid : Machine = record c.args.m.now { at = c.args.m.now.at + 1 } in
     let meets = rw (ap code c.in-Seq.is ∙ code_seq c.in-Seq.inner) at (meets_at x c.args.costs.now Z o c.args.m.now h c.at-instr.result.now c.requires.within e) in
@@ -64,9 +65,9 @@ pub returns-in_ok-step : goal.returns-in_ok-step
 returns-in_ok-step c =
     let e : slice_get c.args.m.now.block c.args.m.now.at ≡ Some c.at-instr.result.now = ap (λ b. slice_get b c.args.m.now.at) (sym c.get.ensures) ∙ c.at-instr.ensures in
     record {
-      stays = λ x Z o h. c.in_ok-step.ensures.stays x c.args.costs.now Z o
+      stays = λ x Z o h s. c.in_ok-step.ensures.stays x c.args.costs.now Z o
           (c.in_ok-act.ensures.acts x (fr.rest (codes (drop (c.args.m.now.at + 1) c.args.m.now.block)) ∷ frames x.sight c.args.m.now.frames) c.args.m.now.depth Z o
-          (meets_at x c.args.costs.now Z o c.args.m.now h c.at-instr.result.now c.requires.within e));
+          (meets_at x c.args.costs.now Z o c.args.m.now h c.at-instr.result.now c.requires.within e) s);
       spent = paid_spent c.in_ok-step.step c.args.m.now c.follow.new.m (c.in_ok-step.ensures.spent c.args.m.now.state.meter c.in_ok-act.ensures.less);
       keeps = c.in_ok-step.ensures.keeps c.args.m.now.state c.in_ok-act.ensures.keeps;
     }

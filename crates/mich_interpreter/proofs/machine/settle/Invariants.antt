@@ -4,12 +4,13 @@ use Rattle.rules_evaluation.specs.Outcome.{Outcome}
 use Rattle.mich_interpreter.specs.View.{Beyond}
 use Rattle.mich_interpreter.specs.Ends.{KeepsState}
 use Rattle.mich_interpreter.specs.Runs.{InBlock, SomeRun, size_of}
+use Rattle.mich_interpreter.specs.Sees.{Sees}
 use Rattle.mich_interpreter.proofs.machine.settle.Given as goal
 
 abbrev pub invariant-free : goal.invariant-free
 invariant-free l = record {
-  some : SomeRun l.costs l.m;
-  keeps : (x : Beyond) (Z : List Kind) (o : Outcome) → InBlock x l.costs l.initial.m Z o → InBlock x l.costs l.m Z o;
+  some : SomeRun l.world l.costs l.m;
+  keeps : (x : Beyond) (Z : List Kind) (o : Outcome) → InBlock x l.costs l.initial.m Z o → Sees l.world x → InBlock x l.costs l.m Z o;
   gas : l.m.state.meter ≡ l.initial.m.state.meter;
   state : KeepsState l.initial.m.state l.m.state;
 }

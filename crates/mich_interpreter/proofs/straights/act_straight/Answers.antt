@@ -3,14 +3,20 @@ use Rattle.rules_base.specs.Tree.{Tree}
 use Rattle.mich_instr.specs.Code as made
 use Rattle.mich_overload.specs.View.{straight}
 use Rattle.mich_overload.specs.declared.simple.Simple.{Simple}
-use Rattle.mich_interpreter.specs.Ends.{Comes, Meets}
+use Rattle.mich_interpreter.specs.Ends.{ComesIn, Meets}
 use Rattle.mich_interpreter.proofs.straights.act_straight.Goals as goal
 
 pub act_operation-requires : goal.act_operation-requires
 act_operation-requires c =
-    subst (λ (s : Simple). (app : Tree) × Comes (made.straight (straight s) app) c.args.costs.now c.args.m.now) c.in-Operations.is c.requires
+    subst (λ (s : Simple). (app : Tree) × ComesIn c.args.world.now (made.straight (straight s) app) c.args.costs.now c.args.m.now) c.in-Operations.is c.requires
 
 pub returns-in_ok-act_operation-in-Operations-clause-acts : goal.returns-in_ok-act_operation-in-Operations-clause-acts
-returns-in_ok-act_operation-in-Operations-clause-acts c = λ app x fs d Z o h.
+returns-in_ok-act_operation-in-Operations-clause-acts c = λ app x fs d Z o h w.
     c.in_ok-act_operation-in-Operations.ensures.acts app x fs d Z o
-    (subst (λ (s : Simple). Meets (made.straight (straight s) app) x c.args.costs.now c.args.m.now fs d Z o) c.in-Operations.is h)
+    (subst (λ (s : Simple). Meets (made.straight (straight s) app) x c.args.costs.now c.args.m.now fs d Z o) c.in-Operations.is h) w
+
+pub act_step-requires : goal.act_step-requires
+act_step-requires c = let r = c.requires.1 in record {
+  in_step = c.if-in_step.true;
+  comes = (c.requires.0, (r.0, r.1, r.2, r.3, r.4, r.5));
+}

@@ -4,12 +4,13 @@ use Rattle.mich_interpreter.specs.Ends.{KeepsPast, KeepsState}
 use Rattle.mich_interpreter.specs.Runs.{IsEnd, KeepsEnd}
 use Rattle.mich_interpreter.specs.declared.machine.Ended.{Ended}
 use Rattle.mich_interpreter.specs.declared.state.State.{State}
+use Rattle.mich_tickets.specs.Books.{fresh, no_books}
 use Rattle.mich_world.proofs.Marks.{world_trans, ledger_lent}
 use Rattle.mich_world.specs.Holders.{contract_at}
 use Rattle.mich_world.specs.Marks.{KeepsWorld}
 use Rattle.mich_world.specs.World.{World, with_ledger}
 use Rattle.mich_machine.specs.Endings.{IsEnding}
-use Rattle.mich_machine.proofs.Begun.{Asked, called_there, entry_some, x, Z, o, begun, ending_so, state_is, opens_at, as_said, kept_as_said, with_memory, finished_so, fails_as}
+use Rattle.mich_machine.proofs.Begun.{Asked, called_there, entry_some, sees_so, x, Z, o, begun, ending_so, state_is, opens_at, as_said, kept_as_said, with_memory, finished_so, fails_as}
 use Rattle.mich_machine.proofs.running.run.Goals.{in-Stack, in-Failed+in_ok-tell-in-Failed}
 use Rattle.mich_machine.proofs.running.run.Goals as goal
 
@@ -79,6 +80,7 @@ run_code-requires c =
       Z q k there value seen_so c.args.meter.now,
       o q k there value seen_so c.args.meter.now,
       opens_at q k there value seen_so c.args.meter.now c.in_ok-code.code c.in_ok-begun.begun c.in_ok-code.ensures.code same,
+      sees_so q k there c.state.new.world (fresh no_books) c.in_ok-begun.ensures.world,
     )
 
 pub finish-requires : goal.finish-requires
@@ -110,7 +112,8 @@ finish-requires c =
     subst (λ (s : State). KeepsState s left) same (subst (λ (d : Ended). KeepsEnd d c.in_ok-begun.begun) c.in-Stack.is c.in_ok-left.ensures.keeps) in
     let ends = subst (λ (d : Ended). IsEnd d (x q k there) (Z q k there value seen_so gas) (o q k there value seen_so gas)) c.in-Stack.is
     (c.in_ok-left.ensures.ends (x q k there) (Z q k there value seen_so gas) (o q k there value seen_so gas)
-    (opens_at q k there value seen_so gas c.in_ok-code.code c.in_ok-begun.begun c.in_ok-code.ensures.code same)) in
+    (opens_at q k there value seen_so gas c.in_ok-code.code c.in_ok-begun.begun c.in_ok-code.ensures.code same)
+    (sees_so q k there c.state.new.world (fresh no_books) c.in_ok-begun.ensures.world)) in
     let world : c.put_ledger.new.world ≡ with_ledger q.v left.ledger = c.put_ledger.ensures ∙ ap (λ (w : World). with_ledger w left.ledger) c.in_ok-begun.ensures.world in
     subst (λ (w : World). IsEnding w q.to left.stack left.issued) (sym world) (ending_so q k there value seen_so gas left keeps ends)
 
@@ -139,7 +142,8 @@ returns-clause-ends c = λ w t h.
     let b = c.in_ok-begun.ensures in
     let same = state_is q k there value seen_so gas c.in_ok-begun.begun b.stack b.meter b.counts b.env b.ledger b.issued in
     let ends = c.in_ok-left.ensures.ends (x q k there) (Z q k there value seen_so gas) (o q k there value seen_so gas)
-    (opens_at q k there value seen_so gas c.in_ok-code.code c.in_ok-begun.begun c.in_ok-code.ensures.code same) in
+    (opens_at q k there value seen_so gas c.in_ok-code.code c.in_ok-begun.begun c.in_ok-code.ensures.code same)
+    (sees_so q k there c.state.new.world (fresh no_books) c.in_ok-begun.ensures.world) in
     elim c.match-branch-4.branch [
       | in-Stack d ↦
           let left = d.in-Stack.left in
