@@ -1,4 +1,5 @@
 pub mod Bases
+pub mod Erased
 pub mod Extended
 pub mod Formed
 pub mod Kept

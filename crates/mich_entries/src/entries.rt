@@ -1,0 +1,89 @@
+// Entries of big maps, as they are seen in a store.
+ghost use Rattle.std.specs.Prelude.{◌≡◌, true, option_map, OnOk, IfOk, IfSome};
+ghost use Rattle.rules_values.specs.Val.{no_pair};
+ghost use Rattle.rules_values.specs.Tables.{value_at, with_value, without_key};
+ghost use Rattle.rules_steps.specs.Collections.{map_with};
+ghost use Rattle.mich_bigmap.specs.Bases.{Bases};
+ghost use Rattle.mich_term.specs.View.{datum};
+ghost use Rattle.laws_sights.specs.Sights.{is_plain};
+ghost use Rattle.mich_entries.specs.Given.{entries_seen, seen_in};
+ghost use Rattle.mich_entries.specs.Operands.{AreEntries};
+
+use crate::holding::holds;
+use mich_base::{Memory, Rows, Ty};
+use mich_bigmap::{Store, erase, get, write};
+use mich_term::{BigMap, Datum, Value};
+use mich_types::duplicable;
+use std::alloc::Global;
+
+// A big map without entries. It may share where its values can be copied.
+pub(crate) fn no_entries(alloc: Global, value: &Ty) -> BigMap
+    ensures { (bs : Bases) → entries_seen bs result ≡ no_pair }
+{
+    BigMap {
+        shares: duplicable(value),
+        base: None,
+        overlay: Rows::new(alloc),
+    }
+}
+
+// The value at a key. None where there is no entry.
+pub(crate) fn found<'a>(store: &'a Store, big: &'a BigMap, key: &Datum) -> Option<&'a Value>
+    requires { AreEntries (entries_seen store.now.bases.present big.now) }
+    ensures { option_map (λ v. seen_in store.now.bases.present v.now) result ≡ value_at (datum key.now) (entries_seen store.now.bases.present big.now) }
+{
+    get(store, big, key)
+}
+
+// Puts a value at a key, and gives the one that was there. Values of a big map that shares can be copied, so what typed code puts
+// there holds no ticket; one that does is answered as want of memory.
+fn put(
+    alloc: Global,
+    store: &Store,
+    big: &mut BigMap,
+    key: Datum,
+    value: Value,
+) -> Result<Option<Value>, Memory>
+    requires entries { AreEntries (entries_seen store.now.bases.present big.old) }
+    requires plain { is_plain (seen_in store.now.bases.present value) ≡ true }
+    ensures old { IfOk result (λ old. option_map (seen_in store.now.bases.present) old ≡ value_at (datum key) (entries_seen store.now.bases.present big.old)) }
+    ensures new { OnOk result (entries_seen store.now.bases.present big.new ≡ with_value (datum key) (seen_in store.now.bases.present value) (entries_seen store.now.bases.present big.old)) }
+{
+    if big.shares && holds(&value) {
+        return Err(Memory);
+    }
+    write(alloc, store, big, key, value)
+}
+
+// Takes the entry at a key away, and gives its value. None where there was none.
+fn take(
+    alloc: Global,
+    store: &Store,
+    big: &mut BigMap,
+    key: &Datum,
+) -> Result<Option<Value>, Memory>
+    requires { AreEntries (entries_seen store.now.bases.present big.old) }
+    ensures old { IfOk result (λ old. option_map (seen_in store.now.bases.present) old ≡ value_at (datum key.now) (entries_seen store.now.bases.present big.old)) }
+    ensures new { OnOk result (entries_seen store.now.bases.present big.new ≡ without_key (datum key.now) (entries_seen store.now.bases.present big.old)) }
+{
+    erase(alloc, store, big, key)
+}
+
+// What an option has is put at a key, or the entry there is taken away; gives the value that was there.
+pub(crate) fn exchanged(
+    alloc: Global,
+    store: &Store,
+    big: &mut BigMap,
+    key: Datum,
+    new: Option<Value>,
+) -> Result<Option<Value>, Memory>
+    requires entries { AreEntries (entries_seen store.now.bases.present big.old) }
+    requires plain { IfSome new (λ v. is_plain (seen_in store.now.bases.present v) ≡ true) }
+    ensures old { IfOk result (λ old. option_map (seen_in store.now.bases.present) old ≡ value_at (datum key) (entries_seen store.now.bases.present big.old)) }
+    ensures new { OnOk result (entries_seen store.now.bases.present big.new ≡ map_with (datum key) (option_map (seen_in store.now.bases.present) new) (entries_seen store.now.bases.present big.old)) }
+{
+    match new {
+        Some(value) => put(alloc, store, big, key, value),
+        None => take(alloc, store, big, &key),
+    }
+}
