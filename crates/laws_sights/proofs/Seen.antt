@@ -203,7 +203,7 @@ module _ (bs : Bases) where
   pub sound_based : (x : Value) → Sound x → HasBases bs x
   sound_based x h = each_more (SoundLayer bs) (BasedLayer bs) (λ l k. k.based) x h
 
-  pub big_same : (b : BigMap) → e.EachBig (SoundLayer bs) b → big_seen (sight bs) b ≡ big_seen (big_step_in bs) b
+  big_same : (b : BigMap) → e.EachBig (SoundLayer bs) b → big_seen (sight bs) b ≡ big_seen (big_step_in bs) b
   big_same b h =
       let l = out-BigMap b in
       let sound : SoundLayer bs l = e.here (SoundLayer bs) b h in
@@ -235,14 +235,14 @@ module _ (bs : Bases) where
   put_sound None h = tt
   put_sound (Some x) h = each_more NoBigMap (SoundLayer bs) (λ l k. absurd k) x h
 
-  pub puts_sound : (cs : Changes) → AllByRecursion (λ c. PutsNoBigMap c.1) cs → AllByRecursion (e.EachChange (SoundLayer bs)) cs
+  puts_sound : (cs : Changes) → AllByRecursion (λ c. PutsNoBigMap c.1) cs → AllByRecursion (e.EachChange (SoundLayer bs)) cs
   puts_sound [] h = tt
   puts_sound (c ∷ cs) h = (put_sound c.1 h.0, puts_sound cs h.1)
 
   odd_is_not : (ts : List Held) → AreIncreasingKeys (odd ts) → ⊥
   odd_is_not ts h = let e = h.0.0 in cc
 
-  pub big_sound : (b : BigMap) → AreIncreasingKeys (big_seen (sight bs) b) → e.EachBig (SoundLayer bs) b
+  big_sound : (b : BigMap) → AreIncreasingKeys (big_seen (sight bs) b) → e.EachBig (SoundLayer bs) b
   big_sound b h = go (is_layer bs (layer (sight bs) l)) refl (subst AreIncreasingKeys (fold_out-BigMap Val Pairs value_step (sight bs) b) h)
     where
       l : BigMap-F Value BigMap

@@ -1,5 +1,4 @@
 pub mod Bases
-pub mod Erased
 pub mod Extended
 pub mod Formed
 pub mod Kept

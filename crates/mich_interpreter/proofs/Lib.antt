@@ -23,3 +23,5 @@ pub mod Suited
 pub mod Straightened
 pub mod Changed
 pub mod Failing
+pub mod Operands
+pub mod Hashed

@@ -20,6 +20,7 @@ use mich_stack::StepError;
 use std::alloc::Global;
 
 // Not for UNPACK.
+#[tactic(auto, using(crate::proofs::Keeping::acts_same))]
 fn act_hash(alloc: Global, m: &mut State, costs: &Costs, row: &HashRow) -> Result<Act, Memory>
     requires no_unpack { is_unpack (hash_row row.now) ≡ false }
     requires comes { (app : Tree) × Comes (made.straight (on_hashes (hash_row row.now)) app) costs.now m.old }
