@@ -1,5 +1,5 @@
 // Rows on big maps.
-ghost use Rattle.std.specs.Prelude.{◌≡◌, ◌∷◌, true, option_map, IfOk};
+ghost use Rattle.std.specs.Prelude.{◌≡◌, List, true, option_map, IfOk};
 ghost use Rattle.rules_instructions.specs.Straight as i;
 ghost use Rattle.mich_base.specs.TypeView.{kind};
 ghost use Rattle.mich_bigmap.specs.Bases.{Bases};
@@ -7,6 +7,9 @@ ghost use Rattle.mich_overload.specs.View.{collection_row};
 ghost use Rattle.mich_overload.specs.Steps.{is_on_big_map};
 ghost use Rattle.mich_stack.specs.Views.{plain};
 ghost use Rattle.mich_stack.specs.Keys.{IsKeyOnTop};
+ghost use Rattle.mich_step.specs.Shown.{ShowsTickets};
+ghost use Rattle.mich_term.specs.declared.value.Value.{Value};
+ghost use Rattle.laws_sights.specs.Sights.{sight};
 ghost use Rattle.mich_entries.specs.Given.{HandsOut, IsExchange, seen_in, values_in};
 ghost use Rattle.mich_entries.specs.Operands.{IsBigMapSecond, IsBigMapThird, HasBigMap, HasKey};
 
@@ -69,6 +72,7 @@ fn exchange(
 ) -> Result<Option<Value>, Memory>
     requires key { IsKeyOnTop (plain stack.old) }
     requires big_map { IsBigMapThird (values_in store.now.bases.present stack.old) }
+    requires shows { (vs : List Value) → ShowsTickets (sight store.now.bases.present) vs }
     ensures { IfOk result (λ old. IsExchange (values_in store.now.bases.present stack.old) (option_map (seen_in store.now.bases.present) old) (values_in store.now.bases.present stack.new)) }
 {
     let key = take_key(alloc, stack)?;
@@ -83,6 +87,7 @@ fn exchange(
 fn update_big_map(alloc: Global, stack: &mut Rows<Value>, store: &Store) -> Result<Value, Memory>
     requires key { IsKeyOnTop (plain stack.old) }
     requires big_map { IsBigMapThird (values_in store.now.bases.present stack.old) }
+    requires shows { (vs : List Value) → ShowsTickets (sight store.now.bases.present) vs }
     ensures { HandsOut store.now.bases.present i.update_big_map stack.old stack.new result }
 {
     match exchange(alloc, stack, store)? {
@@ -98,6 +103,7 @@ fn get_and_update_big_map(
 ) -> Result<Value, Memory>
     requires key { IsKeyOnTop (plain stack.old) }
     requires big_map { IsBigMapThird (values_in store.now.bases.present stack.old) }
+    requires shows { (vs : List Value) → ShowsTickets (sight store.now.bases.present) vs }
     ensures { HandsOut store.now.bases.present i.get_and_update_big_map stack.old stack.new result }
 {
     let old = exchange(alloc, stack, store)?;
@@ -118,6 +124,7 @@ pub fn big_map_step(
     requires on_big_map { is_on_big_map (collection_row row.now) ≡ true }
     requires key { HasKey (collection_row row.now) (plain stack.old) }
     requires big_map { HasBigMap (collection_row row.now) (values_in store.now.bases.present stack.old) }
+    requires shows { (vs : List Value) → ShowsTickets (sight store.now.bases.present) vs }
     ensures { HandsOut store.now.bases.present (collection_row row.now) stack.old stack.new result }
 {
     match row {

@@ -2,13 +2,13 @@
 ghost use Rattle.std.specs.Prelude.{◌≡◌, true, option_map, IfOk};
 ghost use Rattle.rules_instructions.specs.Straight as i;
 ghost use Rattle.rules_steps.specs.Costs.{collection_weight, weight_found};
-ghost use Rattle.mich_bigmap.specs.Bases.{Bases};
 ghost use Rattle.mich_overload.specs.View.{collection_row};
 ghost use Rattle.mich_overload.specs.Steps.{is_on_big_map};
 ghost use Rattle.mich_stack.specs.Views.{plain};
 ghost use Rattle.mich_stack.specs.Keys.{IsKeyOnTop};
 ghost use Rattle.mich_term.specs.Weights.{capped};
-ghost use Rattle.mich_entries.specs.Given.{seen_in, values_in};
+ghost use Rattle.mich_term.specs.ValueView.{val};
+ghost use Rattle.mich_entries.specs.Given.{values_in};
 ghost use Rattle.mich_entries.specs.Operands.{IsBigMapSecond, HasBigMap, HasKey};
 
 use crate::entries::found;
@@ -21,7 +21,7 @@ use std::alloc::Global;
 
 // The weight of a value that may be there.
 fn found_weight(value: Option<&Value>) -> u64
-    ensures { (bs : Bases) → result ≡ capped (weight_found (option_map (λ v. seen_in bs v.now) value.entry)) }
+    ensures { result ≡ capped (weight_found (option_map (λ v. val v.now) value.entry)) }
 {
     match value {
         Some(value) => weight(value),
@@ -31,7 +31,8 @@ fn found_weight(value: Option<&Value>) -> u64
 
 // The weight of the value that GET finds in the big map on top.
 fn get_weight(alloc: Global, stack: &Rows<Value>, store: &Store) -> Result<u64, Memory>
-    requires { IsBigMapSecond (values_in store.now.bases.present stack.now) }
+    requires key { IsKeyOnTop (plain stack.now) }
+    requires big_map { IsBigMapSecond (values_in store.now.bases.present stack.now) }
     ensures { IfOk result (λ w. w ≡ capped (collection_weight i.get_big_map (values_in store.now.bases.present stack.now))) }
 {
     let Some((key, big, _)) = two_on_top(stack.as_slice()) else {
@@ -41,7 +42,7 @@ fn get_weight(alloc: Global, stack: &Rows<Value>, store: &Store) -> Result<u64, 
         unreachable!()
     };
     let Some(key) = key.datum(alloc)? else {
-        return Err(Memory);
+        unreachable!()
     };
     Ok(found_weight(found(store, big.get(), &key)))
 }
