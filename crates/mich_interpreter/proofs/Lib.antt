@@ -25,3 +25,5 @@ pub mod Changed
 pub mod Failing
 pub mod Operands
 pub mod Hashed
+pub mod Plain
+pub mod BigMapRows

@@ -20,11 +20,11 @@ use Rattle.mich_frames.specs.Frames.{Frame}
 use Rattle.mich_frames.proofs.Taking.{row_taken}
 use Rattle.mich_gas.specs.declared.costs.Costs.{Costs}
 use Rattle.mich_hashes.specs.Operands.{HasOperand}
-use Rattle.mich_hashes.proofs.Packed.{packable_plain}
 use Rattle.mich_instr.specs.Code as made
 use Rattle.mich_stack.specs.Views.{Sight}
 use Rattle.mich_interpreter.specs.View.{Beyond, tops, around}
 use Rattle.mich_interpreter.specs.Ends.{Meets}
+use Rattle.mich_interpreter.proofs.Plain.{packable_plain}
 use Rattle.mich_interpreter.specs.declared.state.State.{State}
 
 where_holds : (b : Bool) (o : Option Change) (c : Change) → where_true b o ≡ Some c → b ≡ true
