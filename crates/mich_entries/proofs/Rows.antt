@@ -1,6 +1,6 @@
 -- Rows on a stack whose top is known.
-use Rattle.std.proofs.Common.{◌≡◌, List, [], ◌∷◌, Bool, Some, None, refl, sym, ap, ◌∙◌, subst}
-use Rattle.std.specs.Prelude.{is_some, option_to_list}
+use Rattle.std.proofs.Common.{◌≡◌, List, [], ◌∷◌, Bool, true, Some, None, refl, sym, ap, ◌∙◌, subst}
+use Rattle.std.specs.Prelude.{is_some, option_map, option_to_list, IfSome}
 use Rattle.std.specs.declared.option.Option.{Option}
 use Rattle.std.proofs.lemmas.List.{append-nil}
 use Rattle.rules_types.specs.Kind.{Kind}
@@ -12,7 +12,10 @@ use Rattle.rules_steps.specs.Changes.{burns}
 use Rattle.rules_steps.specs.Collections.{collection_step, map_with}
 use Rattle.rules_steps.specs.Costs.{collection_weight, weight_found}
 use Rattle.rules_steps.specs.Step.{done, kept, discarding, optional}
+use Rattle.mich_term.specs.declared.value.Value.{Value}
+use Rattle.laws_sights.specs.Sights.{is_plain}
 use Rattle.mich_entries.specs.Given.{IsExchange}
+use Rattle.mich_entries.specs.Operands.{IsPlainOption, IsOptionOnTop, IsBigMapOnTop, IsBigMapThird}
 
 pub empty_is : (a b : Kind) (V new : List Val) (v : Val) → v ≡ big_table no_pair → new ≡ v ∷ V → collection_step (i.empty_big_map a b) V ≡ kept new
 empty_is a b V new v e f = ap (λ x. kept (x ∷ V)) (sym e) ∙ ap kept (sym f)
@@ -45,3 +48,22 @@ pub exchange_is : (V : List Val) (k : Val) (new : Option Val) (ps qs : Pairs) (W
     old ≡ value_at k ps → qs ≡ map_with k new ps → IsExchange V old (big_table qs ∷ W)
 exchange_is V k new ps qs W old e f g =
     subst (λ X. IsExchange X old (big_table qs ∷ W)) (sym e) (subst (λ q. IsExchange (k ∷ optional new ∷ big_table ps ∷ W) old (big_table q ∷ W)) (sym g) (at_option k new ps W old f))
+
+-- ---- what stands below a key
+
+pub third_option : (V : List Val) (k : Val) (W : List Val) → V ≡ k ∷ W → IsBigMapThird V → IsOptionOnTop W
+third_option V k W e h = by W (subst IsBigMapThird e h)
+  where
+    by : (W : List Val) → IsBigMapThird (k ∷ W) → IsOptionOnTop W
+    by (o ∷ X) h = h.0
+    by [] h = h
+
+pub third_big : (V : List Val) (k : Val) (W : List Val) (o : Val) (X : List Val) → V ≡ k ∷ W → W ≡ o ∷ X → IsBigMapThird V → IsBigMapOnTop X
+third_big V k W o X e f h = (subst IsBigMapThird (e ∙ ap (λ Y. k ∷ Y) f) h).1
+
+pub option_plain : (see : Value → Val) (o : Option Value) (V : List Val) (k : Val) (W X : List Val) → V ≡ k ∷ W → W ≡ optional (option_map see o) ∷ X → IsBigMapThird V → IfSome o (λ v. is_plain (see v) ≡ true)
+option_plain see o V k W X e f h = by o (subst IsBigMapThird (e ∙ ap (λ Y. k ∷ Y) f) h).0
+  where
+    by : (o : Option Value) → IsPlainOption (optional (option_map see o)) → IfSome o (λ v. is_plain (see v) ≡ true)
+    by None h = tt
+    by (Some x) h = h

@@ -1,6 +1,6 @@
 -- What is so of each value of a big map stays so of them after a write.
 use Rattle.std.proofs.Common.{◌≡◌, Bool, true, false, List, [], ◌∷◌, ◌++◌, Some, None, refl, sym, ap, ◌∙◌, subst}
-use Rattle.std.specs.Prelude.{◌||◌, if◌then◌else◌}
+use Rattle.std.specs.Prelude.{◌||◌, if◌then◌else◌, is_some, option_map}
 use Rattle.std.specs.declared.option.Option.{Option}
 use Rattle.std.specs.declared.cmp.Ordering.TheVariants.{Less, Equal, Greater}
 use Rattle.std.specs.Ordering.{match_ordering, is_eq}
@@ -24,6 +24,10 @@ use Rattle.mich_bigmap.specs.Bases.{Changes}
 use Rattle.mich_bigmap.proofs.Keys.{by_lawful}
 use Rattle.laws_sights.specs.Sights.{is_plain, entries_plain}
 use Rattle.mich_entries.specs.Operands.{holds, any_holds, any_entry_holds}
+
+pub some_mapped : {A B : Type 0} (f : A → B) (o : Option A) → is_some (option_map f o) ≡ is_some o
+some_mapped f (Some x) = refl
+some_mapped f None = refl
 
 -- ---- each value of some entries
 

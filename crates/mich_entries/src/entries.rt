@@ -1,5 +1,5 @@
 // Entries of big maps, as they are seen in a store.
-ghost use Rattle.std.specs.Prelude.{◌≡◌, true, false, [], List, option_map, OnOk, IfOk, IfSome};
+ghost use Rattle.std.specs.Prelude.{◌≡◌, true, false, [], List, option_map, is_some, OnOk, IfOk, IfSome};
 ghost use Rattle.rules_values.specs.Val.{no_pair};
 ghost use Rattle.rules_values.specs.Tickets.{tickets};
 ghost use Rattle.rules_values.specs.Tables.{value_at, with_value, without_key};
@@ -39,6 +39,15 @@ pub(crate) fn found<'a>(store: &'a Store, big: &'a BigMap, key: &Datum) -> Optio
     ensures in_store { option_map (λ v. seen_in store.now.bases.present v.now) result ≡ value_at (datum key.now) (entries_seen store.now.bases.present big.now) }
 {
     get(store, big, key)
+}
+
+// Whether there is an entry at a key.
+#[tactic(auto, using(crate::proofs::Values::some_mapped))]
+pub(crate) fn is_there(store: &Store, big: &BigMap, key: &Datum) -> bool
+    requires { AreEntries (entries_seen store.now.bases.present big.now) }
+    ensures { result ≡ is_some (value_at (datum key.now) (entries_seen store.now.bases.present big.now)) }
+{
+    found(store, big, key).is_some()
 }
 
 // Whether a value may not be put into a big map that shares.

@@ -13,7 +13,7 @@ ghost use Rattle.laws_sights.specs.Sights.{sight};
 ghost use Rattle.mich_entries.specs.Given.{HandsOut, IsExchange, seen_in, values_in};
 ghost use Rattle.mich_entries.specs.Operands.{IsBigMapSecond, IsBigMapThird, HasBigMap, HasKey};
 
-use crate::entries::{exchanged, found, no_entries};
+use crate::entries::{exchanged, found, is_there, no_entries};
 use crate::taking::{big_value, copied, take_big, take_option};
 use mich_base::{Memory, Rows, Ty};
 use mich_bigmap::Store;
@@ -44,10 +44,11 @@ fn mem_big_map(alloc: Global, stack: &mut Rows<Value>, store: &Store) -> Result<
 {
     let key = take_key(alloc, stack)?;
     let big = take_big(stack);
-    let is_there = found(store, &big, &key).is_some();
+    let found = is_there(store, &big, &key);
     drop(key);
-    push(stack, Value::Bool(is_there))?;
-    big_value(alloc, big)
+    push(stack, Value::Bool(found))?;
+    let gone = big_value(alloc, big)?;
+    Ok(gone)
 }
 
 fn get_big_map(alloc: Global, stack: &mut Rows<Value>, store: &Store) -> Result<Value, Memory>
