@@ -27,3 +27,4 @@ pub mod Operands
 pub mod Hashed
 pub mod Plain
 pub mod BigMapRows
+pub mod Dropped
