@@ -28,30 +28,30 @@ store_sight v x s sees e = sees.sight ∙ ap (λ (t : Stored). sight t.bases.pre
 
 pub big_map_weight-requires-clause-key : goal.big_map_weight-requires-clause-key
 big_map_weight-requires-clause-key c =
-    let t = c.requires.comes in rows.has_key t.1.0 c.args.costs.now c.args.m.now (collection_row c.args.row.now) t.1.5.0
+    let t = c.requires.comes in rows.has_key t.1.0 c.args.costs.now c.args.m.now (collection_row c.args.row.now) t.1.5
 
 pub big_map_weight-requires-clause-big_map : goal.big_map_weight-requires-clause-big_map
 big_map_weight-requires-clause-big_map c =
     let t = c.requires.comes in
     let r = collection_row c.args.row.now in
-    subst (λ (s : Sight). HasBigMap r (values s c.args.m.now.stack)) (store_sight c.args.world.now t.1.0 c.store.result.now t.1.5.1 c.store.ensures)
-    (rows.has_big_map t.1.0 c.args.costs.now c.args.m.now r t.1.5.0)
+    subst (λ (s : Sight). HasBigMap r (values s c.args.m.now.stack)) (store_sight c.args.world.now t.1.0 c.store.result.now t.1.6 c.store.ensures)
+    (rows.has_big_map t.1.0 c.args.costs.now c.args.m.now r t.1.5)
 
 pub big_map_step-requires-clause-key : goal.big_map_step-requires-clause-key
 big_map_step-requires-clause-key c =
-    let t = c.requires.comes in rows.has_key t.1.0 c.args.costs.now c.args.m.now (collection_row c.args.row.now) t.1.5.0
+    let t = c.requires.comes in rows.has_key t.1.0 c.args.costs.now c.args.m.now (collection_row c.args.row.now) t.1.5
 
 pub big_map_step-requires-clause-big_map : goal.big_map_step-requires-clause-big_map
 big_map_step-requires-clause-big_map c =
     let t = c.requires.comes in
     let r = collection_row c.args.row.now in
-    subst (λ (s : Sight). HasBigMap r (values s c.args.m.now.stack)) (store_sight c.args.world.now t.1.0 c.store.result.now t.1.5.1 c.store.ensures)
-    (rows.has_big_map t.1.0 c.args.costs.now c.args.m.now r t.1.5.0)
+    subst (λ (s : Sight). HasBigMap r (values s c.args.m.now.stack)) (store_sight c.args.world.now t.1.0 c.store.result.now t.1.6 c.store.ensures)
+    (rows.has_big_map t.1.0 c.args.costs.now c.args.m.now r t.1.5)
 
 pub big_map_step-requires-clause-shows : goal.big_map_step-requires-clause-shows
 big_map_step-requires-clause-shows c =
     let t = c.requires.comes in
-    subst (λ (s : Sight). (vs : List Value) → ShowsTickets s vs) (store_sight c.args.world.now t.1.0 c.store.result.now t.1.5.1 c.store.ensures) t.1.0.shows
+    subst (λ (s : Sight). (vs : List Value) → ShowsTickets s vs) (store_sight c.args.world.now t.1.0 c.store.result.now t.1.6 c.store.ensures) t.1.0.shows
 
 pub returns-then-not-pay_capped-clause-acts : goal.returns-then-not-pay_capped-clause-acts
 returns-then-not-pay_capped-clause-acts c = λ app x fs d Z o h sees.
@@ -67,8 +67,8 @@ pub burn-requires : goal.burn-requires
 burn-requires c =
     let t = c.requires.comes in
     let r = collection_row c.args.row.now in
-    let e = store_sight c.args.world.now t.1.0 c.store.result.now t.1.5.1 c.store.ensures in
-    rows.gone_ready t.1.0 c.args.costs.now c.args.m.now r t.1.5.0 c.big_map_step-gone.new.stack c.in_ok-gone.gone
+    let e = store_sight c.args.world.now t.1.0 c.store.result.now t.1.6 c.store.ensures in
+    rows.gone_ready t.1.0 c.args.costs.now c.args.m.now r t.1.5 c.big_map_step-gone.new.stack c.in_ok-gone.gone
     (subst (λ (s : Sight). collection_step r (values s c.args.m.now.stack) ≡ done (values s c.big_map_step-gone.new.stack) (burns (tickets (seen s c.in_ok-gone.gone)))) (sym e) c.in_ok-gone.ensures)
 
 pub returns-clause-acts : goal.returns-clause-acts
