@@ -26,5 +26,3 @@ pub mod Failing
 pub mod Operands
 pub mod Hashed
 pub mod Plain
-pub mod BigMapRows
-pub mod Dropped

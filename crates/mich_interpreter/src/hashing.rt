@@ -1,5 +1,5 @@
 // PACK and the hashes.
-ghost use Rattle.std.specs.Prelude.{◌≡◌, IfOk};
+ghost use Rattle.std.specs.Prelude.{◌≡◌, false, IfOk};
 ghost use Rattle.rules_base.specs.Tree.{Tree};
 ghost use Rattle.rules_instructions.specs.Straight.{on_hashes};
 ghost use Rattle.mich_hashes.specs.Operands.{is_unpack};
@@ -20,7 +20,6 @@ use mich_stack::StepError;
 use std::alloc::Global;
 
 // Not for UNPACK.
-#[tactic(auto, using(crate::proofs::Keeping::acts_same))]
 fn act_hash(alloc: Global, m: &mut State, costs: &Costs, row: &HashRow) -> Result<Act, Memory>
     requires no_unpack { is_unpack (hash_row row.now) ≡ false }
     requires comes { (app : Tree) × Comes (made.straight (on_hashes (hash_row row.now)) app) costs.now m.old }

@@ -3,7 +3,6 @@
 
 mod act;
 mod beginning;
-mod big_maps;
 mod bodies;
 mod branches;
 mod calls;

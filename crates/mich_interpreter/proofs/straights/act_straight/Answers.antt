@@ -31,12 +31,3 @@ pub returns-in_ok-act_packing-in-Hashes-clause-acts : goal.returns-in_ok-act_pac
 returns-in_ok-act_packing-in-Hashes-clause-acts c = λ app x fs d Z o h w.
     c.in_ok-act_packing-in-Hashes.ensures.acts app x fs d Z o
     (subst (λ (s : Simple). Meets (made.straight (straight s) app) x c.args.costs.now c.args.m.now fs d Z o) c.in-Hashes.is h)
-
-pub act_big_map-requires-clause-comes : goal.act_big_map-requires-clause-comes
-act_big_map-requires-clause-comes c =
-    subst (λ (s : Simple). (app : Tree) × ComesIn c.args.world.now (made.straight (straight s) app) c.args.costs.now c.args.m.now) c.in-Collections.is c.requires
-
-pub returns-in_ok-act_big_map-in-Collections-clause-acts : goal.returns-in_ok-act_big_map-in-Collections-clause-acts
-returns-in_ok-act_big_map-in-Collections-clause-acts c = λ app x fs d Z o h w.
-    c.in_ok-act_big_map-in-Collections.ensures.acts app x fs d Z o
-    (subst (λ (s : Simple). Meets (made.straight (straight s) app) x c.args.costs.now c.args.m.now fs d Z o) c.in-Collections.is h) w
