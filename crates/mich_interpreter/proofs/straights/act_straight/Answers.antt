@@ -1,4 +1,4 @@
-use Rattle.std.proofs.Common.{subst}
+use Rattle.std.proofs.Common.{sym, subst, ◌∙◌}
 use Rattle.rules_base.specs.Tree.{Tree}
 use Rattle.mich_instr.specs.Code as made
 use Rattle.mich_overload.specs.View.{straight}
@@ -17,7 +17,7 @@ returns-in_ok-act_operation-in-Operations-clause-acts c = λ app x fs d Z o h w.
 
 pub act_step-requires : goal.act_step-requires
 act_step-requires c = let r = c.requires.1 in record {
-  in_step = c.if-in_step.true;
+  in_step = sym c.in_step.ensures ∙ c.if-in_step.true;
   comes = (c.requires.0, (r.0, r.1, r.2, r.3, r.4, r.5));
 }
 
@@ -31,3 +31,6 @@ pub returns-in_ok-act_packing-in-Hashes-clause-acts : goal.returns-in_ok-act_pac
 returns-in_ok-act_packing-in-Hashes-clause-acts c = λ app x fs d Z o h w.
     c.in_ok-act_packing-in-Hashes.ensures.acts app x fs d Z o
     (subst (λ (s : Simple). Meets (made.straight (straight s) app) x c.args.costs.now c.args.m.now fs d Z o) c.in-Hashes.is h)
+
+pub returns-then-in_step-clause-acts : goal.returns-then-in_step-clause-acts
+returns-then-in_step-clause-acts c = λ app x fs d Z o h w. c.in_ok-act.ensures.acts app x fs d Z o h
