@@ -1,3 +1,3 @@
 pub mod Values
 pub mod Sighted
-pub mod Rows
+pub mod Stepped

@@ -3,7 +3,7 @@ use Rattle.rules_values.specs.Val.{big_table}
 use Rattle.std.proofs.Common.{ap, ◌∙◌}
 use Rattle.laws_sights.specs.Sights.{sight}
 use Rattle.mich_entries.specs.Given.{seen_in, values_in}
-use Rattle.mich_entries.proofs.Rows.{empty_is}
+use Rattle.mich_entries.proofs.Stepped.{empty_is}
 use Rattle.mich_entries.proofs.rows.empty_big_map.Goals as goal
 
 pub returns : goal.returns

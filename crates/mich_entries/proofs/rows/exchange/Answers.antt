@@ -5,7 +5,7 @@ use Rattle.mich_term.specs.View.{datum}
 use Rattle.laws_sights.specs.Sights.{sight}
 use Rattle.mich_entries.specs.Given.{IsExchange, entries_seen, seen_in, values_in}
 use Rattle.mich_entries.specs.Operands.{IsBigMapThird, IsBigMapOnTop}
-use Rattle.mich_entries.proofs.Rows.{exchange_is, third_option, third_big, option_plain}
+use Rattle.mich_entries.proofs.Stepped.{exchange_is, third_option, third_big, option_plain}
 use Rattle.mich_entries.proofs.rows.exchange.Goals as goal
 
 pub take_option-requires : goal.take_option-requires

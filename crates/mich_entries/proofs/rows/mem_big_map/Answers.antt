@@ -3,7 +3,7 @@ use Rattle.mich_term.specs.View.{datum}
 use Rattle.laws_sights.specs.Sights.{sight}
 use Rattle.mich_entries.specs.Given.{entries_seen, seen_in, values_in}
 use Rattle.mich_entries.specs.Operands.{IsBigMapSecond, IsBigMapOnTop}
-use Rattle.mich_entries.proofs.Rows.{mem_is}
+use Rattle.mich_entries.proofs.Stepped.{mem_is}
 use Rattle.mich_entries.proofs.rows.mem_big_map.Goals as goal
 
 pub take_big-requires : goal.take_big-requires
