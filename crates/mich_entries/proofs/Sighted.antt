@@ -3,11 +3,12 @@ use Rattle.std.proofs.Common.{◌≡◌, ℕ, Bool, true, false, List, [], ◌�
 use Rattle.std.specs.Prelude.{option_map, is_some}
 use Rattle.std.specs.declared.option.Option.{Option}
 use Rattle.std.specs.List.{AllByRecursion}
+use Rattle.std.specs.Map.{keys_of}
 use Rattle.rules_values.specs.Val.{Val, Pairs, no_pair, more_pairs, big_table}
 use Rattle.rules_values.specs.Tables.{AreIncreasingKeys, value_at, with_value, without_key}
 use Rattle.rules_values.specs.Tickets.{Held, tickets, pair_tickets}
 use Rattle.rules_bigmap.specs.Changes.{changed}
-use Rattle.mich_term.specs.Keyed.{found}
+use Rattle.mich_term.specs.Keyed.{found, IsIncreasing}
 use Rattle.mich_term.specs.Layers.{NoBigMap, PutsNoBigMap, FormedLayer}
 use Rattle.mich_term.specs.View.{datum}
 use Rattle.mich_term.specs.ValueView.{val, value_step, big_step, big_pairs, change, puts, put_pairs}
@@ -22,7 +23,7 @@ use Rattle.mich_term.proofs.Overlays.{big_is}
 use Rattle.mich_bigmap.specs.Bases.{Bases, Changes, entries_in, big_in, seen_change, seen as seen_changes}
 use Rattle.mich_bigmap.specs.Formed.{IsFormed, is_there}
 use Rattle.mich_bigmap.specs.Standing.{big_step_in, change_step}
-use Rattle.mich_bigmap.proofs.Meaning.{found_over}
+use Rattle.mich_bigmap.proofs.Meaning.{found_over, none_in, none_sorted}
 use Rattle.mich_stack.specs.Views.{Sight, seen}
 use Rattle.mich_step.specs.Shown.{as_entries, shown, ShowsTickets}
 use Rattle.laws_sights.specs.Sights.{is_plain, entries_plain, is_layer, odd, seen_where, sight}
@@ -50,6 +51,9 @@ pub lent_seen : (bs : Bases) (k : Val) (ps : Pairs) (o : Option (Bor Value)) →
 lent_seen bs k ps None h e = e
 lent_seen bs k ps (Some x) h e = ap Some (plain_in bs x.now (all_at Plain k ps (val x.now) (plain_all ps h) (sym e))) ∙ e
 
+pub big_seen : (big : Sight) (m : BigMap) → seen big (v.BigMap m) ≡ big_table (entries_by big m)
+big_seen big m = ap (seen big) (sym (rolls-BigMap m)) ∙ fold-roll-Value Val Pairs value_step big (Value-F.BigMap m)
+
 -- ---- its form
 
 odd_is_not : (ts : List Held) → AreIncreasingKeys (odd ts) → ⊥
@@ -76,6 +80,21 @@ module _ (bs : Bases) where
       ∙ ap (big_step_in bs) (layer_alike (sight bs) bs l sound.formed.plain)
       ∙ ap (λ cs. changed cs (entries_in bs l.base)) (twice_seen l.overlay)
 
+  -- without a base and without changes it has no entries
+  pub none_seen : (m : BigMap) → (out-BigMap m).base ≡ None → (out-BigMap m).overlay ≡ [] → entries_seen bs m ≡ no_pair
+  none_seen m b o =
+      seen_here m (record {
+        formed = record {
+          keys = subst (λ cs. IsIncreasing (keys_of cs)) (sym o) none_sorted;
+          alone = λ s. b;
+          puts = λ e. subst (λ cs. AllByRecursion (λ c. is_some c.1 ≡ true) cs) (sym o) tt;
+          plain = subst (λ cs. AllByRecursion (λ c. PutsNoBigMap c.1) cs) (sym o) tt;
+          ticketless = λ s. ap (λ cs. pair_tickets (put_pairs cs)) o;
+        };
+        based = ap (is_there bs) b;
+      })
+      ∙ (λ i. changed (seen_changes (o i)) (entries_in bs (b i))) ∙ none_in bs
+
   pub formed_of : (m : BigMap) → AreIncreasingKeys (entries_seen bs m) → IsFormed m
   formed_of m h = let f = (sound_here m h).formed in record { keys = f.keys; alone = f.alone; puts = f.puts }
 
@@ -90,11 +109,11 @@ both_none xs ys h k = (λ i. h i ++ k i)
 
 none_put : (cs : Changes) → AllByRecursion (λ c. PutsNoTicket c.1) cs → pair_tickets (put_pairs cs) ≡ []
 none_put [] h = refl
-none_put (c ∷ cs) h = by c.1 h.0
+none_put (c ∷ cs) h = by c.1 h.0 (none_put cs h.1)
   where
-    by : (o : Option Value) → PutsNoTicket o → pair_tickets (put_pairs ((c.0, o) ∷ cs)) ≡ []
-    by None p = none_put cs h.1
-    by (Some x) p = both_none (tickets (val x)) (pair_tickets (put_pairs cs)) p (none_put cs h.1)
+    by : (o : Option Value) → PutsNoTicket o → pair_tickets (put_pairs cs) ≡ [] → pair_tickets (put_pairs ((c.0, o) ∷ cs)) ≡ []
+    by None p later = later
+    by (Some x) p later = both_none (tickets (val x)) (pair_tickets (put_pairs cs)) p later
 
 module _ (bs : Bases) where
   put_plain : (ps : Pairs) (k : Val) (o : Option Value) → AllValues Plain ps → value_at k ps ≡ option_map val o → PutsNoBigMap o
@@ -118,9 +137,6 @@ module _ (bs : Bases) where
       }
 
   -- the tickets that it is seen with are those that lie in it
-  big_seen : (big : Sight) (m : BigMap) → seen big (v.BigMap m) ≡ big_table (entries_by big m)
-  big_seen big m = ap (seen big) (sym (rolls-BigMap m)) ∙ fold-roll-Value Val Pairs value_step big (Value-F.BigMap m)
-
   first_tickets : (ps qs : Pairs) → map shown (big_table ps ∷ []) ≡ map shown (big_table qs ∷ []) → pair_tickets ps ≡ pair_tickets qs
   first_tickets ps qs e =
       let same : as_entries (pair_tickets ps) ≡ as_entries (pair_tickets qs) = cc in

@@ -4,7 +4,7 @@ use Rattle.std.specs.Prelude.{is_some, option_map, option_to_list, IfSome}
 use Rattle.std.specs.declared.option.Option.{Option}
 use Rattle.std.proofs.lemmas.List.{append-nil}
 use Rattle.rules_types.specs.Kind.{Kind}
-use Rattle.rules_values.specs.Val.{Val, Pairs, no_pair, truth, big_table, unit}
+use Rattle.rules_values.specs.Val.{Val, Pairs, no_pair, truth, big_table, is_comparable}
 use Rattle.rules_values.specs.Tables.{value_at}
 use Rattle.rules_values.specs.Tickets.{tickets, pair_tickets}
 use Rattle.rules_instructions.specs.Straight as i
@@ -13,8 +13,16 @@ use Rattle.rules_steps.specs.Collections.{collection_step, map_with}
 use Rattle.rules_steps.specs.Costs.{collection_weight, weight_found}
 use Rattle.rules_steps.specs.Step.{done, kept, discarding, optional}
 use Rattle.mich_term.specs.declared.value.Value.{Value}
-use Rattle.laws_sights.specs.Sights.{is_plain}
-use Rattle.mich_entries.specs.Given.{IsExchange}
+use Rattle.laws_sights.specs.Sights.{is_plain, sight}
+use Rattle.mich_bigmap.specs.Bases.{Bases}
+use Rattle.mich_stack.proofs.Comparable.{comparable_seen}
+use Rattle.mich_term.specs.View.{datum}
+use Rattle.mich_term.specs.ValueView.{val}
+use Rattle.mich_term.specs.declared.datum.Datum.{Datum}
+use Rattle.mich_term.specs.declared.value.BigMap.{BigMap}
+use Rattle.mich_term.specs.declared.value.Value.TheVariants as v
+use Rattle.mich_entries.proofs.Sighted.{big_seen}
+use Rattle.mich_entries.specs.Given.{IsExchange, entries_seen, seen_in}
 use Rattle.mich_entries.specs.Operands.{IsPlainOption, IsOptionOnTop, IsBigMapOnTop, IsBigMapThird}
 
 pub empty_is : (a b : Kind) (V new : List Val) (v : Val) → v ≡ big_table no_pair → new ≡ v ∷ V → collection_step (i.empty_big_map a b) V ≡ kept new
@@ -48,6 +56,13 @@ pub exchange_is : (V : List Val) (k : Val) (new : Option Val) (ps qs : Pairs) (W
     old ≡ value_at k ps → qs ≡ map_with k new ps → IsExchange V old (big_table qs ∷ W)
 exchange_is V k new ps qs W old e f g =
     subst (λ X. IsExchange X old (big_table qs ∷ W)) (sym e) (subst (λ q. IsExchange (k ∷ optional new ∷ big_table ps ∷ W) old (big_table q ∷ W)) (sym g) (at_option k new ps W old f))
+
+-- what GET weighs, where its key and a big map are on top
+pub get_found : (bs : Bases) (V W : List Val) (k m : Value) (b : BigMap) (d : Datum) (o : Option Val) → V ≡ seen_in bs k ∷ seen_in bs m ∷ W → m ≡ v.BigMap b →
+    is_comparable (val k) ≡ true → datum d ≡ val k → o ≡ value_at (datum d) (entries_seen bs b) → collection_weight i.get_big_map V ≡ weight_found o
+get_found bs V W k m b d o on is comparable same e =
+    get_weighs V (datum d) (entries_seen bs b) W o
+    (on ∙ (λ j. (comparable_seen (sight bs) k comparable ∙ sym same) j ∷ (ap (seen_in bs) is ∙ big_seen (sight bs) b) j ∷ W)) e
 
 -- ---- what stands below a key
 

@@ -41,11 +41,11 @@ same_some v x e = cc
 module _ (P : Val → Type 0) where
   pub all_at : (k : Val) (ps : Pairs) (x : Val) → AllValues P ps → value_at k ps ≡ Some x → P x
   all_at k no_pair x h e = absurd cc
-  all_at k (more_pairs j v ps) x h e = by (is_eq (order k j)) e
+  all_at k (more_pairs j v ps) x h e = by (is_eq (order k j)) (λ f. all_at k ps x h.1 f) e
     where
-      by : (b : Bool) → (if b then Some v else value_at k ps) ≡ Some x → P x
-      by true f = subst P (same_some v x f) h.0
-      by false f = all_at k ps x h.1 f
+      by : (b : Bool) → (value_at k ps ≡ Some x → P x) → (if b then Some v else value_at k ps) ≡ Some x → P x
+      by true later f = subst P (same_some v x f) h.0
+      by false later f = later f
 
   pub all_with : (k x : Val) (ps : Pairs) → P x → AllValues P ps → AllValues P (with_value k x ps)
   all_with k x no_pair p h = (p, tt)
@@ -92,6 +92,10 @@ ticketless_all no_pair h = tt
 ticketless_all (more_pairs k v ps) h = let q = nothing_of (tickets v) (pair_tickets ps) h in (q.0, ticketless_all ps q.1)
 
 -- ---- a value that holds neither
+
+pub or_next : (b c d : Bool) → ((b || c) || d) ≡ (b || (c || d))
+or_next true c d = refl
+or_next false c d = refl
 
 or_parts : (b c : Bool) → (b || c) ≡ false → (b ≡ false) × (c ≡ false)
 or_parts false c h = (refl, h)

@@ -26,18 +26,22 @@ fn list_holds(values: &Chain<Value>) -> bool
 {
     let mut found = false;
     for value in values.as_reversed_slice() {
-        found = holds(value) || found;
+        let more = holds(value);
+        found = more || found;
     }
     found
 }
 
+#[tactic(auto, using(crate::proofs::Values::or_next))]
 #[cycle(holding)]
 fn table_holds(table: &Table<Value>) -> bool
     ensures { result ≡ any_entry_holds (pairs table.now) }
 {
     let mut found = false;
-    for (_, value) in table.iter() {
-        found = found || holds(value);
+    for (key, value) in table.iter() {
+        let _key = key;
+        let more = holds(value);
+        found = found || more;
     }
     found
 }

@@ -26,3 +26,5 @@ pub mod Failing
 pub mod Operands
 pub mod Hashed
 pub mod Plain
+pub mod BigMapRows
+pub mod Dropped

@@ -3,6 +3,7 @@
 
 mod act;
 mod beginning;
+mod big_maps;
 mod bodies;
 mod branches;
 mod calls;

@@ -8,6 +8,7 @@ ghost use Rattle.mich_stack.specs.Views.{Sight, failure as step_failure};
 ghost use Rattle.mich_interpreter.specs.Ends.{Comes, Carries, ComesIn, CarriesIn, Spends, KeepsAct, failure};
 
 use crate::act::{Act, Failed};
+use crate::big_maps::act_big_map;
 use crate::bodies::Bodies;
 use crate::hashing::act_packing;
 use crate::issuing::act_operation;
@@ -53,7 +54,7 @@ fn act_step(alloc: Global, m: &mut State, costs: &Costs, instr: &Simple) -> Resu
     }
 }
 
-// Memory, so far, for those that unpack, look a contract up, or work on big maps.
+// Memory, so far, for those that unpack, or look a contract up.
 #[tactic(auto, using(crate::proofs::Keeping::acts_group))]
 pub(crate) fn act_straight(
     alloc: Global,
@@ -75,6 +76,7 @@ pub(crate) fn act_straight(
     match instr {
         Simple::Operations(row) => Ok(act_operation(alloc, m, costs, world, bodies, row)?),
         Simple::Hashes(row) => Ok(act_packing(alloc, m, costs, row)?),
-        _ => Err(Memory),
+        Simple::Collections(row) => Ok(act_big_map(alloc, m, costs, world, row)?),
+        _ => unreachable!(),
     }
 }

@@ -17,5 +17,5 @@ returns-clause-old c =
 pub returns-clause-new : goal.returns-clause-new
 returns-clause-new c =
     let bs = c.args.store.now.bases.present in
-    put_seen bs c.requires.shows c.args.big.now c.write-old.new.m c.requires.entries c.in_ok-old.ensures.formed c.in_ok-old.ensures.shares c.in_ok-old.ensures.base
+    put_seen bs c.requires.shows c.args.big.now c.write.new.m c.requires.entries c.in_ok-old.ensures.formed c.in_ok-old.ensures.shares c.in_ok-old.ensures.base
     (datum c.args.key) c.args.value c.requires.plain (c.is_barred.ensures c.if-is_barred.false) c.in_ok-old.ensures.new
