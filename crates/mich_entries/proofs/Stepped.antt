@@ -11,19 +11,33 @@ use Rattle.rules_instructions.specs.Straight as i
 use Rattle.rules_steps.specs.Changes.{burns}
 use Rattle.rules_steps.specs.Collections.{collection_step, map_with}
 use Rattle.rules_steps.specs.Costs.{collection_weight, weight_found}
-use Rattle.rules_steps.specs.Step.{done, kept, discarding, optional}
+use Rattle.rules_steps.specs.Step.{Step, done, kept, discarding, optional}
 use Rattle.mich_term.specs.declared.value.Value.{Value}
 use Rattle.laws_sights.specs.Sights.{is_plain, sight}
 use Rattle.mich_bigmap.specs.Bases.{Bases}
 use Rattle.mich_stack.proofs.Comparable.{comparable_seen}
 use Rattle.mich_term.specs.View.{datum}
-use Rattle.mich_term.specs.ValueView.{val}
+use Rattle.mich_term.specs.ValueView.{val, value_step}
 use Rattle.mich_term.specs.declared.datum.Datum.{Datum}
 use Rattle.mich_term.specs.declared.value.BigMap.{BigMap}
+use Rattle.mich_term.specs.declared.value.Value.{fold-roll-Value}
+use Rattle.mich_term.specs.declared.value.Value.TheOpen.{Value-F}
 use Rattle.mich_term.specs.declared.value.Value.TheVariants as v
+use Rattle.mich_term.specs.declared.value.Value.TheVariants.{rolls-Unit}
+use Rattle.mich_stack.specs.Views.{Sight, seen}
 use Rattle.mich_entries.proofs.Sighted.{big_seen}
 use Rattle.mich_entries.specs.Given.{IsExchange, entries_seen, seen_in}
 use Rattle.mich_entries.specs.Operands.{IsPlainOption, IsOptionOnTop, IsBigMapOnTop, IsBigMapThird}
+
+-- ---- what holds no ticket is handed out
+
+pub unit_tickets : (big : Sight) → tickets (seen big v.Unit) ≡ []
+unit_tickets big = ap (λ x. tickets (seen big x)) (sym rolls-Unit) ∙ ap tickets (fold-roll-Value Val Pairs value_step big Value-F.Unit)
+
+pub nothing_out : (bs : Bases) (s : Step) (V : List Val) → s ≡ kept V → s ≡ done V (burns (tickets (seen_in bs v.Unit)))
+nothing_out bs s V e = e ∙ ap (λ ts. done V (burns ts)) (sym (unit_tickets (sight bs)))
+
+-- ---- rows
 
 pub empty_is : (a b : Kind) (V new : List Val) (v : Val) → v ≡ big_table no_pair → new ≡ v ∷ V → collection_step (i.empty_big_map a b) V ≡ kept new
 empty_is a b V new v e f = ap (λ x. kept (x ∷ V)) (sym e) ∙ ap kept (sym f)

@@ -14,7 +14,7 @@ ghost use Rattle.mich_entries.specs.Given.{HandsOut, IsExchange, seen_in, values
 ghost use Rattle.mich_entries.specs.Operands.{IsBigMapSecond, IsBigMapThird, HasBigMap, HasKey};
 
 use crate::entries::{exchanged, found, is_there, no_entries};
-use crate::taking::{big_value, copied, take_big, take_option};
+use crate::taking::{big_value, copied, or_unit, take_big, take_option, truth_value};
 use mich_base::{Memory, Rows, Ty};
 use mich_bigmap::Store;
 use mich_overload::CollectionRow;
@@ -46,7 +46,7 @@ fn mem_big_map(alloc: Global, stack: &mut Rows<Value>, store: &Store) -> Result<
     let big = take_big(stack);
     let found = is_there(store, &big, &key);
     drop(key);
-    push(stack, Value::Bool(found))?;
+    push(stack, truth_value(found))?;
     let gone = big_value(alloc, big)?;
     Ok(gone)
 }
@@ -91,10 +91,8 @@ fn update_big_map(alloc: Global, stack: &mut Rows<Value>, store: &Store) -> Resu
     requires shows { (vs : List Value) → ShowsTickets (sight store.now.bases.present) vs }
     ensures { HandsOut store.now.bases.present i.update_big_map stack.old stack.new result }
 {
-    match exchange(alloc, stack, store)? {
-        Some(old) => Ok(old),
-        None => Ok(Value::Unit),
-    }
+    let old = exchange(alloc, stack, store)?;
+    Ok(or_unit(old))
 }
 
 fn get_and_update_big_map(
@@ -108,8 +106,8 @@ fn get_and_update_big_map(
     ensures { HandsOut store.now.bases.present i.get_and_update_big_map stack.old stack.new result }
 {
     let old = exchange(alloc, stack, store)?;
-    let old = optional_value(alloc, old)?;
-    push(stack, old)?;
+    let value = optional_value(alloc, old)?;
+    push(stack, value)?;
     Ok(Value::Unit)
 }
 
