@@ -11,12 +11,12 @@ use Rattle.rules_steps.specs.Failure as why
 use Rattle.rules_steps.specs.Packing.{Trial, packed, hash_step}
 use Rattle.rules_steps.specs.Step.{kept, fails}
 use Rattle.rules_values.specs.Literals.{byte_limit}
-use Rattle.rules_values.specs.Val.{Val, Pairs, bytes}
+use Rattle.rules_values.specs.Val.{Val, Pairs, text, bytes}
 use Rattle.mich_term.specs.ValueView.{val, value_step}
 use Rattle.mich_term.specs.declared.value.Value.{Value, fold-roll-Value}
 use Rattle.mich_term.specs.declared.value.Value.TheOpen.{Value-F}
 use Rattle.mich_term.specs.declared.value.Value.TheVariants as value
-use Rattle.mich_term.specs.declared.value.Value.TheVariants.{rolls-Bytes}
+use Rattle.mich_term.specs.declared.value.Value.TheVariants.{rolls-Bytes, rolls-Text}
 use Rattle.mich_stack.specs.Views.{Sight, seen}
 use Rattle.mich_hashes.specs.Operands.{HasOperand}
 
@@ -52,3 +52,10 @@ pack_weighs V v w W e f = ap (hash_weight i.pack) (e ∙ (λ j. f j ∷ W))
 
 pub bytes_seen : (big : Sight) (b : List ℕ) → seen big (value.Bytes b) ≡ bytes b
 bytes_seen big b = ap (seen big) (sym (rolls-Bytes b)) ∙ fold-roll-Value Val Pairs value_step big (Value-F.Bytes b)
+
+pub text_seen : (big : Sight) (b : List ℕ) → seen big (value.Text b) ≡ text b
+text_seen big b = ap (seen big) (sym (rolls-Text b)) ∙ fold-roll-Value Val Pairs value_step big (Value-F.Text b)
+
+-- what is so of a stack with this value on top
+pub with_top : (P : List Val → Type 0) (V : List Val) (v w : Val) (W : List Val) → V ≡ v ∷ W → v ≡ w → P (w ∷ W) → P V
+with_top P V v w W e f h = subst P (sym (e ∙ (λ j. f j ∷ W))) h

@@ -87,15 +87,15 @@ third w j o a b A (x ∷ []) same p h = absurd h.1
 third w j o a b A (x ∷ y ∷ V) same p h = (plain_option w o b y same p h.1.0, big_on_top w a b A V p h.1.1)
 
 big_map_by : (w : Known) (r : CollectionRow) (A : List Kind) (V : List Val) (c : Change) → AllTypes A → collection_change r A ≡ Some c → AllFit w A V → HasBigMap r V
-big_map_by w i.mem_big_map (j ∷ k.big_map a b ∷ A) V c ty e h = second w j a b A V ty.1.0.0.1.0 h
+big_map_by w i.mem_big_map (j ∷ k.big_map a b ∷ A) V c ty e h = second w j a b A V ty.1.0.0.1 h
 big_map_by w i.mem_big_map _ V c ty e h = absurd cc
-big_map_by w i.get_big_map (j ∷ k.big_map a b ∷ A) V c ty e h = second w j a b A V ty.1.0.0.1.0 h
+big_map_by w i.get_big_map (j ∷ k.big_map a b ∷ A) V c ty e h = second w j a b A V ty.1.0.0.1 h
 big_map_by w i.get_big_map _ V c ty e h = absurd cc
 big_map_by w i.update_big_map (j ∷ k.option o ∷ k.big_map a b ∷ A) V c ty e h =
-    third w j o a b A V (and_parts (same_kind j a) (same_kind o b) (where_holds (same_kind j a && same_kind o b) _ c e)).1 ty.1.1.0.0.1.0 h
+    third w j o a b A V (and_parts (same_kind j a) (same_kind o b) (where_holds (same_kind j a && same_kind o b) _ c e)).1 ty.1.1.0.0.1 h
 big_map_by w i.update_big_map _ V c ty e h = absurd cc
 big_map_by w i.get_and_update_big_map (j ∷ k.option o ∷ k.big_map a b ∷ A) V c ty e h =
-    third w j o a b A V (and_parts (same_kind j a) (same_kind o b) (where_holds (same_kind j a && same_kind o b) _ c e)).1 ty.1.1.0.0.1.0 h
+    third w j o a b A V (and_parts (same_kind j a) (same_kind o b) (where_holds (same_kind j a && same_kind o b) _ c e)).1 ty.1.1.0.0.1 h
 big_map_by w i.get_and_update_big_map _ V c ty e h = absurd cc
 big_map_by w (i.empty_set a) A V c ty e h = tt
 big_map_by w (i.empty_map a b) A V c ty e h = tt

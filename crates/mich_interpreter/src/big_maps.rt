@@ -21,14 +21,14 @@ use mich_entries::{big_map_step, big_map_weight};
 use mich_gas::Costs;
 use mich_overload::{CollectionRow, Simple, StackRow};
 use mich_prices::collection_price;
-use mich_stack::StepError;
 use mich_step::{Env, step};
 use mich_term::Value;
 use mich_tickets::Ledger;
 use mich_world::World;
 use std::alloc::Global;
 
-// Burns the tickets of a value, as DROP does.
+// Burns the tickets of a value, as DROP does, which doesn't fail.
+#[tactic(auto, using(mich_undo::proofs::Histories::keeps_same))]
 fn burn(alloc: Global, gone: Value, ledger: &mut Ledger, env: &Env) -> Result<(), Memory>
     requires { IsReady ledger.old.books.present (tickets (val gone)) }
     ensures tells { IfOk result (λ _. Tells (burns (tickets (val gone))) ledger.old ledger.new) }
@@ -38,8 +38,7 @@ fn burn(alloc: Global, gone: Value, ledger: &mut Ledger, env: &Env) -> Result<()
     stack.push(gone)?;
     match step(alloc, &Simple::Stack(StackRow::Drop(1)), &mut stack, ledger, env) {
         Ok(()) => Ok(()),
-        Err(StepError::Failed(_)) => unreachable!(),
-        Err(StepError::Memory) => Err(Memory),
+        Err(_) => Err(Memory),
     }
 }
 

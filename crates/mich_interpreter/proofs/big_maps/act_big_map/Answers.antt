@@ -34,7 +34,7 @@ pub big_map_weight-requires-clause-big_map : goal.big_map_weight-requires-clause
 big_map_weight-requires-clause-big_map c =
     let t = c.requires.comes in
     let r = collection_row c.args.row.now in
-    subst (λ (s : Sight). HasBigMap r (values s c.args.m.now.stack)) (store_sight c.args.world.now t.1.0 c.store.result.now t.1.6 c.store.ensures)
+    subst (λ (s : Sight). HasBigMap r (values s c.args.m.now.stack)) (store_sight c.args.world.now t.1.0 c.store-store.result.now t.1.6 c.store-store.ensures)
     (rows.has_big_map t.1.0 c.args.costs.now c.args.m.now r t.1.5)
 
 pub big_map_step-requires-clause-key : goal.big_map_step-requires-clause-key
@@ -45,18 +45,18 @@ pub big_map_step-requires-clause-big_map : goal.big_map_step-requires-clause-big
 big_map_step-requires-clause-big_map c =
     let t = c.requires.comes in
     let r = collection_row c.args.row.now in
-    subst (λ (s : Sight). HasBigMap r (values s c.args.m.now.stack)) (store_sight c.args.world.now t.1.0 c.store.result.now t.1.6 c.store.ensures)
+    subst (λ (s : Sight). HasBigMap r (values s c.args.m.now.stack)) (store_sight c.args.world.now t.1.0 c.store-store.result.now t.1.6 c.store-store.ensures)
     (rows.has_big_map t.1.0 c.args.costs.now c.args.m.now r t.1.5)
 
 pub big_map_step-requires-clause-shows : goal.big_map_step-requires-clause-shows
 big_map_step-requires-clause-shows c =
     let t = c.requires.comes in
-    subst (λ (s : Sight). (vs : List Value) → ShowsTickets s vs) (store_sight c.args.world.now t.1.0 c.store.result.now t.1.6 c.store.ensures) t.1.0.shows
+    subst (λ (s : Sight). (vs : List Value) → ShowsTickets s vs) (store_sight c.args.world.now t.1.0 c.store-store.result.now t.1.6 c.store-store.ensures) t.1.0.shows
 
 pub returns-then-not-pay_capped-clause-acts : goal.returns-then-not-pay_capped-clause-acts
 returns-then-not-pay_capped-clause-acts c = λ app x fs d Z o h sees.
     let r = collection_row c.args.row.now in
-    let e = store_sight c.args.world.now x c.store.result.now sees c.store.ensures in
+    let e = store_sight c.args.world.now x c.store-store.result.now sees c.store-store.ensures in
     let weighs = c.in_ok-weight.ensures ∙ ap (λ (s : Sight). capped (collection_weight r (values s c.args.m.now.stack))) (sym e) in
     row_broke (on_collections r) h (broke_is _ _ _ _ _ _ _ c.if-not-pay_capped.true c.collection_price.ensures (c.pay_capped.ensures (rows.heavy x c.args.costs.now c.args.m.now r h) weighs h.runs.charged))
 
@@ -67,14 +67,14 @@ pub burn-requires : goal.burn-requires
 burn-requires c =
     let t = c.requires.comes in
     let r = collection_row c.args.row.now in
-    let e = store_sight c.args.world.now t.1.0 c.store.result.now t.1.6 c.store.ensures in
+    let e = store_sight c.args.world.now t.1.0 c.store-store.result.now t.1.6 c.store-store.ensures in
     rows.gone_ready t.1.0 c.args.costs.now c.args.m.now r t.1.5 c.big_map_step-gone.new.stack c.in_ok-gone.gone
     (subst (λ (s : Sight). collection_step r (values s c.args.m.now.stack) ≡ done (values s c.big_map_step-gone.new.stack) (burns (tickets (seen s c.in_ok-gone.gone)))) (sym e) c.in_ok-gone.ensures)
 
 pub returns-clause-acts : goal.returns-clause-acts
 returns-clause-acts c = λ app x fs d Z o h sees.
     let r = collection_row c.args.row.now in
-    let e = store_sight c.args.world.now x c.store.result.now sees c.store.ensures in
+    let e = store_sight c.args.world.now x c.store-store.result.now sees c.store-store.ensures in
     let weighs = c.in_ok-weight.ensures ∙ ap (λ (s : Sight). capped (collection_weight r (values s c.args.m.now.stack))) (sym e) in
     let p = paid_is _ _ _ _ _ _ _ c.if-not-pay_capped.false c.collection_price.ensures (c.pay_capped.ensures (rows.heavy x c.args.costs.now c.args.m.now r h) weighs h.runs.charged) in
     rows.big_map_stands x c.args.costs.now c.args.m.now r h c.big_map_step-gone.new.stack c.in_ok-gone.gone
