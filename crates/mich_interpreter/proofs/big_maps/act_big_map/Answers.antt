@@ -68,8 +68,8 @@ burn-requires c =
     let t = c.requires.comes in
     let r = collection_row c.args.row.now in
     let e = store_sight c.args.world.now t.1.0 c.store-store.result.now t.1.6 c.store-store.ensures in
-    rows.gone_ready t.1.0 c.args.costs.now c.args.m.now r t.1.5 c.big_map_step-gone.new.stack c.in_ok-gone.gone
-    (subst (λ (s : Sight). collection_step r (values s c.args.m.now.stack) ≡ done (values s c.big_map_step-gone.new.stack) (burns (tickets (seen s c.in_ok-gone.gone)))) (sym e) c.in_ok-gone.ensures)
+    rows.gone_ready t.1.0 c.args.costs.now c.args.m.now r t.1.5 c.big_map_step.new.stack c.in_ok-gone.gone
+    (subst (λ (s : Sight). collection_step r (values s c.args.m.now.stack) ≡ done (values s c.big_map_step.new.stack) (burns (tickets (seen s c.in_ok-gone.gone)))) (sym e) c.in_ok-gone.ensures)
 
 pub returns-clause-acts : goal.returns-clause-acts
 returns-clause-acts c = λ app x fs d Z o h sees.
@@ -77,8 +77,8 @@ returns-clause-acts c = λ app x fs d Z o h sees.
     let e = store_sight c.args.world.now x c.store-store.result.now sees c.store-store.ensures in
     let weighs = c.in_ok-weight.ensures ∙ ap (λ (s : Sight). capped (collection_weight r (values s c.args.m.now.stack))) (sym e) in
     let p = paid_is _ _ _ _ _ _ _ c.if-not-pay_capped.false c.collection_price.ensures (c.pay_capped.ensures (rows.heavy x c.args.costs.now c.args.m.now r h) weighs h.runs.charged) in
-    rows.big_map_stands x c.args.costs.now c.args.m.now r h c.big_map_step-gone.new.stack c.in_ok-gone.gone
-    (subst (λ (s : Sight). collection_step r (values s c.args.m.now.stack) ≡ done (values s c.big_map_step-gone.new.stack) (burns (tickets (seen s c.in_ok-gone.gone)))) (sym e) c.in_ok-gone.ensures)
+    rows.big_map_stands x c.args.costs.now c.args.m.now r h c.big_map_step.new.stack c.in_ok-gone.gone
+    (subst (λ (s : Sight). collection_step r (values s c.args.m.now.stack) ≡ done (values s c.big_map_step.new.stack) (burns (tickets (seen s c.in_ok-gone.gone)))) (sym e) c.in_ok-gone.ensures)
     p.0 c.pay_capped.new.meter c.burn.new.ledger c.in_ok-burn.ensures.tells p.1
 
 pub returns-clause-keeps : goal.returns-clause-keeps
