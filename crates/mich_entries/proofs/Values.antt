@@ -123,7 +123,6 @@ mutual
 
 -- ---- changes by increasing keys
 
-
 at_head : (c : Datum × Option Value) (cs : Changes) → found c.0 (c ∷ cs) ≡ Some c.1
 at_head c cs = lookup_head (is_at (by c.0)) c cs (ap is_eq (tied_itself by_lawful c.0))
 

@@ -66,11 +66,7 @@ fn get_big_map(alloc: Global, stack: &mut Rows<Value>, store: &Store) -> Result<
 }
 
 // Puts a value at a key of the big map, or takes the entry there away, and gives the value that was there.
-fn exchange(
-    alloc: Global,
-    stack: &mut Rows<Value>,
-    store: &Store,
-) -> Result<Option<Value>, Memory>
+fn exchange(alloc: Global, stack: &mut Rows<Value>, store: &Store) -> Result<Option<Value>, Memory>
     requires key { IsKeyOnTop (plain stack.old) }
     requires big_map { IsBigMapThird (values_in store.now.bases.present stack.old) }
     requires shows { (vs : List Value) → ShowsTickets (sight store.now.bases.present) vs }

@@ -36,7 +36,13 @@ fn burn(alloc: Global, gone: Value, ledger: &mut Ledger, env: &Env) -> Result<()
 {
     let mut stack = Rows::new(alloc);
     stack.push(gone)?;
-    match step(alloc, &Simple::Stack(StackRow::Drop(1)), &mut stack, ledger, env) {
+    match step(
+        alloc,
+        &Simple::Stack(StackRow::Drop(1)),
+        &mut stack,
+        ledger,
+        env,
+    ) {
         Ok(()) => Ok(()),
         Err(_) => Err(Memory),
     }
