@@ -23,3 +23,6 @@ pub mod Suited
 pub mod Straightened
 pub mod Changed
 pub mod Failing
+pub mod Called
+pub mod Captured
+pub mod Founded

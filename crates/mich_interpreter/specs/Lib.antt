@@ -6,3 +6,4 @@ pub mod View
 pub mod Ends
 pub mod Runs
 pub mod Begins
+pub mod Calls

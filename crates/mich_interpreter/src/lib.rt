@@ -2,11 +2,13 @@
 #![tactic(auto)]
 
 mod act;
+mod applying;
 mod beginning;
 mod bodies;
 mod branches;
 mod calls;
 mod contracts;
+mod creating;
 mod dipping;
 mod frame;
 mod giving;
@@ -28,3 +30,6 @@ pub use bodies::Bodies;
 pub use contracts::new_contract;
 pub use machine::Ended;
 pub use state::{Counts, State};
+
+#[cfg(test)]
+mod tests;
