@@ -13,7 +13,7 @@ use Rattle.rules_evaluation.specs.Operations.{Tally, new_contract}
 use Rattle.rules_evaluation.specs.Outcome.{Outcome, failed}
 use Rattle.mich_instr.specs.Code.{Code, ScriptCode}
 use Rattle.mich_instr.specs.Code as made
-use Rattle.mich_instr.specs.Typed.{IsCode, IsScript, is_create}
+use Rattle.mich_instr.specs.Typed.{IsScript, is_create}
 use Rattle.mich_instr.specs.View.{node_of}
 use Rattle.mich_frames.specs.Around.{Around, less, Pays, Lacks}
 use Rattle.mich_frames.specs.Frames.{Frame}
@@ -50,10 +50,10 @@ storage_third (Some b) _ [] h = absurd h
 module _ {fs : List Frame} {u : Around} {m : Tally} {d : ℕ} {Z : List Kind} {o : Outcome} where
   -- its script is typed
   pub create_typed : (s : ScriptCode) {V : List Val} → MeetsAt (made.create_contract s) fs u V m d Z o → IsScript (node_of s) s
-  create_typed s {V = V} h = by s h.fine
+  create_typed s {V = V} h = meets_by h (by s)
     where
-      by : (s : ScriptCode) → IsCode h.context h.node (made.create_contract s) h.types h.next → IsScript (node_of s) s
-      by _ (is_create form goes_is fine) = fine
+      by : (s : ScriptCode) → Case (made.create_contract s) fs u V m d Z o (IsScript (node_of s) s)
+      by _ ps c _ _ _ (is_create form goes_is fine) rests depth same = fine
 
   pub create_any_top : (s : ScriptCode) {V : List Val} → MeetsAt (made.create_contract s) fs u V m d Z o → HasOrigination V
   create_any_top (made.script t a es b is vs) h = create_top t h

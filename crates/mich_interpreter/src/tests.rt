@@ -1,10 +1,11 @@
 // Runs of whole code, with ample memory.
 use crate::{Counts, Ended, Failed, State, run_code};
-use mich_base::{App, Memory, Node, Rows, Shared, Text, Ty};
+use mich_base::{App, Link, Memory, Node, Rows, Shared, Text, Ty};
+use mich_check::check_script;
 use mich_forms::{ChainId, KeyHash, Place};
 use mich_gas::{Costs, Meter};
 use mich_instr::{Block, Instr};
-use mich_overload::{LogicRow, NumberRow, PairRow, Simple, StackRow};
+use mich_overload::{LogicRow, NumberRow, Simple, StackRow, UnionRow};
 use mich_step::Env;
 use mich_term::Value;
 use mich_tickets::Ledger;
@@ -179,16 +180,26 @@ fn sequence<const N: usize>(alloc: Global, nodes: [Node; N]) -> Result<Node, Mem
     Ok(Node::Seq(rows))
 }
 
-// LAMBDA int int, or LAMBDA_REC int int, of a body
-fn lambda(alloc: Global, recursive: bool, body: Node) -> Result<Instr, Memory> {
-    let mut written = Rows::new(alloc);
-    written.push(bare(alloc, b"int")?)?;
-    written.push(bare(alloc, b"int")?)?;
+fn over_seq<const N: usize>(
+    alloc: Global,
+    name: &[u8],
+    nodes: [Node; N],
+) -> Result<Node, Memory> {
+    over_one(alloc, name, sequence(alloc, nodes)?)
+}
+
+fn pair(alloc: Global) -> Result<Ty, Memory> {
+    let first = Link::new(alloc, Ty::Int)?;
+    Ok(Ty::Pair(first, Link::new(alloc, Ty::Int)?))
+}
+
+// LAMBDA arg int, or LAMBDA_REC arg int, of a body
+fn lambda(alloc: Global, recursive: bool, arg: Ty, body: Node) -> Result<Instr, Memory> {
     Ok(Instr::Lambda {
         recursive,
-        arg: Ty::Int,
+        arg,
         ret: Ty::Int,
-        written,
+        written: Rows::new(alloc),
         body: Shared::new(alloc, body)?,
         code: Shared::new(alloc, Rows::new(alloc))?,
     })
@@ -205,29 +216,140 @@ fn exec() -> Instr {
     }
 }
 
+fn apply() -> Instr {
+    Instr::Apply {
+        captured: Ty::Int,
+        rest: Ty::Int,
+        ret: Ty::Int,
+    }
+}
+
 // { LAMBDA int int { PUSH int 1 ; ADD } ; PUSH int 41 ; EXEC }
 fn plain_call(alloc: Global) -> Result<Block, Memory> {
     let body = sequence(alloc, [push_int(alloc, 1)?, bare(alloc, b"ADD")?])?;
     block(
         alloc,
-        [lambda(alloc, false, body)?, push(alloc, 41)?, exec()],
+        [
+            lambda(alloc, false, Ty::Int, body)?,
+            push(alloc, 41)?,
+            exec(),
+        ],
+    )
+}
+
+// { LAMBDA_REC int int { PUSH int -1 ; ADD ; DUP ; GT ; IF { EXEC } { DIP { DROP } } } ; PUSH int 3 ; EXEC }
+fn recursive_call(alloc: Global) -> Result<Block, Memory> {
+    let again = sequence(alloc, [bare(alloc, b"EXEC")?])?;
+    let last = sequence(
+        alloc,
+        [over_seq(alloc, b"DIP", [bare(alloc, b"DROP")?])?],
+    )?;
+    let body = sequence(
+        alloc,
+        [
+            push_int(alloc, -1)?,
+            bare(alloc, b"ADD")?,
+            bare(alloc, b"DUP")?,
+            bare(alloc, b"GT")?,
+            over_two(alloc, b"IF", again, last)?,
+        ],
+    )?;
+    block(
+        alloc,
+        [lambda(alloc, true, Ty::Int, body)?, push(alloc, 3)?, exec()],
+    )
+}
+
+// { LAMBDA (pair int int) int { UNPAIR ; SUB } ; PUSH int 2 ; APPLY ; PUSH int 40 ; EXEC }
+fn applied_call(alloc: Global) -> Result<Block, Memory> {
+    let body = sequence(alloc, [bare(alloc, b"UNPAIR")?, bare(alloc, b"SUB")?])?;
+    block(
+        alloc,
+        [
+            lambda(alloc, false, pair(alloc)?, body)?,
+            push(alloc, 2)?,
+            apply(),
+            push(alloc, 40)?,
+            exec(),
+        ],
+    )
+}
+
+// The same of LAMBDA_REC (pair int int) int { DIP { DROP } ; UNPAIR ; SUB }
+fn applied_recursive(alloc: Global) -> Result<Block, Memory> {
+    let body = sequence(
+        alloc,
+        [
+            over_seq(alloc, b"DIP", [bare(alloc, b"DROP")?])?,
+            bare(alloc, b"UNPAIR")?,
+            bare(alloc, b"SUB")?,
+        ],
+    )?;
+    block(
+        alloc,
+        [
+            lambda(alloc, true, pair(alloc)?, body)?,
+            push(alloc, 2)?,
+            apply(),
+            push(alloc, 40)?,
+            exec(),
+        ],
+    )
+}
+
+// { PUSH int 7 ; PUSH mutez 2 ; NONE key_hash ; CREATE_CONTRACT { parameter unit ; storage int ; code { CDR ; NIL operation ; PAIR } } }
+fn creating(alloc: Global) -> Result<Block, Memory> {
+    let code = [
+        bare(alloc, b"CDR")?,
+        over_one(alloc, b"NIL", bare(alloc, b"operation")?)?,
+        bare(alloc, b"PAIR")?,
+    ];
+    let node = sequence(
+        alloc,
+        [
+            over_one(alloc, b"parameter", bare(alloc, b"unit")?)?,
+            over_one(alloc, b"storage", bare(alloc, b"int")?)?,
+            over_seq(alloc, b"code", code)?,
+        ],
+    )?;
+    let script = match check_script(alloc, &node) {
+        Ok(script) => script,
+        Err(_) => return Err(Memory),
+    };
+    let amount = Instr::Push {
+        ty: Ty::Mutez,
+        written: Node::Prim(named(alloc, "mutez")?),
+        literal: Node::Int(2),
+    };
+    let none = Simple::Unions(UnionRow::None(Ty::KeyHash));
+    block(
+        alloc,
+        [
+            push(alloc, 7)?,
+            amount,
+            Instr::Straight(none, named(alloc, "NONE")?),
+            Instr::CreateContract(Shared::new(alloc, script)?),
+        ],
     )
 }
 
 #[test]
-fn a_lambda_is_called(rt: HostRuntime) -> Result<(), Fail> {
+fn lambdas_are_called(rt: HostRuntime) -> Result<(), Fail> {
     let alloc = rt.alloc();
-    let mut gas = 0;
-    for most in 0..100 {
-        let ended = run(alloc, plain_call(alloc)?, most)?;
-        if let Ended::Stack(left) = ended {
-            gas = most;
-            assert!(rt; matches!(left.stack.as_slice(), [Value::Number(42)]));
-            break;
+    for which in 0..5u32 {
+        for most in 0..100u64 {
+            let code = match which {
+                0 => plain_call(alloc)?,
+                1 => recursive_call(alloc)?,
+                2 => applied_call(alloc)?,
+                3 => applied_recursive(alloc)?,
+                _ => creating(alloc)?,
+            };
+            if let Ended::Stack(left) = run(alloc, code, most)? {
+                println!(rt; "{which} {most} {left:?}")?;
+                break;
+            }
         }
     }
-    println!(rt; "plain {gas}")?;
-    let ended = run(alloc, plain_call(alloc)?, gas - 1)?;
-    assert!(rt; matches!(ended, Ended::Failed(_, Failed::OutOfGas)));
     Ok(())
 }
