@@ -1,6 +1,8 @@
 // APPLY.
-ghost use Rattle.std.specs.Prelude.{◌≡◌, true, false, IfOk};
-ghost use Rattle.rules_types.specs.Kind.{Kind as TypeKind, pair};
+ghost use Rattle.std.specs.Prelude.{◌≡◌, ◌∷◌, [], true, codes, IfOk};
+ghost use Rattle.rules_base.specs.Tree.{none, seq, trees_of};
+ghost use Rattle.rules_types.specs.Kind.{pair};
+ghost use Rattle.rules_types.specs.Printing.{named};
 ghost use Rattle.rules_evaluation.specs.Calls.{applied, push_node, rec_node};
 ghost use Rattle.mich_base.specs.TypeView.{kind};
 ghost use Rattle.mich_base.specs.View.{tree};
@@ -55,7 +57,7 @@ fn rec_node(
 
 // The body that takes the other part alone: it pushes the value, pairs the two and goes on with the old body.
 fn plain_node(alloc: Global, captured: &Ty, value: &Value, body: &Node) -> Result<Node, Memory>
-    ensures { IfOk result (λ n. (b r : TypeKind) → tree n ≡ applied (kind captured.now) b r (val value.now) (tree body.now) false) }
+    ensures { IfOk result (λ n. tree n ≡ seq (trees_of (push_node (kind captured.now) (val value.now) ∷ named (codes "PAIR") none ∷ tree body.now ∷ []))) }
 {
     let mut nodes = Rows::new(alloc);
     nodes.push(push_node(alloc, captured, value)?)?;
@@ -130,7 +132,7 @@ pub(crate) fn act_apply(
     if !depth_within(&made, MOST_LEVELS) {
         return Ok(Act::Failed(Failed::DepthLimit));
     }
-    let made = Shared::new(alloc, made)?;
-    push(&mut m.stack, Value::Lambda(made, false))?;
+    let shared = Shared::new(alloc, made)?;
+    push(&mut m.stack, Value::Lambda(shared, false))?;
     Ok(Act::On)
 }

@@ -106,7 +106,8 @@ pub(crate) fn act_create(
         storage,
         hash,
     })?;
-    push(&mut m.stack, contract_value(alloc, hash)?)?;
+    let address = contract_value(alloc, hash)?;
+    push(&mut m.stack, address)?;
     push(&mut m.stack, Value::Operation(number))?;
     Ok(Act::On)
 }

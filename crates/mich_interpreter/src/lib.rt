@@ -30,6 +30,3 @@ pub use bodies::Bodies;
 pub use contracts::new_contract;
 pub use machine::Ended;
 pub use state::{Counts, State};
-
-#[cfg(test)]
-mod tests;

@@ -20,8 +20,8 @@ returns-then-not-pay-clause-acts c = λ x fs d Z o h.
 pub pop-argument-requires : goal.pop-argument-requires
 pop-argument-requires c = (c.requires.0.sight, call_top _ (exec_top c.requires.5))
 
-pub pop_lambda-requires : goal.pop_lambda-requires
-pop_lambda-requires c =
+pub pop_lambda-body-requires : goal.pop_lambda-body-requires
+pop_lambda-body-requires c =
     let x = c.requires.0 in
     (x.sight, call_below (seen x.sight c.pop-argument.result) _ (rw (c.pop-argument.ensures x.sight) at (exec_top c.requires.5)))
 
@@ -29,9 +29,9 @@ pub body_code-requires : goal.body_code-requires
 body_code-requires c =
     let x = c.requires.0 in
     let y = seen x.sight c.pop-argument.result in
-    let r = c.pop_lambda.result in
-    let W = tops x.sight c.pop_lambda.new.stack in
-    let meets = rw (c.pop-argument.ensures x.sight, c.pop_lambda.ensures x.sight) at c.requires.5 in
+    let r = c.pop_lambda-body.result in
+    let W = tops x.sight c.pop_lambda-body.new.stack in
+    let meets = rw (c.pop-argument.ensures x.sight, c.pop_lambda-body.ensures x.sight) at c.requires.5 in
     record {
       sequence = rw c.get.ensures (call_seq y (tree r.0) r.1 W (exec_top meets));
       fits = rw c.get.ensures (exec_fits y (tree r.0) r.1 W meets);
@@ -41,11 +41,11 @@ body_code-requires c =
 pub returns-clause-acts : goal.returns-clause-acts
 returns-clause-acts c = λ x fs d Z o h.
     let p = rw c.if-not-pay.false at c.pay.ensures in
-    let r = c.pop_lambda.result in
-    let meets = rw (c.pop-argument.ensures x.sight, c.pop_lambda.ensures x.sight) at h in
+    let r = c.pop_lambda-body.result in
+    let meets = rw (c.pop-argument.ensures x.sight, c.pop_lambda-body.ensures x.sight) at h in
     let fine = rw c.get.ensures at c.in_ok-code.ensures in
     rw (c.in_ok-stack.ensures x.sight)
-    (opens_paid g.Exec 0 _ c.pay.new.meter p.1 (exec_any_opens (seen x.sight c.pop-argument.result) (tree r.0) r.1 (tops x.sight c.pop_lambda.new.stack) p.0 fine meets))
+    (opens_paid g.Exec 0 _ c.pay.new.meter p.1 (exec_any_opens (seen x.sight c.pop-argument.result) (tree r.0) r.1 (tops x.sight c.pop_lambda-body.new.stack) p.0 fine meets))
 
 pub returns-clause-less : goal.returns-clause-less
 returns-clause-less c =
