@@ -60,7 +60,7 @@ pub enum Ended {
 }
 
 // An instruction, which isn't a sequence.
-#[tactic(auto, using(crate::proofs::Keeping::acts_same, crate::proofs::Keeping::same_keeps))]
+#[tactic(auto, using(crate::proofs::Keeping::acts_same, crate::proofs::Keeping::acts_group, crate::proofs::Keeping::same_keeps))]
 fn perform(alloc: Global, m: &mut State, costs: &Costs, instr: &Instr) -> Result<Act, Memory>
     requires charged { IsNoSequence instr.now }
     requires comes { Comes (code instr.now) costs.now m.old }
