@@ -37,13 +37,7 @@ fn push_node(alloc: Global, ty: &Ty, value: &Value) -> Result<Node, Memory>
 }
 
 // LAMBDA_REC from a pair of types.
-fn rec_node(
-    alloc: Global,
-    first: &Ty,
-    second: &Ty,
-    ret: &Ty,
-    body: &Node,
-) -> Result<Node, Memory>
+fn rec_node(alloc: Global, first: &Ty, second: &Ty, ret: &Ty, body: &Node) -> Result<Node, Memory>
     ensures { IfOk result (λ n. tree n ≡ rec_node (pair (kind first.now) (kind second.now)) (kind ret.now) (tree body.now)) }
 {
     let part = type_node(alloc, first)?;
