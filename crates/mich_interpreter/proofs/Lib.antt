@@ -28,3 +28,6 @@ pub mod Hashed
 pub mod Plain
 pub mod BigMapRows
 pub mod Dropped
+pub mod Called
+pub mod Captured
+pub mod Founded

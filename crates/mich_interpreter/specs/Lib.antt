@@ -7,3 +7,4 @@ pub mod Sees
 pub mod Ends
 pub mod Runs
 pub mod Begins
+pub mod Calls

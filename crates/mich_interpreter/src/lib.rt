@@ -2,12 +2,14 @@
 #![tactic(auto)]
 
 mod act;
+mod applying;
 mod beginning;
 mod big_maps;
 mod bodies;
 mod branches;
 mod calls;
 mod contracts;
+mod creating;
 mod dipping;
 mod frame;
 mod giving;
