@@ -19,7 +19,7 @@ use Rattle.mich_term.specs.declared.value.Value.TheVariants as value
 use Rattle.mich_stack.specs.Views.{Sight, seen}
 use Rattle.mich_frames.specs.Around.{less}
 use Rattle.mich_frames.specs.Frames.{Frame}
-use Rattle.mich_frames.specs.Shapes.{HasTop, HasTransfer}
+use Rattle.mich_frames.specs.Shapes.{HasTop, HasBytes, HasTransfer}
 use Rattle.mich_frames.specs.Stands.{StandsAt}
 use Rattle.mich_interpreter.specs.Issues.{issued_by}
 use Rattle.mich_interpreter.specs.Parts.{HasAmount, HasAddress}
@@ -76,3 +76,8 @@ seen_operation big n = search (rules, values.the_lemmas)
 pub over_limit : (o : Option ℕ) (old new : ℕ) → ((n : ℕ) → o ≡ Some n → ⊥) → MatchOption o (operation_limit ≤ old) (λ n. (n ≡ old) × (n < operation_limit) × (new ≡ n + 1)) → operation_limit ≤ old
 over_limit None old new absent h = h
 over_limit (Some n) old new absent h = absurd (absent n refl)
+
+-- what is on top where an address is
+pub address_first : (V : List Val) → HasBytes V → HasAddress V
+address_first (bytes b ∷ V) h = tt
+address_first _ h = absurd h

@@ -17,6 +17,7 @@ mod hashing;
 mod issuing;
 mod items;
 mod iterating;
+mod lookups;
 mod loops;
 mod machine;
 mod made;
