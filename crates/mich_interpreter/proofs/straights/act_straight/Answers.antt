@@ -48,7 +48,7 @@ pub returns-then-in_step-clause-acts : goal.returns-then-in_step-clause-acts
 returns-then-in_step-clause-acts c = λ app x fs d Z o h w. c.in_ok-act.ensures.acts app x fs d Z o h
 
 pub act_big_map-requires-clause-on_big_map : goal.act_big_map-requires-clause-on_big_map
-act_big_map-requires-clause-on_big_map c = on_big_map c.args.instr.now c.in-Collections.row.now c.in-Collections.is (sym c.in_step.ensures ∙ c.if-in_step.false)
+act_big_map-requires-clause-on_big_map c = on_big_map c.args.instr.now c.in-Collections.row c.in-Collections.is (sym c.in_step.ensures ∙ c.if-in_step.false)
 
 pub act_big_map-requires-clause-comes : goal.act_big_map-requires-clause-comes
 act_big_map-requires-clause-comes c =
