@@ -11,7 +11,6 @@ use Rattle.mich_world.specs.Marks.{KeepsWorld}
 use Rattle.mich_world.specs.World.{World, with_ledger}
 use Rattle.mich_machine.specs.Endings.{IsEnding}
 use Rattle.mich_machine.proofs.Begun.{Asked, called_there, entry_some, sees_so, x, Z, o, begun, ending_so, state_is, opens_at, as_said, kept_as_said, with_memory, finished_so, fails_as}
-use Rattle.mich_machine.proofs.running.run.Goals.{in-Stack, in-Failed+in_ok-tell-in-Failed}
 use Rattle.mich_machine.proofs.running.run.Goals as goal
 
 pub unreachable-requires : goal.unreachable-requires
@@ -117,8 +116,8 @@ finish-requires c =
     let world : c.put_ledger.new.world ≡ with_ledger q.v left.ledger = c.put_ledger.ensures ∙ ap (λ (w : World). with_ledger w left.ledger) c.in_ok-begun.ensures.world in
     subst (λ (w : World). IsEnding w q.to left.stack left.issued) (sym world) (ending_so q k there value seen_so gas left keeps ends)
 
-pub returns-clause-ends : goal.returns-clause-ends
-returns-clause-ends c = λ w t h.
+pub returns-in-Stack-clause-ends : goal.returns-in-Stack-clause-ends
+returns-in-Stack-clause-ends c = λ w t h.
     let q : Asked = record {
       v = c.args.world.now;
       w = w;
@@ -144,24 +143,46 @@ returns-clause-ends c = λ w t h.
     let ends = c.in_ok-left.ensures.ends (x q k there) (Z q k there value seen_so gas) (o q k there value seen_so gas)
     (opens_at q k there value seen_so gas c.in_ok-code.code c.in_ok-begun.begun c.in_ok-code.ensures.code same)
     (sees_so q k there c.state.new.world (fresh no_books) c.in_ok-begun.ensures.world) in
-    elim c.match-branch-4.branch [
-      | in-Stack d ↦
-          let left = d.in-Stack.left in
-          let keeps : KeepsState (begun q k there value seen_so gas) left =
-          subst (λ (s : State). KeepsState s left) same (subst (λ (e : Ended). KeepsEnd e c.in_ok-begun.begun) d.in-Stack.is c.in_ok-left.ensures.keeps) in
-          let end = subst (λ (e : Ended). IsEnd e (x q k there) (Z q k there value seen_so gas) (o q k there value seen_so gas)) d.in-Stack.is ends in
-          let world : d.put_ledger.new.world ≡ with_ledger q.v left.ledger =
-          d.put_ledger.ensures ∙ ap (λ (v : World). with_ledger v left.ledger) c.in_ok-begun.ensures.world in
-          as_said _ _ _ _ _ _ _ _ _ _ d.world-is d.meter-is d.counts-is d.result-is
-          (finished_so q k there value seen_so gas left keeps end d.put_ledger.new.world world d.finish.new.world d.finish.result d.finish.ensures.ends)
-      | in-Failed+in_ok-tell-in-Failed d ↦
-          let end = subst (λ (e : Ended). IsEnd e (x q k there) (Z q k there value seen_so gas) (o q k there value seen_so gas)) d.in-Failed.is ends in
-          as_said _ _ _ _ _ _ _ _ _ _ d.world-is d.meter-is d.counts-is d.result-is
-          (fails_as q k there value seen_so gas _ _ _ d.in-Failed.left d.in-Failed.why d.in_ok-tell-in-Failed.field-0 end d.in_ok-tell-in-Failed.ensures)
-    ]
+    let left = c.in-Stack.left in
+    let keeps : KeepsState (begun q k there value seen_so gas) left =
+    subst (λ (s : State). KeepsState s left) same (subst (λ (e : Ended). KeepsEnd e c.in_ok-begun.begun) c.in-Stack.is c.in_ok-left.ensures.keeps) in
+    let end = subst (λ (e : Ended). IsEnd e (x q k there) (Z q k there value seen_so gas) (o q k there value seen_so gas)) c.in-Stack.is ends in
+    let world : c.put_ledger.new.world ≡ with_ledger q.v left.ledger =
+    c.put_ledger.ensures ∙ ap (λ (v : World). with_ledger v left.ledger) c.in_ok-begun.ensures.world in
+    finished_so q k there value seen_so gas left keeps end c.put_ledger.new.world world c.finish.new.world c.finish.result c.finish.ensures.ends
 
-pub returns-clause-keeps : goal.returns-clause-keeps
-returns-clause-keeps c =
+pub returns-in_ok-tell-in-Failed-clause-ends : goal.returns-in_ok-tell-in-Failed-clause-ends
+returns-in_ok-tell-in-Failed-clause-ends c = λ w t h.
+    let q : Asked = record {
+      v = c.args.world.now;
+      w = w;
+      costs = c.args.costs.now;
+      counts = c.args.counts.now;
+      to = c.args.to.now;
+      name = c.args.name.now;
+      argument = c.args.argument;
+      env = c.args.env.now;
+      t = t;
+      h = c.requires.hosting;
+      formed = c.requires.formed;
+      based = c.requires.based;
+      c = h;
+    } in
+    let k = c.in-Some.contract.now in
+    let there : contract_at q.v.funds.present q.to ≡ Some k = sym c.in-Some.ensures in
+    let value = c.in_ok-code.value in
+    let seen_so = c.in_ok-code.ensures.value in
+    let gas = c.args.meter.now in
+    let b = c.in_ok-begun.ensures in
+    let same = state_is q k there value seen_so gas c.in_ok-begun.begun b.stack b.meter b.counts b.env b.ledger b.issued in
+    let ends = c.in_ok-left.ensures.ends (x q k there) (Z q k there value seen_so gas) (o q k there value seen_so gas)
+    (opens_at q k there value seen_so gas c.in_ok-code.code c.in_ok-begun.begun c.in_ok-code.ensures.code same)
+    (sees_so q k there c.state.new.world (fresh no_books) c.in_ok-begun.ensures.world) in
+    let end = subst (λ (e : Ended). IsEnd e (x q k there) (Z q k there value seen_so gas) (o q k there value seen_so gas)) c.in-Failed.is ends in
+    fails_as q k there value seen_so gas _ _ _ c.in-Failed.left c.in-Failed.why c.in_ok-tell-in-Failed.field-0 end c.in_ok-tell-in-Failed.ensures
+
+pub returns-in-Stack-clause-keeps : goal.returns-in-Stack-clause-keeps
+returns-in-Stack-clause-keeps c =
     let q : Asked = record {
       v = c.args.world.now;
       w = c.requires.called.0;
@@ -188,14 +209,37 @@ returns-clause-keeps c =
     let books : KeepsBooks (begun q k there value seen_so gas).ledger.books left.ledger.books = subst (λ (m : State). KeepsBooks m.ledger.books left.ledger.books) same s in
     let world : v ≡ with_ledger q.v left.ledger = e ∙ ap (λ (u : World). with_ledger u left.ledger) c.in_ok-begun.ensures.world in
     subst (λ (z : World). KeepsWorld q.v z) (sym world) (ledger_lent q.v q.v.ledger left.ledger refl books) in
-    elim c.match-branch-4.branch [
-      | in-Stack d ↦
-          let first = lent d.in-Stack.left d.put_ledger.new.world d.put_ledger.ensures
-          (let end : KeepsState c.in_ok-begun.begun d.in-Stack.left = subst (λ (e : Ended). KeepsEnd e c.in_ok-begun.begun) d.in-Stack.is c.in_ok-left.ensures.keeps in end.books) in
-          kept_as_said _ _ _ _ _ d.world-is d.result-is
-          (with_memory d.finish.result (λ later. world_trans _ _ _ first later) d.finish.ensures.keeps)
-      | in-Failed+in_ok-tell-in-Failed d ↦
-          kept_as_said _ _ _ _ _ d.world-is d.result-is
-          (lent d.in-Failed.left d.put_ledger-in-Failed.new.world d.put_ledger-in-Failed.ensures
-          (let end : KeepsPast c.in_ok-begun.begun d.in-Failed.left = subst (λ (e : Ended). KeepsEnd e c.in_ok-begun.begun) d.in-Failed.is c.in_ok-left.ensures.keeps in end.books))
-    ]
+    let first = lent c.in-Stack.left c.put_ledger.new.world c.put_ledger.ensures
+    (let end : KeepsState c.in_ok-begun.begun c.in-Stack.left = subst (λ (e : Ended). KeepsEnd e c.in_ok-begun.begun) c.in-Stack.is c.in_ok-left.ensures.keeps in end.books) in
+    with_memory c.finish.result (λ later. world_trans _ _ _ first later) c.finish.ensures.keeps
+
+pub returns-in_ok-tell-in-Failed-clause-keeps : goal.returns-in_ok-tell-in-Failed-clause-keeps
+returns-in_ok-tell-in-Failed-clause-keeps c =
+    let q : Asked = record {
+      v = c.args.world.now;
+      w = c.requires.called.0;
+      costs = c.args.costs.now;
+      counts = c.args.counts.now;
+      to = c.args.to.now;
+      name = c.args.name.now;
+      argument = c.args.argument;
+      env = c.args.env.now;
+      t = c.requires.called.1;
+      h = c.requires.hosting;
+      formed = c.requires.formed;
+      based = c.requires.based;
+      c = c.requires.called.2;
+    } in
+    let k = c.in-Some.contract.now in
+    let there : contract_at q.v.funds.present q.to ≡ Some k = sym c.in-Some.ensures in
+    let value = c.in_ok-code.value in
+    let seen_so = c.in_ok-code.ensures.value in
+    let gas = c.args.meter.now in
+    let b = c.in_ok-begun.ensures in
+    let same = state_is q k there value seen_so gas c.in_ok-begun.begun b.stack b.meter b.counts b.env b.ledger b.issued in
+    let lent : (left : State) (v : World) → v ≡ with_ledger c.state.new.world left.ledger → KeepsBooks c.in_ok-begun.begun.ledger.books left.ledger.books → KeepsWorld q.v v = λ left v e s.
+    let books : KeepsBooks (begun q k there value seen_so gas).ledger.books left.ledger.books = subst (λ (m : State). KeepsBooks m.ledger.books left.ledger.books) same s in
+    let world : v ≡ with_ledger q.v left.ledger = e ∙ ap (λ (u : World). with_ledger u left.ledger) c.in_ok-begun.ensures.world in
+    subst (λ (z : World). KeepsWorld q.v z) (sym world) (ledger_lent q.v q.v.ledger left.ledger refl books) in
+    lent c.in-Failed.left c.put_ledger-in-Failed.new.world c.put_ledger-in-Failed.ensures
+    (let end : KeepsPast c.in_ok-begun.begun c.in-Failed.left = subst (λ (e : Ended). KeepsEnd e c.in_ok-begun.begun) c.in-Failed.is c.in_ok-left.ensures.keeps in end.books)
