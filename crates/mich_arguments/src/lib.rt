@@ -5,4 +5,4 @@ mod arguments;
 mod literals;
 
 pub use arguments::{ArgumentError, read_argument};
-pub use literals::read_literal;
+pub use literals::{has_entrypoint, is_taken_by_account, read_literal};

@@ -26,15 +26,15 @@ use mich_types::entrypoint;
 use mich_world::{Contract, World};
 use std::alloc::Global;
 
-// Whether accounts take this type: nothing but mutez, or tickets.
-fn is_taken_by_account(ty: &Ty) -> bool
+/// Whether accounts take this type: nothing but mutez, or tickets; takes no memory (Michelson reference, "CONTRACT").
+pub fn is_taken_by_account(ty: &Ty) -> bool
     ensures { result ≡ is_taken_by_account (kind ty.now) }
 {
     matches!(ty, Ty::Unit | Ty::Ticket(_))
 }
 
-// Whether a contract has an entrypoint of a name and a type.
-fn has_entrypoint(contract: &Contract, name: &Entrypoint, ty: &Ty) -> bool
+/// Whether a contract has an entrypoint of a name and a type; takes no memory (Michelson reference, "CONTRACT").
+pub fn has_entrypoint(contract: &Contract, name: &Entrypoint, ty: &Ty) -> bool
     ensures { result ≡ has_kind (kind ty.now) (find_entry name.now (entries_in contract.now)) }
 {
     match entrypoint(&contract.script.get().parameter, name) {

@@ -19,7 +19,7 @@ use Rattle.mich_term.specs.declared.value.Value.TheVariants as value
 use Rattle.mich_stack.specs.Views.{Sight, seen}
 use Rattle.mich_frames.specs.Around.{less}
 use Rattle.mich_frames.specs.Frames.{Frame}
-use Rattle.mich_frames.specs.Shapes.{HasTop, HasTransfer}
+use Rattle.mich_frames.specs.Shapes.{HasTop, HasBytes, HasTransfer}
 use Rattle.mich_frames.specs.Stands.{StandsAt}
 use Rattle.mich_interpreter.specs.Issues.{issued_by}
 use Rattle.mich_interpreter.specs.Parts.{HasAmount, HasAddress}
@@ -64,6 +64,11 @@ transfer_first (x ∷ V) h = tt
 pub transfer_second : (x : Val) (V : List Val) → HasTransfer (x ∷ V) → HasAmount V
 transfer_second x (number (pos n) ∷ bytes b ∷ V) h = tt
 transfer_second x _ h = absurd h
+
+-- what is on top where an address is
+pub address_first : (V : List Val) → HasBytes V → HasAddress V
+address_first (bytes b ∷ V) h = tt
+address_first _ h = absurd h
 
 pub transfer_third : (x y : Val) (V : List Val) → HasTransfer (x ∷ y ∷ V) → HasAddress V
 transfer_third x (number (pos n)) (bytes b ∷ V) h = tt

@@ -3,6 +3,7 @@ pub mod Paid
 pub mod Codes
 pub mod Any
 pub mod Listed
+pub mod Looked
 pub mod Mapped
 pub mod Keys
 pub mod Rebuilt

@@ -1,15 +1,16 @@
-// TRANSFER_TOKENS and EMIT.
-ghost use Rattle.std.specs.Prelude.{◌≡◌, ◌≤◌, ◌<◌, ◌+◌, ◌∷◌, pos, MatchOption, IfSome, IfOk};
+// TRANSFER_TOKENS, EMIT and CONTRACT.
+ghost use Rattle.std.specs.Prelude.{◌≡◌, ◌≤◌, ◌<◌, ◌+◌, ◌∷◌, pos, MatchOption, IfSome, IfOk, option_map};
 ghost use Rattle.rules_base.specs.Tree.{Tree};
 ghost use Rattle.rules_values.specs.Val.{number, bytes};
 ghost use Rattle.rules_instructions.specs.Straight.{on_operations};
 ghost use Rattle.rules_instructions.specs.Straight as i;
+ghost use Rattle.rules_steps.specs.Step.{optional};
 ghost use Rattle.rules_evaluation.specs.Issuing.{operation_limit};
 ghost use Rattle.mich_base.specs.TypeView.{kind};
 ghost use Rattle.mich_forms.specs.Spelled.{address_bytes};
 ghost use Rattle.mich_instr.specs.Code as made;
 ghost use Rattle.mich_overload.specs.View.{operation_row};
-ghost use Rattle.mich_stack.specs.Views.{Sight};
+ghost use Rattle.mich_stack.specs.Views.{Sight, seen};
 ghost use Rattle.mich_interpreter.specs.View.{tops};
 ghost use Rattle.mich_interpreter.specs.Issues.{KeepsScripts};
 ghost use Rattle.mich_interpreter.specs.Parts.{HasAmount, HasAddress};
@@ -17,11 +18,12 @@ ghost use Rattle.mich_interpreter.specs.Ends.{Comes, Carries, ComesIn, CarriesIn
 
 use crate::act::{Act, Failed};
 use crate::bodies::Bodies;
+use crate::lookups::contract_of;
 use crate::paying::pay;
 use crate::stack::{pop, push};
 use crate::state::{Counts, State};
-use mich_base::{Memory, Rows, Text, Ty, copy_type};
-use mich_forms::Address;
+use mich_base::{Bytes, Link, Memory, Rows, Text, Ty, copy_type};
+use mich_forms::{Address, Entrypoint};
 use mich_gas::{Costs, Kind};
 use mich_instr::Issued;
 use mich_overload::OperationRow;
@@ -125,7 +127,46 @@ fn act_emit(alloc: Global, m: &mut State, costs: &Costs, tag: &Text, ty: &Ty) ->
     Ok(Act::On)
 }
 
-// An instruction on operations and contracts that isn't in a step. CONTRACT and VIEW answer Memory so far.
+// An address, or none, as a value.
+fn optional_address(alloc: Global, address: Option<Address>) -> Result<Value, Memory>
+    ensures { IfOk result (λ v. (big : Sight) → seen big v ≡ optional (option_map bytes (option_map address_bytes address))) }
+{
+    let Some(address) = address else {
+        return Ok(Value::None);
+    };
+    let spelled = Value::Bytes(Bytes::from_slice(alloc, address.bytes().as_slice())?);
+    let part = Link::new(alloc, spelled)?;
+    Ok(Value::Some(part))
+}
+
+fn act_contract(
+    alloc: Global,
+    m: &mut State,
+    costs: &Costs,
+    world: &World,
+    annotation: Entrypoint,
+    ty: &Ty,
+) -> Result<Act, Memory>
+    requires { (app : Tree) × ComesIn world.now (made.straight (on_operations (i.contract annotation (kind ty.now))) app) costs.now m.old }
+    ensures acts { (app : Tree) → CarriesIn world.now (made.straight (on_operations (i.contract annotation (kind ty.now))) app) costs.now m.old m.new result }
+    ensures less { IfOk result (λ a. Spends a m.old.meter m.new.meter) }
+    ensures ledger { m.new.ledger ≡ m.old.ledger }
+    ensures counts { m.new.counts ≡ m.old.counts }
+    ensures issued { m.new.issued ≡ m.old.issued }
+{
+    if !pay(&mut m.meter, costs, Kind::Contract, 0) {
+        return Ok(Act::Failed(Failed::OutOfGas));
+    }
+    let Some(address) = pop_address(&mut m.stack) else {
+        return Err(Memory);
+    };
+    let found = contract_of(world, annotation, ty, &address);
+    let value = optional_address(alloc, found)?;
+    push(&mut m.stack, value)?;
+    Ok(Act::On)
+}
+
+// An instruction on operations and contracts that isn't in a step. VIEW answers Memory so far.
 pub(crate) fn act_operation(
     alloc: Global,
     m: &mut State,
@@ -144,6 +185,9 @@ pub(crate) fn act_operation(
     match row {
         OperationRow::TransferTokens => Ok(act_transfer(m, costs)?),
         OperationRow::Emit(tag, ty) => Ok(act_emit(alloc, m, costs, tag, ty)?),
+        OperationRow::Contract(annotation, ty) => {
+            Ok(act_contract(alloc, m, costs, world, *annotation, ty)?)
+        }
         _ => Err(Memory),
     }
 }

@@ -13,6 +13,7 @@ mod giving;
 mod issuing;
 mod items;
 mod iterating;
+mod lookups;
 mod loops;
 mod machine;
 mod made;

@@ -4,7 +4,7 @@ use Rattle.rules_instructions.specs.Straight.{on_operations}
 use Rattle.mich_instr.specs.Code as made
 use Rattle.mich_overload.specs.View.{operation_row}
 use Rattle.mich_overload.specs.declared.simple.OperationRow.{OperationRow}
-use Rattle.mich_interpreter.specs.Ends.{Comes, Meets}
+use Rattle.mich_interpreter.specs.Ends.{Comes, ComesIn, Meets}
 use Rattle.mich_interpreter.proofs.issuing.act_operation.Goals as goal
 
 pub act_transfer-requires : goal.act_transfer-requires
@@ -28,3 +28,13 @@ pub returns-in_ok-act_emit-in-Emit-clause-acts : goal.returns-in_ok-act_emit-in-
 returns-in_ok-act_emit-in-Emit-clause-acts c = λ app x fs d Z o h w.
     c.in_ok-act_emit-in-Emit.ensures.acts app x fs d Z o
     (subst (λ (row : OperationRow). Meets (made.straight (on_operations (operation_row row)) app) x c.args.costs.now c.args.m.now fs d Z o) c.in-Emit.is h)
+
+pub act_contract-requires : goal.act_contract-requires
+act_contract-requires c =
+    subst (λ (row : OperationRow). (app : Tree) × ComesIn c.args.world.now (made.straight (on_operations (operation_row row)) app) c.args.costs.now c.args.m.now)
+    c.in-Contract.is c.requires
+
+pub returns-in_ok-act_contract-in-Contract-clause-acts : goal.returns-in_ok-act_contract-in-Contract-clause-acts
+returns-in_ok-act_contract-in-Contract-clause-acts c = λ app x fs d Z o h w.
+    c.in_ok-act_contract-in-Contract.ensures.acts app x fs d Z o
+    (subst (λ (row : OperationRow). Meets (made.straight (on_operations (operation_row row)) app) x c.args.costs.now c.args.m.now fs d Z o) c.in-Contract.is h) w

@@ -1,0 +1,23 @@
+use Rattle.std.proofs.Common.{rules, ◌≡◌, Bool, true, sym, ap, ◌∙◌}
+use Rattle.std.specs.Prelude.{◌&&◌}
+use Rattle.rules_values.specs.ByteForms.{is_key_hash}
+use Rattle.rules_evaluation.specs.Contracts.{is_taken_by_account}
+use Rattle.mich_base.specs.TypeView.{kind}
+use Rattle.mich_arguments.proofs.Claims.{account_takes, default_so, other_so}
+use Rattle.mich_interpreter.proofs.lookups.account_takes.Goals as goal
+
+pub returns-then-is_default : goal.returns-then-is_default
+returns-then-is_default c = λ at.
+    let who : is_key_hash c.args.who ≡ true = search (rules, c.well_formed) in
+    let a = kind c.args.ty.now in
+    c.is_taken_by_account.ensures
+    ∙ ap (λ (b : Bool). b && is_taken_by_account a) (sym (default_so c.args.name (c.is_default.ensures.0 c.if-is_default.true)))
+    ∙ sym (account_takes at c.args.who c.args.name a who)
+
+pub returns-else-is_default : goal.returns-else-is_default
+returns-else-is_default c = λ at.
+    let who : is_key_hash c.args.who ≡ true = search (rules, c.well_formed) in
+    let a = kind c.args.ty.now in
+    c.if-is_default.false
+    ∙ ap (λ (b : Bool). b && is_taken_by_account a) (sym (other_so c.args.name c.is_default.result c.is_default.ensures.1 c.if-is_default.false))
+    ∙ sym (account_takes at c.args.who c.args.name a who)
