@@ -7,3 +7,6 @@ pub mod Sees
 pub mod Ends
 pub mod Runs
 pub mod Begins
+pub mod Callers
+pub mod Viewing
+pub mod Visits

@@ -52,8 +52,7 @@ fn act_step(alloc: Global, m: &mut State, costs: &Costs, instr: &Simple) -> Resu
     }
 }
 
-// Memory, so far, for those that pack, hash, look a contract up, or work on big maps.
-#[tactic(auto, using(crate::proofs::Keeping::acts_group))]
+// Memory, so far, for those that pack, hash, or work on big maps.
 pub(crate) fn act_straight(
     alloc: Global,
     m: &mut State,
