@@ -19,6 +19,7 @@ pub mod Keeping
 pub mod Capped
 pub mod Ruled
 pub mod Told
+pub mod Called
 pub mod Issued
 pub mod Suited
 pub mod Straightened

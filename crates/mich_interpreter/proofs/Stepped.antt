@@ -56,10 +56,12 @@ pub settled_of : (step : Step) (old mid new : Machine) → (step ≡ s.Free → 
 settled_of s.Free old mid new free e h = absurd (free refl)
 settled_of s.Paid old mid new free e h = omega (arith, e, h)
 settled_of s.Done old mid new free e h = tt
+settled_of (s.View w) old mid new free e h = omega (arith, e, h)
 settled_of (s.Failed why) old mid new free e h = tt
 
 pub paid_spent : (step : Step) (old new : Machine) → IsPaidStep step old.state.meter new.state.meter → IsSpent step old new
 paid_spent s.Free old new h = absurd h
 paid_spent s.Paid old new h = h
 paid_spent s.Done old new h = tt
+paid_spent (s.View w) old new h = h
 paid_spent (s.Failed why) old new h = tt

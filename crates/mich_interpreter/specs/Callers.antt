@@ -1,6 +1,7 @@
 -- Callers of views: the frames that they stand for, and what was before the views that they called. The first one is outermost.
-use Rattle.std.specs.Prelude.{◌≡◌, ◌≤◌, ◌<◌, ◌+◌, ◌++◌, ℕ, Bool, true, false, List, [], ◌∷◌, drop}
+use Rattle.std.specs.Prelude.{◌≡◌, ◌≤◌, ◌<◌, ◌+◌, ◌++◌, ℕ, ℤ, Bool, true, false, List, [], ◌∷◌, drop}
 use Rattle.rules_types.specs.Kind.{Kind}
+use Rattle.rules_values.specs.Tickets.{Identity}
 use Rattle.rules_values.specs.Val.{some}
 use Rattle.rules_evaluation.specs.Outcome.{Outcome, block_limit}
 use Rattle.mich_gas.specs.declared.costs.Costs.{Costs}
@@ -9,11 +10,11 @@ use Rattle.mich_instr.specs.View.{codes}
 use Rattle.mich_stack.specs.Views.{Sight, seen}
 use Rattle.mich_step.specs.Views.{environment}
 use Rattle.mich_term.specs.declared.value.Value.{Value}
-use Rattle.mich_tickets.specs.Books.{fresh}
+use Rattle.mich_tickets.specs.Books.{fresh, State as Ledger}
 use Rattle.mich_tickets.specs.Viewed.{viewed_books}
 use Rattle.mich_interpreter.specs.Runs.{InBlock}
 use Rattle.mich_interpreter.specs.Sees.{Sees}
-use Rattle.mich_interpreter.specs.View.{Before, Beyond, all_changes, all_issued, burnt_before, frames, tops}
+use Rattle.mich_interpreter.specs.View.{Before, Beyond, all_changes, all_issued, burnt_before, frames, minted_before, tops}
 use Rattle.mich_interpreter.specs.declared.act.View.{View}
 use Rattle.mich_interpreter.specs.declared.callers.Caller.{Caller}
 use Rattle.mich_interpreter.specs.declared.machine.Machine.{Machine}
@@ -46,9 +47,17 @@ in_call x cs = record { sight = x.sight; shows = x.shows; contract_at = x.contra
 abbrev pub InCall : Beyond → Costs → Machine → List Caller → List Kind → Outcome → Type 0
 InCall x costs m cs Z o = InBlock (in_call x cs) costs m (called x.sight x.before cs []) Z o
 
+abbrev pub SomeCall : World → Costs → Machine → List Caller → Type 0
+SomeCall v costs m cs = (x : Beyond) × (Z : List Kind) × (o : Outcome) × InCall x costs m cs Z o × Sees v x
+
 -- where a run begins, in a world that it sees
 abbrev pub SomeStart : World → Costs → Machine → Type 0
-SomeStart v costs m = (x : Beyond) × (Z : List Kind) × (o : Outcome) × InCall x costs m [] Z o × Sees v x
+SomeStart v costs m = SomeCall v costs m []
+
+-- in the view that runs, and for each caller, this was minted before the run
+abbrev pub MintedAt : (Identity → ℤ) → Sight → Before → List Caller → Ledger → Type 0
+MintedAt f big b [] l = minted_before b l ≡ f
+MintedAt f big b (c ∷ cs) l = (minted_before b c.ledger ≡ f) × MintedAt f big (within big b c) cs l
 
 -- a state with the ledger and the operations of the first caller
 abbrev pub home : List Caller → State → State
