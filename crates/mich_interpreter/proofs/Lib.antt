@@ -20,6 +20,8 @@ pub mod Capped
 pub mod Ruled
 pub mod Told
 pub mod Called
+pub mod Visited
+pub mod Opened
 pub mod Issued
 pub mod Suited
 pub mod Straightened

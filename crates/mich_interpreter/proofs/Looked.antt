@@ -30,6 +30,11 @@ module _ (at : Lookup) (place annotation name : List ℕ) (a : Kind) (h : IsPlac
   pub unnamed : None ≡ chosen_entrypoint name annotation → None ≡ contract_of at annotation a (spelled_address place name)
   unnamed e = ap (contract_named at place a) e ∙ sym (named_is at place name annotation a h g)
 
+  pub unnamed_by : (o : Option (List ℕ)) → ((n : List ℕ) → o ≡ Some n → ⊥) → o ≡ chosen_entrypoint name annotation →
+      option_map (spelled_address place) None ≡ contract_of at annotation a (spelled_address place name)
+  unnamed_by None absent e = unnamed e
+  unnamed_by (Some n) absent e = absurd (absent n refl)
+
   -- it is taken there, or isn't
   pub named_so : (n : List ℕ) (b : Bool) → Some n ≡ chosen_entrypoint name annotation → b ≡ takes at place n a →
       address_where b (spelled_address place n) ≡ contract_of at annotation a (spelled_address place name)

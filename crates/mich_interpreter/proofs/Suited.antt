@@ -68,6 +68,8 @@ module _ (x : Beyond) (costs : Costs) (m : State) {fs : List Frame} {d : ℕ} {Z
       (burnt_is x.before m id) (minted_by_now x.before m id) (amount_both id x.before.issued later)
       (issued_positive id x.contract_at later (All-last (λ (i : Issued). IsSoundIssue x.contract_at i.operation) x.before.issued later h.holds.well.0)) (tickets_handed h.holds id)
 
+  pub ready_tops : IsReady m.ledger.books.present (flat_map tickets (tops x.sight m.stack))
+  ready_tops = record { positive = row_positive h; within = within_so }
+
   pub ready_plain : IsReady m.ledger.books.present (flat_map tickets (plain m.stack))
-  ready_plain =
-      subst (IsReady m.ledger.books.present) (tickets_same (tops x.sight m.stack) (plain m.stack) (x.shows m.stack)) (record { positive = row_positive h; within = within_so })
+  ready_plain = subst (IsReady m.ledger.books.present) (tickets_same (tops x.sight m.stack) (plain m.stack) (x.shows m.stack)) ready_tops

@@ -7,7 +7,7 @@ use Rattle.mich_term.specs.declared.ticket.Ticket.{Ticket}
 use Rattle.mich_tickets.specs.Limits.{IsReady}
 use Rattle.mich_tickets.proofs.Readiness.{ready_first, ready_next}
 use Rattle.mich_step.proofs.Ledgers.{tells_same, tells_put, left_ready}
-use Rattle.mich_machine.proofs.burning.burn_all.Goals as goal
+use Rattle.mich_interpreter.proofs.burning.burn_all.Goals as goal
 
 pub loop-ticket-init : goal.loop-ticket-init
 loop-ticket-init c =

@@ -5,7 +5,7 @@ use Rattle.rules_steps.specs.Changes.{burns}
 use Rattle.mich_term.specs.TicketView.{held}
 use Rattle.mich_tickets.specs.Effects.{Tells}
 use Rattle.mich_tickets.specs.Limits.{IsReady}
-use Rattle.mich_machine.proofs.burning.burn_all.Given as goal
+use Rattle.mich_interpreter.proofs.burning.burn_all.Given as goal
 
 abbrev pub invariant-loop-ticket : goal.invariant-loop-ticket
 invariant-loop-ticket l = record {

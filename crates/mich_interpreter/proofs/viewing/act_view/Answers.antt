@@ -1,0 +1,28 @@
+use Rattle.std.proofs.Common.{◌∙◌, ap, refl}
+use Rattle.rules_gas.specs.declared.Kind.TheVariants as g
+use Rattle.rules_values.specs.Val.{bytes}
+use Rattle.mich_base.specs.TypeView.{kind}
+use Rattle.mich_forms.specs.Spelled.{address_bytes}
+use Rattle.mich_frames.proofs.Operations.{viewing_top}
+use Rattle.mich_frames.proofs.Straights.{row_broke}
+use Rattle.mich_gas.specs.View.{listed}
+use Rattle.mich_stack.specs.Views.{seen}
+use Rattle.mich_interpreter.proofs.Keeping.{past_of, same_keeps}
+use Rattle.mich_interpreter.proofs.Opened.{given_ready, none_acts, view_acts, view_first, view_second}
+use Rattle.mich_interpreter.proofs.Paid.{paid_less}
+use Rattle.mich_interpreter.proofs.Rebuilt.{seen_none}
+use Rattle.mich_interpreter.proofs.viewing.act_view.Goals as goal
+
+pub returns-then-not-pay-clause-acts : goal.returns-then-not-pay-clause-acts
+returns-then-not-pay-clause-acts c = λ app x fs d Z o h w. row_broke _ h (rw c.if-not-pay.true at c.pay.ensures)
+
+pub pop-given-requires : goal.pop-given-requires
+pop-given-requires c =
+    let p = rw c.if-not-pay.false at c.pay.ensures in
+    (c.requires.1.0.sight, view_first _ (viewing_top c.args.name.now (kind c.args.input.now) (kind c.args.output.now) p.0 c.requires.1.5))
+
+pub pop_address-requires : goal.pop_address-requires
+pop_address-requires c =
+    let p = rw c.if-not-pay.false at c.pay.ensures in
+    let x = c.requires.1.0 in
+    (x.sight, view_second (seen x.sight c.pop-given.result) _ (rw (c.pop-given.ensures x.sight) at (viewing_top c.args.name.now (kind c.args.input.now) (kind c.args.output.now) p.0 c.requires.1.5)))
