@@ -1,5 +1,5 @@
 -- Callers of views: one more, and one less.
-use Rattle.std.proofs.Common.{◌≡◌, ◌<◌, ◌≤◌, ◌+◌, ℕ, Bool, true, false, cond, List, [], ◌∷◌, ◌++◌, map, drop, Some, None, refl, sym, ap, ◌∙◌, subst}
+use Rattle.std.proofs.Common.{◌≡◌, ◌<◌, ◌≤◌, ◌+◌, ℕ, Bool, true, false, cond, List, [], ◌∷◌, ◌++◌, map, take, drop, Some, None, refl, sym, ap, ◌∙◌, subst}
 use Rattle.std.specs.Prelude.{ℤ, pos, ◌+ℤ◌, ◌-ℤ◌, option_map}
 use Rattle.std.specs.declared.option.Option.{Option}
 use Rattle.std.specs.Map.{lookup}
@@ -253,3 +253,19 @@ home_in (c ∷ cs) s w m h = record { books = h.books; changes = h.changes; tell
 pub home_out : (cs : List Caller) (s : State) (c : Caller) (stack : List Value) (m : Machine) → KeepsState s (home (cs ++ c ∷ []) m.state) → KeepsState s (home cs (back_to c stack m).state)
 home_out [] s c stack m h = record { books = h.books; changes = h.changes; tells = h.tells; group = h.group; scripts = h.scripts }
 home_out (d ∷ cs) s c stack m h = record { books = h.books; changes = h.changes; tells = h.tells; group = h.group; scripts = h.scripts }
+
+-- ---- the first caller
+
+ones : (d c : Caller) (rest : List Caller) → d ∷ [] ≡ rest ++ c ∷ [] → d ≡ c
+ones d c [] e = cc
+ones d c (r ∷ []) e = absurd cc
+ones d c (r ∷ q ∷ rest) e = absurd cc
+
+pub home_first : (cs rest : List Caller) (c : Caller) (s : State) → take 1 cs ≡ rest ++ c ∷ [] → record s { ledger = c.ledger; issued = c.issued } ≡ home cs s
+home_first [] [] c s e = absurd cc
+home_first [] (r ∷ rest) c s e = absurd cc
+home_first (d ∷ cs) rest c s e = ap (λ (c : Caller). record s { ledger = c.ledger; issued = c.issued }) (sym (ones d c rest e))
+
+pub home_none : (cs : List Caller) (s : State) → take 1 cs ≡ [] → s ≡ home cs s
+home_none [] s e = refl
+home_none (d ∷ cs) s e = absurd cc

@@ -15,9 +15,9 @@ use Rattle.mich_interpreter.specs.View.{Beyond}
 use Rattle.mich_interpreter.specs.declared.visits.Visit.{Visit}
 
 -- the code of a contract's view of a name with these types, its balance and its storage
-pub record IsOf (c : Contract) (hash name : List ℕ) (a b : Kind) (v : Visit) : Type 0 where
+pub record IsOf (c : Contract) (twenty name : List ℕ) (a b : Kind) (v : Visit) : Type 0 where
   pub code : view_code name a b (view_codes (out-Script c.script).views) ≡ Some (codes v.code)
-  pub hash : v.hash ≡ hash
+  pub hash : v.hash ≡ twenty
   pub balance : v.balance ≡ c.balance
   pub storage : v.storage ≡ c.storage
 

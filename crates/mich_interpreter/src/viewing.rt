@@ -14,7 +14,7 @@ use crate::burning::burn_value;
 use crate::paying::pay;
 use crate::stack::{pop, pop_address, push};
 use crate::state::State;
-use crate::visits::{Visit, visit};
+use crate::visits::{Visit, find_view};
 use mich_base::{Link, Memory, Text, Ty};
 use mich_forms::Place;
 use mich_gas::{Costs, Kind};
@@ -25,7 +25,7 @@ use std::alloc::Global;
 
 // Where and for whom a view runs, by where its caller does.
 fn env_at(env: &Env, hash: [u8; 20], balance: u64) -> Env
-    ensures { result ≡ env_at env.now hash balance }
+    ensures { result ≡ env_at env.entry.now hash balance }
 {
     Env {
         chain: env.chain,
@@ -43,7 +43,7 @@ fn env_at(env: &Env, hash: [u8; 20], balance: u64) -> Env
 fn opening(alloc: Global, env: &Env, visit: Visit, input: Value) -> Result<View, Memory>
     ensures code { IfOk result (λ w. w.code ≡ visit.code) }
     ensures value { IfOk result (λ w. (big : Sight) → seen big w.value ≡ both (seen big input) (seen big visit.storage)) }
-    ensures env { IfOk result (λ w. w.env ≡ env_at env.now visit.hash visit.balance) }
+    ensures env { IfOk result (λ w. w.env ≡ env_at env.entry.now visit.hash visit.balance) }
 {
     let env = env_at(env, visit.hash, visit.balance);
     let first = Link::new(alloc, input)?;
@@ -77,7 +77,7 @@ pub(crate) fn act_view(
     let Some(address) = pop_address(&mut m.stack) else {
         return Err(Memory);
     };
-    match visit(alloc, world, &address, name, input, output)? {
+    match find_view(alloc, world, &address, name, input, output)? {
         Some(found) => {
             let view = opening(alloc, &m.env, found, given)?;
             Ok(Act::View(view))

@@ -116,7 +116,7 @@ fn visit_account(
 }
 
 // The view of a name at an address, whose entrypoint doesn't matter, with these types of input and output. None where there is none.
-pub(crate) fn visit(
+pub(crate) fn find_view(
     alloc: Global,
     world: &World,
     address: &Address,
