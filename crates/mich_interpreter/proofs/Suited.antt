@@ -58,7 +58,7 @@ module _ (x : Beyond) (costs : Costs) (m : State) {fs : List Frame} {d : ℕ} {Z
   pub suits_plain : Suits r (plain m.stack)
   suits_plain = suits_same r (tops x.sight m.stack) (plain m.stack) (x.shows m.stack) (row_suits h)
 
-  later : List Issued
+  abbrev later : List Issued
   later = map (issued_by x.sight) m.issued
 
   within_so : (id : Identity) → IsWithin m.ledger.books.present id (flat_map tickets (tops x.sight m.stack))

@@ -30,11 +30,11 @@ back a b = omega (arith, ints)
 pub minted_is : (x : Beyond) (costs : Costs) (m : State) (kind : Priced) (w : ℕ) → minted_at (around x costs m) (less (around x costs m) kind w (tally x m)) ≡ minted_of m.ledger.books.present
 minted_is x costs m kind w = λ i id. back (minted_of m.ledger.books.present id) (minted_in id (all_changes x.before m.ledger)) i
 
-more_back : (a b c : ℤ) → (a -ℤ (b +ℤ c)) +ℤ c +ℤ b ≡ a
+more_back : (a b c : ℤ) → ((a -ℤ (b +ℤ c)) +ℤ c) +ℤ b ≡ a
 more_back a b c = omega (arith, ints)
 
 -- and what was burnt by now, likewise; a view begins with nothing burnt
-pub burnt_is : (b : Before) (m : State) (id : Identity) → burnt_of m.ledger.books.present id ≡ burnt_before b m.ledger id +ℤ burnt_in id (all_changes b m.ledger) +ℤ amount_issued id b.issued
+pub burnt_is : (b : Before) (m : State) (id : Identity) → burnt_of m.ledger.books.present id ≡ (burnt_before b m.ledger id +ℤ burnt_in id (all_changes b m.ledger)) +ℤ amount_issued id b.issued
 burnt_is b m id = sym (more_back (burnt_of m.ledger.books.present id) (amount_issued id b.issued) (burnt_in id (all_changes b m.ledger)))
 
 pub minted_by_now : (b : Before) (m : State) (id : Identity) → minted_of m.ledger.books.present id ≡ minted_before b m.ledger id +ℤ minted_in id (all_changes b m.ledger)

@@ -4,7 +4,7 @@ ghost use Rattle.rules_evaluation.specs.Contracts.{Lookup, chosen_entrypoint, co
 ghost use Rattle.rules_forms.specs.Spelling.{contract_place, implicit_place, spelled_address};
 ghost use Rattle.mich_arguments.specs.Arguments.{HasTypedScripts};
 ghost use Rattle.mich_base.specs.TypeView.{kind};
-ghost use Rattle.mich_forms.specs.Spelled.{address_bytes};
+ghost use Rattle.mich_forms.specs.Spelled.{address_bytes, place_bytes};
 ghost use Rattle.mich_interpreter.specs.Sees.{LooksInto};
 
 use mich_arguments::{has_entrypoint, is_taken_by_account};
@@ -84,6 +84,23 @@ fn contract_entrypoint(
     }
 }
 
+// The same of any address.
+fn named_entrypoint(
+    world: &World,
+    place: Place,
+    of_address: Entrypoint,
+    annotation: Entrypoint,
+    ty: &Ty,
+) -> Option<Entrypoint>
+    requires { HasTypedScripts world.now }
+    ensures { (at : Lookup) → LooksInto world.now at → option_map (spelled_address (place_bytes place)) result ≡ contract_of at annotation (kind ty.now) (spelled_address (place_bytes place) of_address) }
+{
+    match place {
+        Place::Implicit(who) => account_entrypoint(who, of_address, annotation, ty),
+        Place::Contract(hash) => contract_entrypoint(world, hash, of_address, annotation, ty),
+    }
+}
+
 // The address with the entrypoint that it and an annotation name together. None where neither is the default one, or where nobody
 // takes the type there.
 pub(crate) fn contract_of(
@@ -95,17 +112,9 @@ pub(crate) fn contract_of(
     requires { HasTypedScripts world.now }
     ensures { (at : Lookup) → LooksInto world.now at → option_map address_bytes result ≡ contract_of at annotation (kind ty.now) (address_bytes address.now) }
 {
-    let named = match address.place {
-        Place::Implicit(who) => account_entrypoint(who, address.entrypoint, annotation, ty),
-        Place::Contract(hash) => {
-            contract_entrypoint(world, hash, address.entrypoint, annotation, ty)
-        }
-    };
-    match named {
-        Some(entrypoint) => Some(Address {
-            place: address.place,
-            entrypoint,
-        }),
+    let place = address.place;
+    match named_entrypoint(world, place, address.entrypoint, annotation, ty) {
+        Some(entrypoint) => Some(Address { place, entrypoint }),
         None => None,
     }
 }
