@@ -112,9 +112,11 @@ pub(crate) fn contract_of(
     requires { HasTypedScripts world.now }
     ensures { (at : Lookup) → LooksInto world.now at → option_map address_bytes result ≡ contract_of at annotation (kind ty.now) (address_bytes address.now) }
 {
-    let place = address.place;
-    match named_entrypoint(world, place, address.entrypoint, annotation, ty) {
-        Some(entrypoint) => Some(Address { place, entrypoint }),
+    match named_entrypoint(world, address.place, address.entrypoint, annotation, ty) {
+        Some(entrypoint) => Some(Address {
+            place: address.place,
+            entrypoint,
+        }),
         None => None,
     }
 }
