@@ -1,4 +1,4 @@
-use Rattle.std.proofs.Common.{◌∙◌, ap, refl}
+use Rattle.std.proofs.Common.{◌∷◌, ◌∙◌, ap}
 use Rattle.rules_gas.specs.declared.Kind.TheVariants as g
 use Rattle.rules_values.specs.Val.{bytes}
 use Rattle.mich_base.specs.TypeView.{kind}
@@ -7,7 +7,7 @@ use Rattle.mich_frames.proofs.Operations.{viewing_top}
 use Rattle.mich_frames.proofs.Straights.{row_broke}
 use Rattle.mich_gas.specs.View.{listed}
 use Rattle.mich_stack.specs.Views.{seen}
-use Rattle.mich_interpreter.proofs.Keeping.{past_of, same_keeps}
+use Rattle.mich_interpreter.specs.View.{tops}
 use Rattle.mich_interpreter.proofs.Opened.{given_ready, none_acts, view_acts, view_first, view_second}
 use Rattle.mich_interpreter.proofs.Paid.{paid_less}
 use Rattle.mich_interpreter.proofs.Rebuilt.{seen_none}
@@ -26,3 +26,26 @@ pop_address-requires c =
     let p = rw c.if-not-pay.false at c.pay.ensures in
     let x = c.requires.1.0 in
     (x.sight, view_second (seen x.sight c.pop-given.result) _ (rw (c.pop-given.ensures x.sight) at (viewing_top c.args.name.now (kind c.args.input.now) (kind c.args.output.now) p.0 c.requires.1.5)))
+
+pub burn_value-requires : goal.burn_value-requires
+burn_value-requires c =
+    let p = rw c.if-not-pay.false at c.pay.ensures in
+    let r = c.requires.1 in
+    let x = r.0 in
+    given_ready x c.args.costs.now c.args.m.now c.args.name.now (kind c.args.input.now) (kind c.args.output.now) c.pop-given.result (address_bytes c.in-Some.address) c.pop_address.new.stack c.pay.new.meter
+    (c.pop-given.ensures x.sight ∙ ap (λ V. seen x.sight c.pop-given.result ∷ V) (c.in-Some.ensures x.sight)) p.0 p.1 r.5
+
+pub returns-in_ok-view-in-Some-find_view-clause-acts : goal.returns-in_ok-view-in-Some-find_view-clause-acts
+returns-in_ok-view-in-Some-find_view-clause-acts c = λ app x fs d Z o h w.
+    let p = rw c.if-not-pay.false at c.pay.ensures in
+    let v = c.in_ok-view.ensures in
+    view_acts x c.args.costs.now c.args.m.now c.args.name.now (kind c.args.input.now) (kind c.args.output.now) c.pop-given.result (address_bytes c.in-Some.address) c.pop_address.new.stack c.pay.new.meter
+    (c.pop-given.ensures x.sight ∙ ap (λ V. seen x.sight c.pop-given.result ∷ V) (c.in-Some.ensures x.sight)) p.0 p.1 h
+    c.in-Some-find_view.found c.in_ok-view.view v.code (v.value x.sight) v.env (c.in-Some-find_view.ensures x w)
+
+pub returns-in_ok-push-in-None-clause-acts : goal.returns-in_ok-push-in-None-clause-acts
+returns-in_ok-push-in-None-clause-acts c = λ app x fs d Z o h w.
+    let p = rw c.if-not-pay.false at c.pay.ensures in
+    none_acts x c.args.costs.now c.args.m.now c.args.name.now (kind c.args.input.now) (kind c.args.output.now) c.pop-given.result (address_bytes c.in-Some.address) c.pop_address.new.stack c.pay.new.meter
+    (c.pop-given.ensures x.sight ∙ ap (λ V. seen x.sight c.pop-given.result ∷ V) (c.in-Some.ensures x.sight)) p.0 p.1 h
+    c.burn_value.new.ledger c.push.new.stack (c.in-None.ensures x w) c.in_ok-burn_value-in-None.ensures.tells (c.in_ok-push-in-None.ensures x.sight ∙ ap (λ y. y ∷ tops x.sight c.pop_address.new.stack) (seen_none x.sight))
