@@ -17,4 +17,4 @@ pub returns-in_ok-visit_hash-in-Contract : goal.returns-in_ok-visit_hash-in-Cont
 returns-in_ok-visit_hash-in-Contract c = λ x s.
     let a = kind c.args.input.now in
     let b = kind c.args.output.now in
-    subst (λ (p : Place). IsVisit x a b (viewed x.contract_at c.args.name.now a b (spelled_address (place_bytes p) c.args.address.now.entrypoint)) _) (sym c.in-Contract.is) (c.in_ok-visit_hash-in-Contract.ensures x s)
+    subst (λ (p : Place). IsVisit x a b (viewed x.contract_at c.args.name.now a b (spelled_address (place_bytes p) c.args.address.now.entrypoint)) c.in_ok-visit_hash-in-Contract.field-0) (sym c.in-Contract.is) (c.in_ok-visit_hash-in-Contract.ensures x s)
