@@ -41,7 +41,7 @@ use Rattle.mich_interpreter.specs.Parts.{HasAddress}
 use Rattle.mich_interpreter.specs.View.{Beyond, around, tally, tops}
 use Rattle.mich_interpreter.specs.Viewing.{env_at}
 use Rattle.mich_interpreter.specs.Visits.{IsVisit, Visits}
-use Rattle.mich_interpreter.specs.declared.act.Act.TheVariants as a
+use Rattle.mich_interpreter.specs.declared.act.Act.TheVariants as act
 use Rattle.mich_interpreter.specs.declared.act.View.{View}
 use Rattle.mich_interpreter.specs.declared.state.State.{State}
 use Rattle.mich_interpreter.specs.declared.visits.Visit.{Visit}
@@ -91,7 +91,7 @@ module _ (x : Beyond) (costs : Costs) (m : State) {fs : List fr.Frame} {d : ℕ}
 
   -- without a view they are burnt
   pub none_acts : (ledger : Ledger) (stack : List Value) → IsVisit x a b (viewed x.contract_at name a b address) None → Tells (burns (tickets (val given))) m.ledger ledger → tops x.sight stack ≡ nothing ∷ tops x.sight W →
-      Acts a.On x costs (later x costs m stack meter ledger) fs d Z o
+      Acts act.On x costs (later x costs m stack meter ledger) fs d Z o
   none_acts ledger stack none told put =
       stands_told x costs m stack meter ledger fs d Z o g.View 0 (burns (tickets (seen x.sight given))) (subst (λ ts. Tells (burns ts) m.ledger ledger) (given_tickets x given) told) paid
       (subst (λ V. StandsAt fs u V _ d Z o) (sym put)
@@ -130,5 +130,5 @@ module _ (x : Beyond) (costs : Costs) (m : State) {fs : List fr.Frame} {d : ℕ}
           subst (P (codes w.code) (environment w.env) (seen x.sight w.value)) (sym paid) four
 
     -- a view opens
-    pub view_acts : IsVisit x a b (viewed x.contract_at name a b address) (Some y) → Acts (a.View w) x costs (record m { stack = W; meter = meter }) fs d Z o
+    pub view_acts : IsVisit x a b (viewed x.contract_at name a b address) (Some y) → Acts (act.View w) x costs (record m { stack = W; meter = meter }) fs d Z o
     view_acts v = let r = visited x a b y (viewed x.contract_at name a b address) v in opens_so r.0 r.2 r.1
