@@ -13,3 +13,7 @@ HasLambda _ = ⊥
 abbrev pub called : Val → Tree → Bool → List Val
 called x body true = x ∷ v.lambda body true ∷ []
 called x body false = x ∷ []
+
+-- the typed code of a node as the body of a lambda of these types
+abbrev pub IsBody : Ty → Ty → Bool → Node → List Instr → Type 0
+IsBody arg ret recursive node code = AreCode place.lambda (inside (tree node)) (codes code) (call_kinds (kind arg) (kind ret) recursive) (kind ret ∷ [])

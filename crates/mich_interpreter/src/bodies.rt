@@ -1,17 +1,136 @@
 // Bodies of lambdas that were checked.
-use mich_base::Memory;
-use std::alloc::Global;
+ghost use Rattle.std.specs.Prelude.{◌≡◌, ◌<◌, ◌^◌, None, IfOk, IfSome};
+ghost use Rattle.rules_base.specs.Tree.{seq, size};
+ghost use Rattle.rules_typing.specs.Literals.{lambda_fault};
+ghost use Rattle.mich_base.specs.TypeView.{kind};
+ghost use Rattle.mich_base.specs.View.{tree};
+ghost use Rattle.mich_control.specs.Answers.{inside};
+ghost use Rattle.mich_interpreter.specs.Calls.{IsBody};
 
-/// The typed code of bodies of lambdas that ran last, by their nodes and types.
+use crate::kept::Kept;
+use crate::marks::mark;
+use lru::LruCache;
+use mich_base::{Memory, Node, Shared, Ty};
+use mich_check::{CheckError, check_body};
+use mich_instr::Block;
+use std::alloc::Global;
+use std::num::NonZeroUsize;
+
+/// How many bodies are kept.
+const MOST_KEPT: usize = 256;
+
+/// How many look-ups of a body found it, and how many didn't. Both stop at 2^64-1.
+#[derive(Debug, Clone, Copy, PartialEq, Eq)]
+pub struct Uses {
+    pub hits: u64,
+    pub misses: u64,
+}
+
+/// The typed code of the bodies of lambdas that ran last, by their nodes and types.
 #[derive(Debug, Drop)]
 pub struct Bodies {
-    uses: u64,
+    cache: LruCache<u64, Kept>,
+    uses: Uses,
+}
+
+// The typed code of a body, which is of these types.
+fn checked(
+    alloc: Global,
+    arg: &Ty,
+    ret: &Ty,
+    recursive: bool,
+    body: &Node,
+) -> Result<Block, Memory>
+    requires sequence { tree body.now ≡ seq (inside (tree body.now)) }
+    requires fits { size (tree body.now) < 2 ^ 32 }
+    requires typed { lambda_fault (kind arg.now) (kind ret.now) recursive (tree body.now) ≡ None }
+    ensures { IfOk result (λ code. IsBody arg.now ret.now recursive body.now code) }
+{
+    match check_body(alloc, arg, ret, recursive, body) {
+        Ok(code) => Ok(code),
+        Err(CheckError::IllTyped(_)) => unreachable!(),
+        Err(CheckError::Memory) => Err(Memory),
+    }
 }
 
 impl Bodies {
     /// No body. Memory where there is no room for so many.
     pub fn new(alloc: Global) -> Result<Bodies, Memory> {
-        let _alloc = alloc;
-        Ok(Bodies { uses: 0 })
+        let Some(most) = NonZeroUsize::new(MOST_KEPT) else {
+            unreachable!()
+        };
+        match LruCache::new(alloc, most) {
+            Ok(cache) => Ok(Bodies {
+                cache,
+                uses: Uses { hits: 0, misses: 0 },
+            }),
+            Err(_) => Err(Memory),
+        }
+    }
+
+    /// How often a body was found, and how often it wasn't. Takes no memory.
+    pub fn uses(&self) -> Uses {
+        self.uses
+    }
+
+    // The typed code that is kept of a body.
+    fn find(
+        &mut self,
+        key: u64,
+        arg: &Ty,
+        ret: &Ty,
+        recursive: bool,
+        body: &Node,
+    ) -> Result<Option<Block>, Memory>
+        ensures { IfOk result (λ o. IfSome o (λ code. IsBody arg.now ret.now recursive body.now code)) }
+    {
+        let Some(kept) = self.cache.get(&key) else {
+            return Ok(None);
+        };
+        kept.code_of(arg, ret, recursive, body)
+    }
+
+    // Keeps a body with its code, where there is memory for it.
+    fn keep(
+        &mut self,
+        alloc: Global,
+        key: u64,
+        arg: &Ty,
+        ret: &Ty,
+        recursive: bool,
+        body: &Shared<Node>,
+        code: &Block,
+    )
+        requires { IsBody arg.now ret.now recursive body.now code.now }
+    {
+        if let Ok(kept) = Kept::new(alloc, arg, ret, recursive, body, code) {
+            let _before = self.cache.put(key, kept);
+        }
+    }
+
+    // The typed code of a body, which is of these types: the one that is kept, or else a new one, which is kept then.
+    pub(crate) fn code(
+        &mut self,
+        alloc: Global,
+        arg: &Ty,
+        ret: &Ty,
+        recursive: bool,
+        body: &Shared<Node>,
+    ) -> Result<Block, Memory>
+        requires sequence { tree body.now ≡ seq (inside (tree body.now)) }
+        requires fits { size (tree body.now) < 2 ^ 32 }
+        requires typed { lambda_fault (kind arg.now) (kind ret.now) recursive (tree body.now) ≡ None }
+        ensures { IfOk result (λ code. IsBody arg.now ret.now recursive body.now code) }
+    {
+        let key = mark(body.get());
+        let found = self.find(key, arg, ret, recursive, body.get())?;
+        if let Some(code) = found {
+            self.uses.hits = self.uses.hits.saturating_add(1);
+            return Ok(code);
+        }
+        self.uses.misses = self.uses.misses.saturating_add(1);
+        let code = checked(alloc, arg, ret, recursive, body.get())?;
+        self.keep(alloc, key, arg, ret, recursive, body, &code);
+        Ok(code)
     }
 }
