@@ -26,6 +26,7 @@ use Rattle.laws_runs.proofs.Steps.{orderly_of}
 use Rattle.laws_world.proofs.Calls.{called_call}
 use Rattle.laws_world.proofs.Taken.{taken_transfer}
 use Rattle.mich_bigmap.specs.Standing.{val_in}
+use Rattle.mich_conditions.proofs.Waiting.{transfers_may_run}
 use Rattle.mich_forms.specs.Spelled.{place_bytes}
 use Rattle.mich_forms.proofs.Joining.{IsPlace-length}
 use Rattle.mich_forms.specs.declared.places.Place.{Place}
@@ -38,7 +39,7 @@ use Rattle.mich_world.specs.Holders.{contract_at}
 use Rattle.mich_world.specs.World.{World}
 use Rattle.mich_operations.specs.Calls.{covered, IsDue}
 use Rattle.mich_operations.specs.Going.{Begins, EndsAs}
-use Rattle.mich_operations.specs.Transfers.{AreBetween, transaction}
+use Rattle.mich_operations.specs.Transfers.{AreBetween, IsSent, transaction}
 use Rattle.mich_operations.specs.declared.applied.Applied.{Applied}
 use Rattle.mich_operations.specs.declared.applied.ApplyError.{ApplyError}
 use Rattle.mich_operations.proofs.Entering.{place_is, name_is, takes_met}
@@ -106,8 +107,16 @@ module _ (v : World) (w : PlainWorld) (s : Setting) (by : List ℕ) (to : Place)
     account : is_place (implicit_place who) ≡ true
     account = account_so who (subst (λ (p : Place). IsPlace (place_bytes p)) is is_target)
 
-    pub sent_between : AreBetween v w (place.Contract by) (place.Implicit who)
+    sent_between : AreBetween v w (place.Contract by) (place.Implicit who)
     sent_between = record { stands = b.stands; form = b.next.going.good.sound.form; sender = first.0; receiver = account }
+
+    pub sent_so : IsSent v w (place.Contract by) who x
+    sent_so = record {
+      between = sent_between;
+      kind = first.1.0;
+      fits = first.1.2;
+      may = transfers_may_run w (contract_place by) x amount address b.next.behind b.next.going.good;
+    }
 
     pub sends_account : (gas : ℕ) (counts : Counts) (z : World) (r : Result Applied ApplyError) →
         EndsAs (to_account w (transaction (place.Contract by) (place.Implicit who) name amount (value x)) gas (counts_of counts)) z gas counts counts r →
