@@ -11,5 +11,5 @@ pub mod Credited
 pub mod Offers
 pub mod Given
 pub mod Handing
-pub mod Gifts
+pub mod Bestowals
 pub mod Sent

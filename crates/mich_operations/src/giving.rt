@@ -55,7 +55,12 @@ fn is_ticket_of(ty: &Ty, content: &Ty) -> bool
 }
 
 // Whether an entrypoint of a contract takes tickets with contents of a type.
-fn wants(world: &World, to: &[u8; 20], name: &Entrypoint, ty: &Ty) -> Result<(), ApplyError>
+pub(crate) fn wants(
+    world: &World,
+    to: &[u8; 20],
+    name: &Entrypoint,
+    ty: &Ty,
+) -> Result<(), ApplyError>
     requires { HasTypedScripts world.now }
     ensures { (w : PlainWorld) → StandsFor world.now w → IsWanted (search w to.now name.now) (kind ty.now) result }
 {
