@@ -27,3 +27,8 @@ pub mod Suited
 pub mod Straightened
 pub mod Changed
 pub mod Failing
+pub mod Operands
+pub mod Hashed
+pub mod Plain
+pub mod BigMapRows
+pub mod Dropped

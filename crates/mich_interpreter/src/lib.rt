@@ -3,6 +3,7 @@
 
 mod act;
 mod beginning;
+mod big_maps;
 mod bodies;
 mod branches;
 mod burning;
@@ -12,6 +13,7 @@ mod contracts;
 mod dipping;
 mod frame;
 mod giving;
+mod hashing;
 mod issuing;
 mod items;
 mod iterating;

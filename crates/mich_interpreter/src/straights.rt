@@ -8,7 +8,9 @@ ghost use Rattle.mich_stack.specs.Views.{Sight, failure as step_failure};
 ghost use Rattle.mich_interpreter.specs.Ends.{Comes, Carries, ComesIn, CarriesIn, Spends, KeepsAct, failure};
 
 use crate::act::{Act, Failed};
+use crate::big_maps::act_big_map;
 use crate::bodies::Bodies;
+use crate::hashing::act_packing;
 use crate::issuing::act_operation;
 use crate::paying::pay_capped;
 use crate::state::State;
@@ -22,7 +24,7 @@ use mich_world::World;
 use std::alloc::Global;
 
 // The failure of a run by that of an instruction.
-fn failed(why: StepFailure) -> Failed
+pub(crate) fn failed(why: StepFailure) -> Failed
     ensures { (big : Sight) → failure big result ≡ step_failure why }
 {
     match why {
@@ -52,7 +54,8 @@ fn act_step(alloc: Global, m: &mut State, costs: &Costs, instr: &Simple) -> Resu
     }
 }
 
-// Memory, so far, for those that pack, hash, or work on big maps.
+// Memory, so far, for those that unpack, or look a contract up.
+#[tactic(auto, using(crate::proofs::Keeping::acts_group))]
 pub(crate) fn act_straight(
     alloc: Global,
     m: &mut State,
@@ -72,6 +75,8 @@ pub(crate) fn act_straight(
     }
     match instr {
         Simple::Operations(row) => Ok(act_operation(alloc, m, costs, world, bodies, row)?),
-        _ => Err(Memory),
+        Simple::Hashes(row) => Ok(act_packing(alloc, m, costs, row)?),
+        Simple::Collections(row) => Ok(act_big_map(alloc, m, costs, world, row)?),
+        _ => unreachable!(),
     }
 }

@@ -5,5 +5,5 @@ mod prices;
 mod texts;
 mod weights;
 
-pub use prices::price;
+pub use prices::{collection_price, hash_price, price};
 pub use weights::weigh;

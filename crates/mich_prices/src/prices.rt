@@ -50,7 +50,8 @@ fn union_price(row: &UnionRow) -> Kind
     }
 }
 
-fn collection_price(row: &CollectionRow) -> Kind
+/// The kind of one on collections.
+pub fn collection_price(row: &CollectionRow) -> Kind
     ensures { result ≡ collection_kind (collection_row row.now) }
 {
     match row {
@@ -115,7 +116,8 @@ fn text_price(row: &TextRow) -> Kind
     }
 }
 
-fn hash_price(row: &HashRow) -> Kind
+/// The kind of one that packs, unpacks or hashes.
+pub fn hash_price(row: &HashRow) -> Kind
     ensures { result ≡ hash_kind (hash_row row.now) }
 {
     match row {

@@ -1,10 +1,11 @@
 // What instructions without bodies weigh on a stack.
-ghost use Rattle.std.specs.Prelude.{◌≡◌, take, slice_get, option_map, IfOk};
+ghost use Rattle.std.specs.Prelude.{◌≡◌, true, false, take, slice_get, option_map, IfOk};
 ghost use Rattle.std.specs.List.{sum_by};
 ghost use Rattle.rules_instructions.specs.Straight as i;
 ghost use Rattle.rules_values.specs.Weight.{weight as whole};
 ghost use Rattle.rules_steps.specs.Costs.{weight_of, weight_found, stack_weight, collection_weight};
 ghost use Rattle.mich_overload.specs.View.{straight, stack_row, collection_row};
+ghost use Rattle.mich_overload.specs.Steps.{in_step, is_on_big_map};
 ghost use Rattle.mich_term.specs.Weights.{capped};
 ghost use Rattle.mich_stack.specs.Views.{Sight, seen, values};
 
@@ -70,27 +71,29 @@ fn map_weight(alloc: Global, stack: &Rows<Value>) -> Result<u64, Memory>
     Ok(found_weight(value_in(table, &key)))
 }
 
-// What one on collections weighs. Memory, so far, where a value is looked up in a big map.
+// What one on collections weighs.
 fn collection_weight(alloc: Global, row: &CollectionRow, stack: &Rows<Value>) -> Result<u64, Memory>
+    requires { is_on_big_map (collection_row row.now) ≡ false }
     ensures { IfOk result (λ w. (big : Sight) → w ≡ capped (collection_weight (collection_row row.now) (values big stack.now))) }
 {
     match row {
         CollectionRow::GetMap => Ok(map_weight(alloc, stack)?),
-        CollectionRow::GetBigMap => Err(Memory),
+        CollectionRow::GetBigMap => unreachable!(),
         _ => Ok(0),
     }
 }
 
-/// What an instruction weighs on a stack, up to 2^64-1. Memory where the stack doesn't fit it; and, so far, for those that look a
-/// value up in a big map, pack or hash (this host's cost table).
+/// What an instruction weighs on a stack, up to 2^64-1. Memory where the stack doesn't fit it. Not for instructions that pack, hash,
+/// look up or issue, or work on big maps (this host's cost table).
 pub fn weigh(alloc: Global, instr: &Simple, stack: &Rows<Value>) -> Result<u64, Memory>
+    requires { in_step (straight instr.now) ≡ true }
     ensures { IfOk result (λ w. (big : Sight) → w ≡ capped (weight_of (straight instr.now) (values big stack.now))) }
 {
     match instr {
         Simple::Stack(row) => Ok(order_weight(row, stack)),
         Simple::Collections(row) => Ok(collection_weight(alloc, row, stack)?),
         Simple::Texts(row) => Ok(text_weight(row, stack)?),
-        Simple::Hashes(_) => Err(Memory),
+        Simple::Hashes(_) => unreachable!(),
         _ => Ok(0),
     }
 }
