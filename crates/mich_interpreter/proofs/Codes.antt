@@ -8,9 +8,10 @@ use Rattle.mich_base.specs.declared.ty.Ty.{Ty}
 use Rattle.mich_overload.specs.View.{straight}
 use Rattle.mich_overload.specs.declared.simple.Simple.{Simple}
 use Rattle.mich_instr.specs.Code as made
-use Rattle.mich_instr.specs.View.{code, codes}
+use Rattle.mich_instr.specs.View.{code, codes, script_code}
 use Rattle.mich_instr.specs.declared.instr.Instr.{Instr}
 use Rattle.mich_instr.specs.declared.instr.Instr as instrs
+use Rattle.mich_instr.specs.declared.instr.Script.{Script}
 use Rattle.mich_instr.specs.declared.instr.Instr.TheVariants as instr
 
 pub code_seq : (is : List Instr) → code (instr.Seq is) ≡ made.seq (codes is)
@@ -58,6 +59,12 @@ code_lambda recursive a r written body is = search (rules, instrs.the_lemmas)
 
 pub code_exec : (a r : Ty) → code (instr.Exec a r) ≡ made.exec (kind a) (kind r)
 code_exec a r = search (rules, instrs.the_lemmas)
+
+pub code_apply : (a b r : Ty) → code (instr.Apply a b r) ≡ made.apply (kind a) (kind b) (kind r)
+code_apply a b r = search (rules, instrs.the_lemmas)
+
+pub code_create : (s : Script) → code (instr.CreateContract s) ≡ made.create_contract (script_code s)
+code_create s = search (rules, instrs.the_lemmas)
 
 pub code_never : code instr.Never ≡ made.never
 code_never = search (rules, instrs.the_lemmas)

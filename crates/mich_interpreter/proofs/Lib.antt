@@ -32,3 +32,6 @@ pub mod Hashed
 pub mod Plain
 pub mod BigMapRows
 pub mod Dropped
+pub mod Executed
+pub mod Captured
+pub mod Founded

@@ -10,3 +10,4 @@ pub mod Begins
 pub mod Callers
 pub mod Viewing
 pub mod Visits
+pub mod Calls

@@ -1,6 +1,5 @@
 -- Unions, options and lists on top of a stack.
 use Rattle.std.specs.Prelude.{pos, Bool, true, false, List, ◌∷◌}
-use Rattle.rules_base.specs.Tree.{seq}
 use Rattle.rules_values.specs.Val.{Val, no_val, more_vals}
 use Rattle.rules_values.specs.Val as v
 
@@ -26,11 +25,6 @@ opened (v.list (more_vals x xs) ∷ V) = x ∷ v.list xs ∷ V
 opened (v.list no_val ∷ V) = V
 opened V = V
 
--- a lambda on top, whose body is a sequence
-abbrev pub HasLambda : List Val → Type 0
-HasLambda (v.lambda (seq body) recursive ∷ V) = Unit {0}
-HasLambda _ = ⊥
-
 -- an amount, and an address
 abbrev pub HasAmount : List Val → Type 0
 HasAmount (v.number (pos amount) ∷ V) = Unit {0}
@@ -39,3 +33,13 @@ HasAmount _ = ⊥
 abbrev pub HasAddress : List Val → Type 0
 HasAddress (v.bytes b ∷ V) = Unit {0}
 HasAddress _ = ⊥
+
+-- a key hash, and an option of one on top
+abbrev pub HasKeyHash : Val → Type 0
+HasKeyHash (v.bytes b) = Unit {0}
+HasKeyHash _ = ⊥
+
+abbrev pub HasDelegate : List Val → Type 0
+HasDelegate (v.nothing ∷ V) = Unit {0}
+HasDelegate (v.some (v.bytes b) ∷ V) = Unit {0}
+HasDelegate _ = ⊥

@@ -1,16 +1,108 @@
-// Calls of lambdas, and FAILWITH.
-ghost use Rattle.std.specs.Prelude.{◌≡◌, IfOk};
+// EXEC, FAILWITH and NEVER.
+ghost use Rattle.std.specs.Prelude.{◌≡◌, ◌∷◌, ◌<◌, ◌^◌, [], None, IfOk};
+ghost use Rattle.rules_base.specs.Tree.{seq, size};
+ghost use Rattle.rules_instructions.specs.Context as place;
+ghost use Rattle.rules_instructions.specs.Control.{call_kinds};
+ghost use Rattle.rules_typing.specs.Literals.{lambda_fault};
+ghost use Rattle.rules_values.specs.Val.{lambda};
 ghost use Rattle.mich_base.specs.TypeView.{kind};
+ghost use Rattle.mich_base.specs.View.{tree};
+ghost use Rattle.mich_control.specs.Answers.{inside};
 ghost use Rattle.mich_instr.specs.Code as made;
+ghost use Rattle.mich_instr.specs.Typed.{AreCode};
+ghost use Rattle.mich_instr.specs.View.{codes};
+ghost use Rattle.mich_stack.specs.Views.{Sight, seen};
+ghost use Rattle.mich_interpreter.specs.View.{tops};
+ghost use Rattle.mich_interpreter.specs.Calls.{HasLambda, called};
 ghost use Rattle.mich_interpreter.specs.Ends.{Comes, Carries, Spends};
 
 use crate::act::{Act, Failed};
+use crate::frame::Frame;
 use crate::paying::pay;
-use crate::stack::pop;
+use crate::stack::{pop, push};
 use crate::state::State;
-use mich_base::{Memory, Ty, copy_type};
+use mich_base::{Memory, Node, Rows, Shared, Ty, copy_type};
+use mich_check::{CheckError, check_body};
 use mich_gas::{Costs, Kind};
+use mich_instr::Block;
+use mich_term::Value;
 use std::alloc::Global;
+use std::mem;
+
+// Takes the lambda on top: its body, and whether it is recursive.
+pub(crate) fn pop_lambda(stack: &mut Rows<Value>) -> (Shared<Node>, bool)
+    requires { (big : Sight) × HasLambda (tops big stack.old) }
+    ensures { (big : Sight) → tops big stack.old ≡ lambda (tree result.0) result.1 ∷ tops big stack.new }
+{
+    match stack.pop() {
+        Some(Value::Lambda(body, recursive)) => (body, recursive),
+        _ => unreachable!(),
+    }
+}
+
+// The typed code of a body, which is of these types.
+fn body_code(
+    alloc: Global,
+    arg: &Ty,
+    ret: &Ty,
+    recursive: bool,
+    body: &Node,
+) -> Result<Block, Memory>
+    requires sequence { tree body.now ≡ seq (inside (tree body.now)) }
+    requires fits { size (tree body.now) < 2 ^ 32 }
+    requires typed { lambda_fault (kind arg.now) (kind ret.now) recursive (tree body.now) ≡ None }
+    ensures { IfOk result (λ code. AreCode place.lambda (inside (tree body.now)) (codes code) (call_kinds (kind arg.now) (kind ret.now) recursive) (kind ret.now ∷ [])) }
+{
+    match check_body(alloc, arg, ret, recursive, body) {
+        Ok(code) => Ok(code),
+        Err(CheckError::IllTyped(_)) => unreachable!(),
+        Err(CheckError::Memory) => Err(Memory),
+    }
+}
+
+// The stack that a body begins with: the argument, and below it a recursive lambda itself.
+fn call_stack(
+    alloc: Global,
+    argument: Value,
+    body: Shared<Node>,
+    recursive: bool,
+) -> Result<Rows<Value>, Memory>
+    ensures { IfOk result (λ s. (big : Sight) → tops big s ≡ called (seen big argument) (tree body) recursive) }
+{
+    let mut stack = Rows::new(alloc);
+    if !recursive {
+        push(&mut stack, argument)?;
+        return Ok(stack);
+    }
+    push(&mut stack, Value::Lambda(body, true))?;
+    push(&mut stack, argument)?;
+    Ok(stack)
+}
+
+pub(crate) fn act_exec(
+    alloc: Global,
+    m: &mut State,
+    costs: &Costs,
+    arg: &Ty,
+    ret: &Ty,
+) -> Result<Act, Memory>
+    requires { Comes (made.exec (kind arg.now) (kind ret.now)) costs.now m.old }
+    ensures acts { Carries (made.exec (kind arg.now) (kind ret.now)) costs.now m.old m.new result }
+    ensures less { IfOk result (λ a. Spends a m.old.meter m.new.meter) }
+    ensures ledger { m.new.ledger ≡ m.old.ledger }
+    ensures counts { m.new.counts ≡ m.old.counts }
+    ensures issued { m.new.issued ≡ m.old.issued }
+{
+    if !pay(&mut m.meter, costs, Kind::Exec, 0) {
+        return Ok(Act::Failed(Failed::OutOfGas));
+    }
+    let argument = pop(&mut m.stack);
+    let (body, recursive) = pop_lambda(&mut m.stack);
+    let code = body_code(alloc, arg, ret, recursive, body.get())?;
+    let stack = call_stack(alloc, argument, body, recursive)?;
+    let below = mem::replace(&mut m.stack, stack);
+    Ok(Act::Open(Some(Frame::Call(below)), code))
+}
 
 pub(crate) fn act_failwith(
     alloc: Global,

@@ -36,7 +36,7 @@ use std::alloc::Global;
 const MOST_ISSUED: u32 = 65_535;
 
 // Takes the amount of mutez on top. None where it is past 2^64-1.
-fn pop_amount(stack: &mut Rows<Value>) -> Option<u64>
+pub(crate) fn pop_amount(stack: &mut Rows<Value>) -> Option<u64>
     requires { (big : Sight) × HasAmount (tops big stack.old) }
     ensures { IfSome result (λ n. (big : Sight) → tops big stack.old ≡ number (pos n) ∷ tops big stack.new) }
 {
@@ -47,7 +47,7 @@ fn pop_amount(stack: &mut Rows<Value>) -> Option<u64>
 }
 
 // Counts one more operation, and gives its number. None where there are as many as there may be.
-fn count_operation(counts: &mut Counts) -> Option<u32>
+pub(crate) fn count_operation(counts: &mut Counts) -> Option<u32>
     ensures number { MatchOption result (operation_limit ≤ counts.old.issued) (λ n. (n ≡ counts.old.issued) × (n < operation_limit) × (counts.new.issued ≡ n + 1)) }
     ensures others { (counts.new.originated ≡ counts.old.originated) × (counts.new.group ≡ counts.old.group) }
 {

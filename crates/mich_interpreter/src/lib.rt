@@ -2,6 +2,7 @@
 #![tactic(auto)]
 
 mod act;
+mod applying;
 mod beginning;
 mod big_maps;
 mod bodies;
@@ -10,6 +11,7 @@ mod burning;
 mod callers;
 mod calls;
 mod contracts;
+mod creating;
 mod dipping;
 mod frame;
 mod giving;

@@ -13,10 +13,12 @@ ghost use Rattle.mich_interpreter.specs.Callers.{InCall, SomeStart};
 ghost use Rattle.mich_interpreter.specs.Runs.{InBlock, Behind, HasActedIn, IsStep, IsBegun, IsSpent, IsPaidStep, IsSettled, HasLeft, with_below, with_rest, SomeRun, SomeEnd, IsEnd, KeepsStep, KeepsEnd, IsNoBlock, IsNoSequence};
 
 use crate::act::{Act, Failed, View};
+use crate::applying::act_apply;
 use crate::bodies::Bodies;
 use crate::branches::{act_if, act_if_cons, act_if_left, act_if_none};
 use crate::callers::{enter, go_back, go_home};
-use crate::calls::{act_failwith, act_never};
+use crate::calls::{act_exec, act_failwith, act_never};
+use crate::creating::act_create;
 use crate::dipping::act_dip;
 use crate::frame::Frame;
 use crate::giving::{act_lambda, act_push, act_self};
@@ -66,7 +68,7 @@ pub enum Ended {
 }
 
 // An instruction, which isn't a sequence.
-#[tactic(auto, using(crate::proofs::Keeping::acts_same, crate::proofs::Keeping::same_keeps))]
+#[tactic(auto, using(crate::proofs::Keeping::acts_same, crate::proofs::Keeping::acts_group, crate::proofs::Keeping::same_keeps))]
 fn perform(
     alloc: Global,
     m: &mut State,
@@ -91,6 +93,12 @@ fn perform(
         Instr::Iter(body) => Ok(act_iter(alloc, m, costs, body)?),
         Instr::Map(body) => Ok(act_map(alloc, m, costs, body)?),
         Instr::Dip { count, body, .. } => Ok(act_dip(alloc, m, costs, *count, body)?),
+        Instr::Exec { arg, ret } => Ok(act_exec(alloc, m, costs, arg, ret)?),
+        Instr::Apply {
+            captured,
+            rest,
+            ret,
+        } => Ok(act_apply(alloc, m, costs, captured, rest, ret)?),
         Instr::Failwith(ty) => Ok(act_failwith(alloc, m, costs, ty)?),
         Instr::Lambda {
             recursive,
@@ -101,8 +109,8 @@ fn perform(
         Instr::Push { ty, literal, .. } => Ok(act_push(alloc, m, costs, ty, literal)?),
         Instr::SelfContract { entrypoint, .. } => Ok(act_self(alloc, m, costs, entrypoint)?),
         Instr::Straight(simple, _) => Ok(act_straight(alloc, m, costs, world, bodies, simple)?),
+        Instr::CreateContract(script) => Ok(act_create(alloc, m, costs, script)?),
         Instr::Seq(_) => unreachable!(),
-        _ => Err(Memory),
     }
 }
 

@@ -3,7 +3,7 @@ use Rattle.mich_base.specs.View.{tree, trees}
 use Rattle.mich_base.specs.TypeView.{kind}
 use Rattle.mich_instr.specs.View.{code, codes}
 use Rattle.mich_base.specs.View.{app_tree}
-use Rattle.mich_interpreter.proofs.Codes.{code_if, code_if_none, code_if_left, code_if_cons, code_loop, code_loop_left, code_iter, code_map, code_dip, code_failwith, code_lambda, code_never, code_push, code_self, code_straight}
+use Rattle.mich_interpreter.proofs.Codes.{code_if, code_if_none, code_if_left, code_if_cons, code_loop, code_loop_left, code_iter, code_map, code_dip, code_exec, code_apply, code_create, code_failwith, code_lambda, code_never, code_push, code_self, code_straight}
 use Rattle.mich_interpreter.proofs.machine.perform.Goals as goal
 
 pub act_dip-requires : goal.act_dip-requires
@@ -148,3 +148,32 @@ act_never-requires c =
 pub returns-in_ok-act_never-in-Never-clause-acts : goal.returns-in_ok-act_never-in-Never-clause-acts
 returns-in_ok-act_never-in-Never-clause-acts c = λ x fs d Z o h w.
     c.in_ok-act_never-in-Never.ensures.acts x fs d Z o (rw (ap code c.in-Never.is ∙ code_never) at h)
+
+pub act_exec-requires : goal.act_exec-requires
+act_exec-requires c =
+    let r = c.requires.comes in
+    (r.0, r.1, r.2, r.3, r.4, rw (ap code c.in-Exec.is ∙ code_exec c.in-Exec.arg c.in-Exec.ret) at r.5)
+
+pub returns-in_ok-act_exec-in-Exec-clause-acts : goal.returns-in_ok-act_exec-in-Exec-clause-acts
+returns-in_ok-act_exec-in-Exec-clause-acts c = λ x fs d Z o h.
+    c.in_ok-act_exec-in-Exec.ensures.acts x fs d Z o (rw (ap code c.in-Exec.is ∙ code_exec c.in-Exec.arg c.in-Exec.ret) at h)
+
+pub act_apply-requires : goal.act_apply-requires
+act_apply-requires c =
+    let r = c.requires.comes in
+    let a = c.in-Apply in
+    (r.0, r.1, r.2, r.3, r.4, rw (ap code a.is ∙ code_apply a.captured a.rest a.ret) at r.5)
+
+pub returns-in_ok-act_apply-in-Apply-clause-acts : goal.returns-in_ok-act_apply-in-Apply-clause-acts
+returns-in_ok-act_apply-in-Apply-clause-acts c = λ x fs d Z o h.
+    let a = c.in-Apply in
+    c.in_ok-act_apply-in-Apply.ensures.acts x fs d Z o (rw (ap code a.is ∙ code_apply a.captured a.rest a.ret) at h)
+
+pub act_create-requires : goal.act_create-requires
+act_create-requires c =
+    let r = c.requires.comes in
+    (r.0, r.1, r.2, r.3, r.4, rw (ap code c.in-CreateContract.is ∙ code_create c.in-CreateContract.script) at r.5)
+
+pub returns-in_ok-act_create-in-CreateContract-clause-acts : goal.returns-in_ok-act_create-in-CreateContract-clause-acts
+returns-in_ok-act_create-in-CreateContract-clause-acts c = λ x fs d Z o h.
+    c.in_ok-act_create-in-CreateContract.ensures.acts x fs d Z o (rw (ap code c.in-CreateContract.is ∙ code_create c.in-CreateContract.script) at h)

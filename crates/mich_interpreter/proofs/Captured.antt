@@ -1,0 +1,77 @@
+-- Values that lambdas capture.
+use Rattle.std.proofs.Common.{◌≡◌, ◌<◌, ◌≤◌, ℕ, Bool, true, false, List, [], ◌∷◌, ap, sym, ◌∙◌}
+use Rattle.rules_base.specs.Tree.{Tree, int, str, bytes, prim, seq, Trees, none, size}
+use Rattle.rules_base.specs.Tree.{depth as levels}
+use Rattle.rules_gas.specs.declared.Kind.TheVariants as g
+use Rattle.rules_types.specs.Kind.{Kind}
+use Rattle.rules_types.specs.Kind as k
+use Rattle.rules_types.specs.Attributes.{pushable}
+use Rattle.rules_values.specs.Val.{Val}
+use Rattle.rules_values.specs.Val as v
+use Rattle.rules_values.specs.Weight.{weight}
+use Rattle.rules_steps.specs.Failure as f
+use Rattle.rules_typing.specs.Fits.{Fits}
+use Rattle.rules_evaluation.specs.Calls.{applied, applied_size, applied_depth, within_bounds}
+use Rattle.rules_evaluation.specs.Operations.{Tally}
+use Rattle.rules_evaluation.specs.Outcome.{Outcome, stack, failed, after, only_if, charge}
+use Rattle.laws_evaluation.specs.Laws.{known}
+use Rattle.laws_types.proofs.SameKinds.{same_kind_refl}
+use Rattle.laws_sights.proofs.Fitting.{pushable_seen}
+use Rattle.mich_term.specs.ValueView.{val}
+use Rattle.mich_term.specs.declared.value.Value.{Value}
+use Rattle.mich_stack.specs.Views.{Sight, seen}
+use Rattle.mich_instr.specs.Code as made
+use Rattle.mich_instr.specs.Typed.{is_apply}
+use Rattle.mich_frames.specs.Around.{Around, at, less, Pays, Lacks}
+use Rattle.mich_frames.specs.Frames.{Frame}
+use Rattle.mich_frames.specs.Pending.{depth_of, resume}
+use Rattle.mich_frames.specs.Stands.{StandsAt, MeetsAt}
+use Rattle.mich_frames.specs.Shapes.{HasCall}
+use Rattle.mich_frames.proofs.Calls.{apply_top, apply_acts, apply_large, apply_deep, apply_broke}
+use Rattle.mich_frames.proofs.Made.{FineCase, meets_fine, form_is}
+use Rattle.mich_frames.proofs.Shapes.{holds}
+
+module _ {fs : List Frame} {u : Around} {m : Tally} {d : ℕ} {Z : List Kind} {o : Outcome} {a b r : Kind} where
+  captured_fits : (x : Val) (ts : Trees) (recursive : Bool) (W : List Val) → MeetsAt (made.apply a b r) fs u (x ∷ v.lambda (seq ts) recursive ∷ W) m d Z o → (pushable a ≡ true) × Fits (known u.contract_at m.issued) a x
+  captured_fits x ts recursive W h = meets_fine h by
+    where
+      by : FineCase (made.apply a b r) fs u (x ∷ v.lambda (seq ts) recursive ∷ W) m d Z o ((pushable a ≡ true) × Fits (known u.contract_at m.issued) a x)
+      by ps c _ _ _ (is_apply {name = name} {annots = annots} {A = A} form) rests depth same typed small fine =
+          let charged : Outcome = charge u.prices g.Apply (weight x) m (λ m. within_bounds (applied a b r x (seq ts) recursive) (λ body. stack (k.lambda b r ∷ A) (v.lambda body false ∷ W) m)) in
+          let go : Outcome = only_if (pushable a) charged in
+          let one : after go (resume ps (at u c)) ≡ o =
+          ap (λ q. after (only_if q go) (resume ps (at u c))) (sym (same_kind_refl a)) ∙ ap (λ p. after p (resume ps (at u c))) (sym (form_is _ name annots none (at u c) (depth_of ps) (a ∷ k.lambda (k.pair a b) r ∷ A) (x ∷ v.lambda (seq ts) recursive ∷ W) m form)) ∙ same in
+          (holds (resume ps (at u c)) o h.runs.sound (pushable a) charged one, fine.fits.0)
+
+  -- what is captured is seen alike by all
+  pub captured_seen : (big : Sight) (x : Value) (t : Tree) (recursive : Bool) (W : List Val) → MeetsAt (made.apply a b r) fs u (seen big x ∷ v.lambda t recursive ∷ W) m d Z o → seen big x ≡ val x
+  captured_seen big x (seq ts) recursive W h = let f = captured_fits (seen big x) ts recursive W h in pushable_seen (known u.contract_at m.issued) big a x f.0 f.1
+  captured_seen big x _ recursive W h = absurd (apply_top h)
+
+  pub apply_any_broke : (x : Val) (V : List Val) → Lacks u g.Apply (weight x) m → MeetsAt (made.apply a b r) fs u (x ∷ V) m d Z o → HasCall (x ∷ V) → o ≡ failed f.out_of_gas
+  apply_any_broke x (v.lambda (seq ts) recursive ∷ W) lacks h top = apply_broke x ts recursive W h lacks
+  apply_any_broke x _ lacks h top = absurd top
+
+  module _ (x : Val) (t : Tree) (recursive : Bool) (W : List Val) (h : MeetsAt (made.apply a b r) fs u (x ∷ v.lambda t recursive ∷ W) m d Z o) (pays : Pays u g.Apply (weight x) m) where
+    pub apply_any_acts : size (applied a b r x t recursive) ≤ applied_size → levels (applied a b r x t recursive) ≤ applied_depth →
+        StandsAt fs u (v.lambda (applied a b r x t recursive) false ∷ W) (less u g.Apply (weight x) m) d Z o
+    apply_any_acts = by t h
+      where
+        by : (t : Tree) → MeetsAt (made.apply a b r) fs u (x ∷ v.lambda t recursive ∷ W) m d Z o → size (applied a b r x t recursive) ≤ applied_size → levels (applied a b r x t recursive) ≤ applied_depth →
+            StandsAt fs u (v.lambda (applied a b r x t recursive) false ∷ W) (less u g.Apply (weight x) m) d Z o
+        by (seq ts) h i j = apply_acts x ts recursive W h pays i j
+        by _ h i j = absurd (apply_top h)
+
+    pub apply_any_large : applied_size < size (applied a b r x t recursive) → o ≡ failed f.size_limit
+    apply_any_large = by t h
+      where
+        by : (t : Tree) → MeetsAt (made.apply a b r) fs u (x ∷ v.lambda t recursive ∷ W) m d Z o → applied_size < size (applied a b r x t recursive) → o ≡ failed f.size_limit
+        by (seq ts) h i = apply_large x ts recursive W h pays i
+        by _ h i = absurd (apply_top h)
+
+    pub apply_any_deep : size (applied a b r x t recursive) ≤ applied_size → applied_depth < levels (applied a b r x t recursive) → o ≡ failed f.depth_limit
+    apply_any_deep = by t h
+      where
+        by : (t : Tree) → MeetsAt (made.apply a b r) fs u (x ∷ v.lambda t recursive ∷ W) m d Z o → size (applied a b r x t recursive) ≤ applied_size → applied_depth < levels (applied a b r x t recursive) → o ≡ failed f.depth_limit
+        by (seq ts) h i j = apply_deep x ts recursive W h pays i j
+        by _ h i j = absurd (apply_top h)

@@ -1,0 +1,81 @@
+-- Originations by scripts.
+use Rattle.std.proofs.Common.{◌≡◌, ◌≤◌, ◌<◌, ◌+◌, ℕ, suc, List, [], ◌∷◌, Option, Some, None, refl, subst}
+use Rattle.std.specs.Prelude.{pos}
+use Rattle.rules_base.specs.Tree.{Tree}
+use Rattle.rules_gas.specs.declared.Kind.TheVariants as g
+use Rattle.rules_types.specs.Kind.{Kind}
+use Rattle.rules_values.specs.Val.{Val}
+use Rattle.rules_values.specs.Val as v
+use Rattle.rules_forms.specs.Spelling.{contract_place}
+use Rattle.rules_steps.specs.Failure as f
+use Rattle.rules_evaluation.specs.Issuing.{operation_limit, with_operation, with_origination}
+use Rattle.rules_evaluation.specs.Operations.{Tally, new_contract}
+use Rattle.rules_evaluation.specs.Outcome.{Outcome, failed}
+use Rattle.mich_instr.specs.Code.{Code, ScriptCode}
+use Rattle.mich_instr.specs.Code as made
+use Rattle.mich_instr.specs.Typed.{IsScript, is_create}
+use Rattle.mich_instr.specs.View.{node_of}
+use Rattle.mich_frames.specs.Around.{Around, less, Pays, Lacks}
+use Rattle.mich_frames.specs.Frames.{Frame}
+use Rattle.mich_frames.specs.Rows.{origination_of}
+use Rattle.mich_frames.specs.Stands.{StandsAt, MeetsAt}
+use Rattle.mich_frames.specs.Shapes.{HasTop, HasOrigination, delegate_value}
+use Rattle.mich_frames.proofs.Creating.{create_top, create_acts, create_over, create_broke}
+use Rattle.mich_frames.proofs.Made.{Case, meets_by}
+use Rattle.mich_interpreter.specs.Parts.{HasAmount, HasDelegate}
+
+-- ---- a delegate, an amount and a storage
+
+pub delegate_first : (V : List Val) → HasOrigination V → HasDelegate V
+delegate_first (v.nothing ∷ v.number (pos n) ∷ y ∷ W) h = tt
+delegate_first (v.some (v.bytes b) ∷ v.number (pos n) ∷ y ∷ W) h = tt
+delegate_first _ h = absurd h
+
+pub amount_second : (delegate : Option (List ℕ)) (V : List Val) → HasOrigination (delegate_value delegate ∷ V) → HasAmount V
+amount_second None (v.number (pos n) ∷ y ∷ W) h = tt
+amount_second (Some b) (v.number (pos n) ∷ y ∷ W) h = tt
+amount_second None _ h = absurd h
+amount_second (Some b) _ h = absurd h
+
+pub storage_third : (delegate : Option (List ℕ)) (x : Val) (V : List Val) → HasOrigination (delegate_value delegate ∷ x ∷ V) → HasTop V
+storage_third None x (y ∷ W) h = tt
+storage_third (Some b) x (y ∷ W) h = tt
+storage_third None (v.number (pos n)) [] h = absurd h
+storage_third (Some b) (v.number (pos n)) [] h = absurd h
+storage_third None _ [] h = absurd h
+storage_third (Some b) _ [] h = absurd h
+
+-- ---- CREATE_CONTRACT
+
+module _ {fs : List Frame} {u : Around} {m : Tally} {d : ℕ} {Z : List Kind} {o : Outcome} where
+  -- its script is typed
+  pub create_typed : (s : ScriptCode) {V : List Val} → MeetsAt (made.create_contract s) fs u V m d Z o → IsScript (node_of s) s
+  create_typed s {V = V} h = meets_by h (by s)
+    where
+      by : (s : ScriptCode) → Case (made.create_contract s) fs u V m d Z o (IsScript (node_of s) s)
+      by _ ps c _ _ _ (is_create form goes_is fine) rests depth same = fine
+
+  pub create_any_top : (s : ScriptCode) {V : List Val} → MeetsAt (made.create_contract s) fs u V m d Z o → HasOrigination V
+  create_any_top (made.script t a es b is vs) h = create_top t h
+
+  pub create_any_broke : (s : ScriptCode) (V : List Val) → Lacks u g.CreateContract 0 m → MeetsAt (made.create_contract s) fs u V m d Z o → HasOrigination V → o ≡ failed f.out_of_gas
+  create_any_broke (made.script t a es b is vs) (v.nothing ∷ v.number (pos n) ∷ y ∷ W) lacks h top = create_broke t None n y W h lacks
+  create_any_broke (made.script t a es b is vs) (v.some (v.bytes k) ∷ v.number (pos n) ∷ y ∷ W) lacks h top = create_broke t (Some k) n y W h lacks
+  create_any_broke _ _ lacks h top = absurd top
+
+  module _ (s : ScriptCode) (delegate : Option (List ℕ)) (amount : ℕ) (storage : Val) (W : List Val) where
+    pub create_any_acts : Pays u g.CreateContract 0 m → m.operations < operation_limit → MeetsAt (made.create_contract s) fs u (delegate_value delegate ∷ v.number (pos amount) ∷ storage ∷ W) m d Z o →
+        StandsAt fs u (v.operation m.operations ∷ v.bytes (contract_place (new_contract u.group m.originations)) ∷ W)
+        (with_operation (with_origination (less u g.CreateContract 0 m)) (origination_of u m delegate amount (node_of s) storage)) d Z o
+    create_any_acts pays lt h = by s h
+      where
+        by : (s : ScriptCode) → MeetsAt (made.create_contract s) fs u (delegate_value delegate ∷ v.number (pos amount) ∷ storage ∷ W) m d Z o →
+            StandsAt fs u (v.operation m.operations ∷ v.bytes (contract_place (new_contract u.group m.originations)) ∷ W)
+            (with_operation (with_origination (less u g.CreateContract 0 m)) (origination_of u m delegate amount (node_of s) storage)) d Z o
+        by (made.script t a es b is vs) h = create_acts t delegate amount storage W h pays lt
+
+    pub create_any_over : Pays u g.CreateContract 0 m → operation_limit ≤ m.operations → MeetsAt (made.create_contract s) fs u (delegate_value delegate ∷ v.number (pos amount) ∷ storage ∷ W) m d Z o → o ≡ failed f.too_many_operations
+    create_any_over pays le h = by s h
+      where
+        by : (s : ScriptCode) → MeetsAt (made.create_contract s) fs u (delegate_value delegate ∷ v.number (pos amount) ∷ storage ∷ W) m d Z o → o ≡ failed f.too_many_operations
+        by (made.script t a es b is vs) h = create_over t delegate amount storage W h pays le

@@ -1,0 +1,15 @@
+-- Lambdas on top of a stack, and the values that their bodies begin with.
+use Rattle.std.specs.Prelude.{Bool, true, false, List, [], ◌∷◌}
+use Rattle.rules_base.specs.Tree.{Tree, seq}
+use Rattle.rules_values.specs.Val.{Val}
+use Rattle.rules_values.specs.Val as v
+
+-- a lambda on top, whose body is a sequence
+abbrev pub HasLambda : List Val → Type 0
+HasLambda (v.lambda (seq body) recursive ∷ V) = Unit {0}
+HasLambda _ = ⊥
+
+-- the argument, and below it a recursive lambda itself
+abbrev pub called : Val → Tree → Bool → List Val
+called x body true = x ∷ v.lambda body true ∷ []
+called x body false = x ∷ []
