@@ -77,3 +77,8 @@ on_none _ content answer e h = subst (λ (c : Command). IsTold c content → IsA
 
 pub at_ok : (P : Reply → Type 0) (r : Result Reply Memory) (a : Reply) → r ≡ Ok a → IfOk r P → P a
 at_ok P r a e h = subst (λ (q : Result Reply Memory). IfOk q P) e h
+
+-- after status 0 no more was read than a file may have
+pub done_end : (verb : Verb) (read : List ℕ) (r : Result Reply Memory) → IfOk r (λ a. IsVerbAnswer verb read (answer_seen a)) → IfOk r (λ a. a.status ≡ 0 → length read ≤ file_limit)
+done_end verb read (Ok a) p = λ zero. verb_done verb read (answer_seen a) p zero
+done_end verb read (Err e) p = tt

@@ -15,11 +15,11 @@ use Rattle.rules_replay.specs.Commands.{Command, OnFile, NoCommand, Verb, Replay
 
 -- ---- what stands at a place
 
-record SameNode (s t : Placed) (b c : ℕ) : Type 0 where
-  statement : s ≡ t
-  behind : b ≡ c
+pub record SameNode (s t : Placed) (b c : ℕ) : Type 0 where
+  pub statement : s ≡ t
+  pub behind : b ≡ c
 
-one-node : (file : List ℕ) (p : ℕ) (s t : Placed) (b c : ℕ) → IsNodeAt file p s.node s.place b → IsNodeAt file p t.node t.place c → SameNode s t b c
+pub one-node : (file : List ℕ) (p : ℕ) (s t : Placed) (b c : ℕ) → IsNodeAt file p s.node s.place b → IsNodeAt file p t.node t.place c → SameNode s t b c
 one-node file p s t b c m n =
     let one = one_statement (drop p file) s.node t.node m.0 m.1 n.0 n.1 m.2.stands n.2.stands in
     let place : s.place ≡ t.place = omega (arith, one.1, m.3, n.3) in
@@ -33,10 +33,10 @@ fault-at file p k j a b m n =
     let one = one_fault p (drop p file) k j m.0 n.0 m.1 n.1 in
     (one.1, omega (arith, one.0, m.2, n.2))
 
-node-and-fault : (file : List ℕ) (p : ℕ) (t : Tree) (a b : ℕ) (k : TextKind) (c : ℕ) → IsNodeAt file p t a b → IsFaultAt file p k c → ⊥
+pub node-and-fault : (file : List ℕ) (p : ℕ) (t : Tree) (a b : ℕ) (k : TextKind) (c : ℕ) → IsNodeAt file p t a b → IsFaultAt file p k c → ⊥
 node-and-fault file p t a b k c m n = no_fault_at_node p (drop p file) k n.0 t m.0 m.1 n.1 m.2
 
-node-and-end : (file : List ℕ) (p : ℕ) (t : Tree) (a b : ℕ) → IsNodeAt file p t a b → IsEndAt file p → ⊥
+pub node-and-end : (file : List ℕ) (p : ℕ) (t : Tree) (a b : ℕ) → IsNodeAt file p t a b → IsEndAt file p → ⊥
 node-and-end file p t a b m e = no_node_at_end p (drop p file) t m.0 m.1 e m.2
 
 fault-and-end : (file : List ℕ) (p : ℕ) (k : TextKind) (c : ℕ) → IsFaultAt file p k c → IsEndAt file p → ⊥
@@ -44,7 +44,7 @@ fault-and-end file p k c n e = no_fault_at_end p (drop p file) k n.0 e n.1
 
 -- ---- replays
 
-stays : (rs : List Receipt) (f : FileFault) (place : ℕ) (ss : List Placed) → run_all (stopped rs f place) ss ≡ stopped rs f place
+pub stays : (rs : List Receipt) (f : FileFault) (place : ℕ) (ss : List Placed) → run_all (stopped rs f place) ss ≡ stopped rs f place
 stays rs f place [] = refl
 stays rs f place (s ∷ ss) = stays rs f place ss
 

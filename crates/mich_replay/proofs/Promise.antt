@@ -1,13 +1,16 @@
--- What is promised, where the whole text was written.
-use Rattle.std.proofs.Common.{◌≡◌, ◌≢◌, ◌≤◌, ℕ, List, [], IsSome, inl, inr, refl, sym, subst, append-nil, arith}
+-- What is promised, where the whole text was written, and where a front of it was.
+use Rattle.std.proofs.Common.{◌≡◌, ◌≢◌, ◌≤◌, ℕ, List, [], ◌∷◌, IsSome, IfOk, Result, Ok, Err, inl, inr, refl, sym, ◌∙◌, subst, append-nil, arith}
 use Rattle.std.specs.declared.option.Option.{Option}
 use Rattle.std.specs.Io.KnownBytes.{Appends, IsAtEnd}
+use Rattle.std.proofs.KnownBytes.{Appends-nil}
 use Rattle.rules_io.specs.Causes.{Rose}
 use Rattle.rules_io.specs.Known.{AppendsFront}
 use Rattle.rules_replay.specs.Lines.{text_of}
 use Rattle.rules_replay.specs.Answers.{Answer}
 use Rattle.rules_replay.specs.Commands.{Command, OnFile, NoCommand, IsOwn, IsTold, IsAnswer, command_of, file_of}
 use Rattle.rules_replay.specs.Promise.{Meets}
+use Rattle.mich_replay.specs.Coming.{Comes}
+use Rattle.mich_replay.specs.declared.stop.Stop.{Stop}
 use Rattle.mich_replay.proofs.Once.{answers-one}
 
 own_known : (command : Command) (status : ℕ) → IsOwn command status → status ≤ 2
@@ -29,44 +32,84 @@ told : (command : Command) (content : List ℕ → Option (List ℕ)) (answer : 
 told (OnFile verb path) content answer h = subst IsSome (sym h.1) refl
 told NoCommand content answer h = tt
 
-module _ (words : List (List ℕ)) (content : List ℕ → Option (List ℕ)) (a b : Option (List ℕ)) (answer : Answer)
-    (exact : IsTold (command_of words) content → IsAnswer (command_of words) content answer) where
-  -- each answer is this one
-  pub front : (other : Answer) → IsAnswer (command_of words) content other → AppendsFront a b (text_of answer.lines) → AppendsFront a b (text_of other.lines)
-  front other h p =
-      let same : answer ≡ other = answers-one (command_of words) content answer other (exact (told (command_of words) content other h)) h in
-      subst (λ (x : Answer). AppendsFront a b (text_of x.lines)) same p
+-- each answer is this one
+front : (command : Command) (content : List ℕ → Option (List ℕ)) (a b : Option (List ℕ)) (answer : Answer) → (IsTold command content → IsAnswer command content answer) →
+    (other : Answer) → IsAnswer command content other → AppendsFront a b (text_of answer.lines) → AppendsFront a b (text_of other.lines)
+front command content a b answer exact other h p =
+    let same : answer ≡ other = answers-one command content answer other (exact (told command content other h)) h in
+    subst (λ (x : Answer). AppendsFront a b (text_of x.lines)) same p
 
-  pub meets : (r0 r1 w0 w1 : ℕ) (left : Option (List ℕ)) → IsOwn (command_of words) answer.status → (answer.status ≡ 0 → IsAtEnd left) → Appends a b (text_of answer.lines)
-      → Meets words content r0 r1 w0 w1 left a b answer.status
-  meets r0 r1 w0 w1 left own end p =
-      let small = own_known (command_of words) answer.status own in
+whole_front : (a b : Option (List ℕ)) (text : List ℕ) → Appends a b text → AppendsFront a b text
+whole_front a b text p = (text, [], sym (append-nil text), p)
+
+-- ---- how a command ends
+
+-- this answer's text was written, with its status; or a front of it was
+abbrev pub Shows : Option (List ℕ) → Option (List ℕ) → Answer → Result ℕ Stop → Type 0
+Shows a b answer (Ok status) = (status ≡ answer.status) × Appends a b (text_of answer.lines)
+Shows a b answer (Err e) = AppendsFront a b (text_of answer.lines)
+
+pub shown : (command : Command) (content : List ℕ → Option (List ℕ)) (a b : Option (List ℕ)) (answer : Answer) (r : Result ℕ Stop) →
+    (IsTold command content → IsAnswer command content answer) → IsOwn command answer.status → Shows a b answer r → Comes command content a b r
+shown what content a b answer (Ok status) exact own p = (answer, exact, own, p.0, p.1)
+shown what content a b answer (Err e) exact own p = λ other h. front what content a b answer exact other h p
+
+-- nothing was written
+pub nothing : (a : Option (List ℕ)) (text : List ℕ) → AppendsFront a a text
+nothing a text = ([], text, refl, Appends-nil a)
+
+-- ---- what is promised
+
+module _ (words : List (List ℕ)) (content : List ℕ → Option (List ℕ)) (a b : Option (List ℕ)) (r0 r1 w0 w1 : ℕ) (left : Option (List ℕ)) where
+  pub meets : (status : ℕ) → Comes (command_of words) content a b (Ok status) → (status ≡ 0 → IsAtEnd left) → Meets words content r0 r1 w0 w1 left a b status
+  meets status (answer, exact, own, is, p) end =
+      let same : IsOwn (command_of words) status = subst (IsOwn (command_of words)) (sym is) own in
+      let small = own_known (command_of words) status same in
       record {
         known = omega (arith, small);
-        whole = λ t _. (answer, exact t, refl, p);
-        front = λ other h. front other h (text_of answer.lines, [], sym (append-nil (text_of answer.lines)), p);
-        usage = own_usage (command_of words) answer.status own;
-        refused = own_refused (command_of words) answer.status own;
+        whole = λ t _. (answer, exact t, is, p);
+        front = λ other h. front (command_of words) content a b answer exact other h (whole_front a b (text_of answer.lines) p);
+        usage = own_usage (command_of words) status same;
+        refused = own_refused (command_of words) status same;
         read_fault = λ e. absurd (omega (arith, small, e));
         write_fault = λ e. absurd (omega (arith, small, e));
         complete = λ _ _. inl small;
         end = end;
       }
 
-  -- the text was cut short, for want of memory, or where the count of the sink rose
-  pub cut_short : (r0 r1 w0 w1 : ℕ) (left : Option (List ℕ)) (status : ℕ) → 4 ≤ status → status ≤ 5 → (status ≡ 4 → Rose w0 w1) → AppendsFront a b (text_of answer.lines)
-      → Meets words content r0 r1 w0 w1 left a b status
-  cut_short r0 r1 w0 w1 left status low high rose p = record {
+  -- it was given up, where a count rose or for want of memory
+  pub gives_up : (status : ℕ) (stop : Stop) → 3 ≤ status → status ≤ 5 → (status ≡ 3 → IsSome (file_of (command_of words)) × Rose r0 r1) → (status ≡ 4 → Rose w0 w1) →
+      Comes (command_of words) content a b (Err stop) → Meets words content r0 r1 w0 w1 left a b status
+  gives_up status stop low high read write p = record {
     known = high;
     whole = λ t small. absurd (omega (arith, low, small));
-    front = λ other h. front other h p;
+    front = p;
     usage = λ e. absurd (omega (arith, low, e));
     refused = λ e. absurd (omega (arith, low, e));
-    read_fault = λ e. absurd (omega (arith, low, e));
-    write_fault = rose;
-    complete = λ _ quiet. inr (five quiet);
+    read_fault = read;
+    write_fault = write;
+    complete = λ quiet still. inr (five quiet still);
     end = λ e. absurd (omega (arith, low, e));
   }
     where
-      five : ¬ Rose w0 w1 → status ≡ 5
-      five quiet = let other : status ≢ 4 = λ e. quiet (rose e) in omega (arith, low, high, other)
+      five : ¬ Rose r0 r1 → ¬ Rose w0 w1 → status ≡ 5
+      five quiet still =
+          let no_read : status ≢ 3 = λ e. quiet (read e).1 in
+          let no_write : status ≢ 4 = λ e. still (write e) in
+          omega (arith, low, high, no_read, no_write)
+
+-- ---- one line
+
+pub one_text : (l : List ℕ) → text_of (l ∷ []) ≡ l
+one_text l = append-nil l
+
+pub one_written : (a b : Option (List ℕ)) (l text : List ℕ) → l ≡ text → Appends a b l → Appends a b (text_of (text ∷ []))
+one_written a b l text e p = subst (Appends a b) (e ∙ sym (one_text text)) p
+
+pub one_begun : (a b : Option (List ℕ)) (l text : List ℕ) → l ≡ text → AppendsFront a b l → AppendsFront a b (text_of (text ∷ []))
+one_begun a b l text e p = subst (AppendsFront a b) (e ∙ sym (one_text text)) p
+
+-- what holds, holds of each status
+pub whatever : (Q : Type 0) (r : Result ℕ Stop) → Q → IfOk r (λ status. status ≡ 0 → Q)
+whatever Q (Ok status) q = λ zero. q
+whatever Q (Err e) q = tt

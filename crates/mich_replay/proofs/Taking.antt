@@ -1,10 +1,8 @@
 -- What a statement leads to, and what is told of it.
-use Rattle.std.proofs.Common.{◌≡◌, ◌+◌, ◌<◌, ◌≤◌, ◌^◌, ℕ, List, [], ◌∷◌, ◌++◌, length, map, Option, Some, None, Ok, Err, refl, sym, ap, ◌∙◌, subst, arith}
+use Rattle.std.proofs.Common.{◌≡◌, ◌+◌, ◌<◌, ◌≤◌, ◌^◌, ℕ, List, [], ◌∷◌, ◌++◌, length, map, append-nil, Option, Some, None, Ok, Err, refl, sym, ap, ◌∙◌, subst, arith}
 use Rattle.std.proofs.lemmas.List.{length-append}
 use Rattle.rules_course.specs.Course.{Course as PlainCourse, Step, goes_on, stops, stuck_step, BadOrder, BadCosts, RepeatedAccount, SupplyLimit, first_step, step_behind}
 use Rattle.rules_course.specs.Ranges.{IsStatement}
-use Rattle.rules_lines.specs.Nodes.{line, group_node}
-use Rattle.rules_replay.specs.Lines.{group_lines}
 use Rattle.rules_replay.specs.Replay.{step, continued, fault_of}
 use Rattle.rules_statements.specs.Statements.{Statement}
 use Rattle.rules_world.specs.Receipts.{Receipt}
@@ -18,6 +16,7 @@ use Rattle.mich_ops.specs.View.{receipt}
 use Rattle.mich_ops.specs.declared.receipt.GroupReceipt.{GroupReceipt}
 use Rattle.mich_replay.specs.Steps.{FollowsIf, HasRoom, IsTaken, Leads, Stands, groups_of}
 use Rattle.mich_replay.specs.View.{file_fault_seen}
+use Rattle.mich_replay.specs.declared.steps.Event.TheVariants as event
 use Rattle.mich_replay.specs.declared.outcome.FileFault.{FileFault}
 
 -- ---- refusals
@@ -132,17 +131,6 @@ groups_followed : (c : Option Course) (q : PlainCourse) → FollowsIf c (Some q)
 groups_followed (Some c) q f = f.groups
 groups_followed None q f = absurd f
 
-lines-more : (n : ℕ) (rs more : List Receipt) → group_lines n (rs ++ more) ≡ group_lines n rs ++ group_lines (length rs + n) more
-lines-more n [] more = ap (λ (k : ℕ). group_lines k more) (omega arith)
-lines-more n (r ∷ rs) more =
-    let next : length rs + (n + 1) ≡ length (r ∷ rs) + n = omega arith in
-    ap (λ (ls : List (List ℕ)). line (group_node n r) ∷ ls)
-    (lines-more (n + 1) rs more ∙ ap (λ (k : ℕ). group_lines (n + 1) rs ++ group_lines k more) next)
-
-pub lines-length : (n : ℕ) (rs : List Receipt) → length (group_lines n rs) ≡ length rs
-lines-length n [] = refl
-lines-length n (r ∷ rs) = omega (arith, lines-length (n + 1) rs)
-
 none_told : (rs : List Receipt) → [] ≡ map told_receipt rs → rs ≡ []
 none_told [] e = refl
 none_told (r ∷ rs) e = absurd cc
@@ -152,61 +140,41 @@ one_told t [] e = absurd cc
 one_told t (r ∷ []) e = let same : t ≡ told_receipt r = cc in (r, refl, sym same)
 one_told t (r ∷ s ∷ rs) e = absurd cc
 
--- there may be one more group where there may be one more line
-pub room_for_one : (receipts : List Receipt) (p : Option PlainCourse) (old : Option Course) (lines : List (List ℕ)) → Stands receipts p old lines →
-    length lines < 18446744073709551615 → HasRoom old
-room_for_one receipts p old lines stands few =
-    let count = stands.count in
-    let all : length lines ≡ length receipts = ap length stands.told ∙ lines-length 1 receipts in
-    omega (arith, count, all, few)
-
-module _ (receipts : List Receipt) (p : Option PlainCourse) (old : Option Course) (lines : List (List ℕ)) (s : Statement)
-    (stands : Stands receipts p old lines) (room : HasRoom old) (ranges : IsStatement s) where
+module _ (receipts : List Receipt) (p : Option PlainCourse) (old : Option Course) (s : Statement) (stands : Stands receipts p old) (room : HasRoom old) (ranges : IsStatement s) where
   -- no group
-  pub took_none : (new : Option Course) (place : ℕ) → Leads (step p s) new (Ok None) → IsTaken (continued receipts place (step p s)) place new lines (Ok None)
+  pub took_none : (new : Option Course) (place : ℕ) → Leads (step p s) new (Ok None) → IsTaken receipts place (continued receipts place (step p s)) new (Ok event.Taken)
   took_none new place h =
       let l = led (step p s) new None h in
       let none = none_told l.receipts l.told in
       let is : step p s ≡ goes_on l.course [] = l.is ∙ ap (goes_on l.course) none in
       let count = counted old p s l.course [] stands.follows room ranges is in
-      rw is (record {
-        follows = l.follows;
-        count = groups_followed new l.course l.follows ∙ count ∙ ap (λ (n : ℕ). n + 0) stands.count ∙ sym (length-append receipts []);
-        told = stands.told ∙ sym (lines-more 1 receipts [] ∙ nothing (group_lines 1 receipts));
-      })
-    where
-      nothing : (ls : List (List ℕ)) → ls ++ [] ≡ ls
-      nothing [] = refl
-      nothing (l ∷ ls) = ap (λ (more : List (List ℕ)). l ∷ more) (nothing ls)
+      rw is (
+        append-nil receipts,
+        record {
+          follows = l.follows;
+          count = groups_followed new l.course l.follows ∙ count ∙ ap (λ (n : ℕ). n + 0) stands.count ∙ sym (length-append receipts []);
+        },
+      )
 
-  -- a group, of which a line is told
-  pub took_group : (new : Option Course) (place : ℕ) (r : GroupReceipt) (after : List (List ℕ)) → Leads (step p s) new (Ok (Some r)) →
-      ((found : Receipt) → told_receipt found ≡ receipt r → after ≡ lines ++ line (group_node (groups_of new) found) ∷ []) →
-      IsTaken (continued receipts place (step p s)) place new after (Ok None)
-  took_group new place r after h tells =
+  -- a group
+  pub took_group : (new : Option Course) (place : ℕ) (r : GroupReceipt) → Leads (step p s) new (Ok (Some r)) →
+      IsTaken receipts place (continued receipts place (step p s)) new (Ok (event.Group r))
+  took_group new place r h =
       let l = led (step p s) new (Some r) h in
       let one = one_told (receipt r) l.receipts l.told in
       let is : step p s ≡ goes_on l.course (one.0 ∷ []) = l.is ∙ ap (goes_on l.course) one.1 in
       let count = counted old p s l.course (one.0 ∷ []) stands.follows room ranges is in
-      let number : groups_of new ≡ length receipts + 1 = groups_followed new l.course l.follows ∙ count ∙ ap (λ (n : ℕ). n + 1) stands.count in
-      rw is (record {
-        follows = l.follows;
-        count = number ∙ sym (length-append receipts (one.0 ∷ []));
-        told = tells one.0 one.2 ∙ ap (λ (n : ℕ). lines ++ line (group_node n one.0) ∷ []) number
-            ∙ ap (λ (ls : List (List ℕ)). ls ++ line (group_node (length receipts + 1) one.0) ∷ []) stands.told
-            ∙ sym (lines-more 1 receipts (one.0 ∷ []));
-      })
-
-  -- it is one line more
-  pub took_one : (new : Option Course) (r : GroupReceipt) (after : List (List ℕ)) → Leads (step p s) new (Ok (Some r)) →
-      ((found : Receipt) → told_receipt found ≡ receipt r → after ≡ lines ++ line (group_node (groups_of new) found) ∷ []) → length after ≤ length lines + 1
-  took_one new r after h tells =
-      let l = led (step p s) new (Some r) h in
-      let one = one_told (receipt r) l.receipts l.told in
-      let more : length after ≡ length lines + 1
-      = ap length (tells one.0 one.2) ∙ length-append lines (line (group_node (groups_of new) one.0) ∷ []) in omega (arith, more)
+      rw is (
+        one.0,
+        one.2,
+        refl,
+        record {
+          follows = l.follows;
+          count = groups_followed new l.course l.follows ∙ count ∙ ap (λ (n : ℕ). n + 1) stands.count ∙ sym (length-append receipts (one.0 ∷ []));
+        },
+      )
 
   -- a refusal
   pub took_refusal : (why : Rattle.rules_course.specs.Course.Refusal) (fault : FileFault) (new : Option Course) (place : ℕ) → step p s ≡ stops why →
-      fault_of why ≡ file_fault_seen fault → IsTaken (continued receipts place (step p s)) place new lines (Ok (Some fault))
-  took_refusal why fault new place is same = rw is (same, refl, stands.told)
+      fault_of why ≡ file_fault_seen fault → IsTaken receipts place (continued receipts place (step p s)) new (Ok (event.Refused fault place))
+  took_refusal why fault new place is same = rw is (refl, same, refl, refl)

@@ -10,4 +10,5 @@ pub use Rattle.rules_replay.specs.Packs
 pub mod Laws
 pub mod Steps
 pub mod View
+pub mod Coming
 pub mod Fronts

@@ -1,17 +1,17 @@
 -- What taking statements leaves.
-use Rattle.std.specs.Prelude.{◌≡◌, ◌+◌, ◌<◌, ◌^◌, ℕ, List, [], ◌++◌, length, Option, Some, None, Result, Ok, Err}
+use Rattle.std.specs.Prelude.{◌≡◌, ◌+◌, ◌<◌, ◌^◌, ℕ, List, [], ◌∷◌, ◌++◌, length, Option, Some, None, Result, Ok, Err}
 use Rattle.rules_course.specs.Course.{Course as PlainCourse, Step}
-use Rattle.rules_replay.specs.Answers.{Answer, status_of}
-use Rattle.rules_replay.specs.Lines.{group_lines, ending_lines}
-use Rattle.rules_replay.specs.Places.{Placed, AreStatements}
-use Rattle.rules_replay.specs.Replay.{Run, going, stopped, run_all, Ending}
+use Rattle.rules_replay.specs.Replay.{Run, going, stopped}
 use Rattle.rules_world.specs.Receipts.{Receipt}
 use Rattle.mich_base.specs.declared.memory.Memory.{Memory}
 use Rattle.mich_course.specs.Following.{Follows, Goes, Begins}
 use Rattle.mich_course.specs.declared.course.Course.{Course}
 use Rattle.mich_course.specs.declared.error.CourseError.{CourseError}
+use Rattle.mich_ops.specs.Told.{told_receipt}
+use Rattle.mich_ops.specs.View.{receipt}
 use Rattle.mich_ops.specs.declared.receipt.GroupReceipt.{GroupReceipt}
-use Rattle.mich_replay.specs.declared.outcome.FileFault.{FileFault}
+use Rattle.mich_replay.specs.declared.steps.Event.{Event}
+use Rattle.mich_replay.specs.declared.steps.Event.TheVariants as event
 use Rattle.mich_replay.specs.View.{file_fault_seen}
 
 -- ---- courses, of which there is none before the first statement
@@ -36,30 +36,21 @@ Leads step (Some c) r = Goes step c r
 Leads step None (Err e) = Begins step (Err e)
 Leads step None (Ok r) = ⊥
 
--- ---- lines
+-- ---- receipts
 
--- behind these receipts the code's course follows one of the rules, and the lines tell them
-pub record Stands (receipts : List Receipt) (p : Option PlainCourse) (c : Option Course) (lines : List (List ℕ)) : Type 0 where
+-- behind these receipts the code's course follows one of the rules
+pub record Stands (receipts : List Receipt) (p : Option PlainCourse) (c : Option Course) : Type 0 where
   pub follows : FollowsIf c p
   pub count : groups_of c ≡ length receipts
-  pub told : lines ≡ group_lines 1 receipts
 
--- a statement at a place left this course and these lines, or is this refusal, which leaves the lines
-abbrev pub IsTaken : Run → ℕ → Option Course → List (List ℕ) → Result (Option FileFault) Memory → Type 0
-IsTaken (going receipts p) place c lines (Ok None) = Stands receipts p c lines
-IsTaken (stopped receipts f at) place c lines (Ok (Some fault)) = (f ≡ file_fault_seen fault) × (at ≡ place) × (lines ≡ group_lines 1 receipts)
-IsTaken run place c lines (Err e) = Unit {0}
-IsTaken run place c lines (Ok r) = ⊥
+-- a receipt of the rules of which the code's tells all
+abbrev pub Tells : GroupReceipt → Receipt → Type 0
+Tells told found = told_receipt found ≡ receipt told
 
--- statements of the file, up to a place, left this course, and these are the lines of their receipts
-pub record Reached (file : List ℕ) (place : ℕ) (c : Option Course) (lines : List (List ℕ)) : Type 0 where
-  pub statements : List Placed
-  pub receipts : List Receipt
-  pub plain : Option PlainCourse
-  pub stand : AreStatements file 0 statements place
-  pub run : run_all (going [] None) statements ≡ going receipts plain
-  pub stands : Stands receipts plain c lines
-
--- the answer with these lines of receipts, where a file ends so
-abbrev pub closing : List (List ℕ) → Ending → Answer
-closing lines ending = record { status = status_of ending; lines = lines ++ ending_lines ending }
+-- behind these receipts a statement at a place left this course, and this is told of it
+abbrev pub IsTaken : List Receipt → ℕ → Run → Option Course → Result Event Memory → Type 0
+IsTaken before place (going receipts p) c (Ok event.Taken) = (receipts ≡ before) × Stands receipts p c
+IsTaken before place (going receipts p) c (Ok (event.Group told)) = (found : Receipt) × Tells told found × (receipts ≡ before ++ found ∷ []) × Stands receipts p c
+IsTaken before place (stopped receipts f at) c (Ok (event.Refused fault here)) = (receipts ≡ before) × (f ≡ file_fault_seen fault) × (at ≡ here) × (here ≡ place)
+IsTaken before place run c (Err e) = Unit {0}
+IsTaken before place run c (Ok r) = ⊥

@@ -3,17 +3,22 @@ use Rattle.rules_replay.specs.Replay as replay
 use Rattle.rules_replay.specs.Commands as commands
 use Rattle.mich_replay.specs.declared.command.Verb.{Verb}
 use Rattle.mich_replay.specs.declared.command.Verb.TheVariants as verbs
+use Rattle.mich_replay.specs.declared.command.WholeVerb.{WholeVerb}
+use Rattle.mich_replay.specs.declared.command.WholeVerb.TheVariants as wholes
 use Rattle.mich_replay.specs.declared.command.Command.{Command}
 use Rattle.mich_replay.specs.declared.command.Command.TheVariants as words
 use Rattle.mich_replay.specs.declared.outcome.FileFault.{FileFault}
 use Rattle.mich_replay.specs.declared.outcome.FileFault.TheVariants as files
 
+abbrev pub whole_seen : WholeVerb → commands.Verb
+whole_seen wholes.Check = commands.Checking
+whole_seen wholes.Encode = commands.Encoding
+whole_seen wholes.Decode = commands.Decoding
+whole_seen wholes.Pack = commands.Packing
+
 abbrev pub verb_seen : Verb → commands.Verb
 verb_seen verbs.Replay = commands.Replaying
-verb_seen verbs.Check = commands.Checking
-verb_seen verbs.Encode = commands.Encoding
-verb_seen verbs.Decode = commands.Decoding
-verb_seen verbs.Pack = commands.Packing
+verb_seen (verbs.Whole verb) = whole_seen verb
 
 abbrev pub command_seen : Command → commands.Command
 command_seen (words.OnFile verb path) = commands.OnFile (verb_seen verb) path.now

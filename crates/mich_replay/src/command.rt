@@ -7,14 +7,20 @@ ghost use Rattle.mich_replay.specs.View.{verb_seen, command_seen};
 use mich_base::Text;
 use std::str;
 
-/// A command that takes a file.
+/// A command that reads its file whole before it writes.
 #[derive(Clone, Copy)]
-pub enum Verb {
-    Replay,
+pub enum WholeVerb {
     Check,
     Encode,
     Decode,
     Pack,
+}
+
+/// A command that takes a file.
+#[derive(Clone, Copy)]
+pub enum Verb {
+    Replay,
+    Whole(WholeVerb),
 }
 
 /// A command with its file, or none.
@@ -40,13 +46,13 @@ fn verb_of(word: &[u8]) -> Option<Verb>
     if word == b"replay".as_slice() {
         Some(Verb::Replay)
     } else if word == b"check".as_slice() {
-        Some(Verb::Check)
+        Some(Verb::Whole(WholeVerb::Check))
     } else if word == b"encode".as_slice() {
-        Some(Verb::Encode)
+        Some(Verb::Whole(WholeVerb::Encode))
     } else if word == b"decode".as_slice() {
-        Some(Verb::Decode)
+        Some(Verb::Whole(WholeVerb::Decode))
     } else if word == b"pack".as_slice() {
-        Some(Verb::Pack)
+        Some(Verb::Whole(WholeVerb::Pack))
     } else {
         None
     }

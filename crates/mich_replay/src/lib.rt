@@ -9,8 +9,11 @@ mod lines;
 mod outcome;
 mod reading;
 mod replaying;
+mod session;
 mod steps;
+mod stop;
 mod top;
+mod writing;
 
 pub use honest::replay_bytes;
 pub use laws::{

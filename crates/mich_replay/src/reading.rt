@@ -1,38 +1,68 @@
-// A file that is read whole, or as far as it counts.
-ghost use Rattle.std.specs.Prelude.{◌≡◌, ◌≤◌, ◌<◌, ◌-◌, ◌^◌, ℕ, List, length, Contains, IfOk, Some};
-ghost use Rattle.std.specs.Io.KnownBytes.{IsAtEnd};
+// Files that are read in pieces, or whole.
+ghost use Rattle.std.specs.Prelude.{◌≡◌, ◌≤◌, ◌<◌, ◌-◌, ◌^◌, ℕ, List, length, Contains, IfOk, OnOk, Some, IsErrOf};
+ghost use Rattle.std.specs.Io.{ReadsAtMost};
+ghost use Rattle.std.specs.Io.KnownBytes.{IsAtEnd, ReadConsumes};
 ghost use Rattle.rules_io.specs.Causes.{HasCause};
+ghost use Rattle.rules_io.specs.Known.{SameFiles};
 ghost use Rattle.rules_text.specs.Fault.{file_limit};
 ghost use Rattle.mich_replay.specs.Fronts.{IsReadOf, read_limit};
 
+use crate::stop::Stop;
 use mich_io::{Files, FilesFault};
 use std::alloc::Global;
 
 // How many bytes a file may have.
 const FILE_LIMIT: usize = 1_073_741_824;
 
+/// Goes to the beginning of a file.
+pub(crate) fn start<F: Files>(files: &mut F, path: &str) -> Result<(), Stop>
+    requires { Contains (F.lent files.old) path.now }
+    ensures started { OnOk result (F.left files.new ≡ F.content files.old path.now) }
+    ensures same { SameFiles (F.lent files.old) (F.lent files.new) (F.content files.old) (F.content files.new) }
+    ensures no_write { IsErrOf result Stop.Write → ⊥ }
+    ensures cause { HasCause Stop.Read (F.faults files.old) (F.faults files.new) result }
+{
+    match files.start(path) {
+        Ok(()) => Ok(()),
+        Err(FilesFault::Failed) => Err(Stop::Read),
+        Err(FilesFault::Memory) => Err(Stop::Memory),
+    }
+}
+
+/// Reads the next bytes, and says how many: none only at the end of the file, or where there is no room for any.
+pub(crate) fn read<F: Files>(files: &mut F, buf: &mut [u8]) -> Result<usize, Stop>
+    ensures bound { ReadsAtMost result buf.new }
+    ensures bytes { ReadConsumes (F.left files.old) (F.left files.new) result buf.new }
+    ensures same { SameFiles (F.lent files.old) (F.lent files.new) (F.content files.old) (F.content files.new) }
+    ensures no_write { IsErrOf result Stop.Write → ⊥ }
+    ensures cause { HasCause Stop.Read (F.faults files.old) (F.faults files.new) result }
+{
+    match files.read(buf) {
+        Ok(count) => Ok(count),
+        Err(FilesFault::Failed) => Err(Stop::Read),
+        Err(FilesFault::Memory) => Err(Stop::Memory),
+    }
+}
+
 /// All bytes of a file, or where it has more than a file may have, some of them that are more already.
-pub(crate) fn read_file<F: Files>(
-    alloc: Global,
-    files: &mut F,
-    path: &str,
-) -> Result<Vec<u8>, FilesFault>
+pub(crate) fn read_file<F: Files>(alloc: Global, files: &mut F, path: &str) -> Result<Vec<u8>, Stop>
     requires { Contains (F.lent files.old) path.now }
     ensures front { IfOk result (λ bytes. IsReadOf (F.content files.old path.now) bytes.items) }
     ensures end { IfOk result (λ bytes. length bytes.items ≤ file_limit → IsAtEnd (F.left files.new)) }
     ensures short { IfOk result (λ bytes. length bytes.items ≤ read_limit) }
-    ensures cause { HasCause FilesFault.Failed (F.faults files.old) (F.faults files.new) result }
+    ensures no_write { IsErrOf result Stop.Write → ⊥ }
+    ensures cause { HasCause Stop.Read (F.faults files.old) (F.faults files.new) result }
 {
-    files.start(path)?;
+    start(files, path)?;
     let mut bytes = Vec::new(alloc);
     let mut buf = [0u8; 65_536];
     'read: while bytes.len() <= FILE_LIMIT {
-        let count = files.read(&mut buf)?;
+        let count = read(files, &mut buf)?;
         if count == 0 {
             return Ok(bytes);
         }
         if bytes.extend_from_slice(buf.split_at(count).0).is_err() {
-            return Err(FilesFault::Memory);
+            return Err(Stop::Memory);
         }
     }
     Ok(bytes)

@@ -1,69 +1,143 @@
-// A file that is replayed.
-ghost use Rattle.std.specs.Prelude.{◌≡◌, ◌<◌, ◌≤◌, ◌^◌, ℕ, length, Option, IfOk};
+// A file that is replayed as it is read.
+ghost use Rattle.std.specs.Prelude.{◌≡◌, ◌<◌, ◌≤◌, ◌^◌, ◌-◌, ℕ, List, length, Bool, Option, Ok, Contains, IfOk, IsErrOf};
+ghost use Rattle.std.specs.Io.KnownBytes.{Appends, IsAtEnd};
 ghost use Rattle.rules_course.specs.Course.{Course as PlainCourse};
-ghost use Rattle.rules_replay.specs.Replay.{Ending, RefusedAt, ending_of};
-ghost use Rattle.mich_replay.specs.Fronts.{read_limit};
-ghost use Rattle.mich_replay.specs.Steps.{FollowsIf, Reached, closing};
-ghost use Rattle.rules_replay.specs.Commands.{Replaying, IsVerbAnswer};
+ghost use Rattle.rules_io.specs.Causes.{HasCause};
+ghost use Rattle.rules_replay.specs.Commands.{OnFile, Replaying};
+ghost use Rattle.rules_replay.specs.Lines.{group_lines, text_of};
+ghost use Rattle.rules_replay.specs.Replay.{RefusedAt, ending_of};
+ghost use Rattle.rules_world.specs.Receipts.{Receipt};
+ghost use Rattle.mich_reader.specs.Held.{Held};
+ghost use Rattle.mich_replay.specs.Coming.{Closes, Comes, Happens, Pauses, Told, Turns};
+ghost use Rattle.mich_replay.specs.Steps.{FollowsIf};
 ghost use Rattle.mich_replay.specs.View.{file_fault_seen};
-ghost use Rattle.mich_answers.specs.View.{answer_seen};
 
 use crate::lines::file_fault_name;
 use crate::outcome::FileFault;
-use crate::steps::take;
-use mich_answers::{Answer, Next, as_text, read_next, refusal_line};
-use mich_base::{Memory, Texts};
+use crate::reading::{read, start};
+use crate::session::Session;
+use crate::steps::Event;
+use crate::stop::Stop;
+use crate::writing::{write_group, write_line, write_lines};
+use mich_answers::refusal_line;
 use mich_course::Course;
-use mich_machine::Bodies;
+use mich_io::{Files, Sink};
 use mich_report::state_lines;
 use std::alloc::Global;
 
-// The answer behind all statements of a file of so many bytes.
-fn ended(
+/// What stands behind the groups that were told.
+pub enum Pause {
+    /// No statement, before more is fed.
+    More,
+    /// The end of the file.
+    End,
+    /// Why the file is refused, at a place.
+    Refused(FileFault, u64),
+}
+
+// Writes the line of the group that came, or tells what else did.
+fn tell<K: Sink>(
     alloc: Global,
-    course: Option<Course>,
-    mut lines: Texts,
-    size: u64,
-) -> Result<Answer, Memory>
-    requires { (p : Option PlainCourse) × FollowsIf course p }
-    ensures { (p : Option PlainCourse) → FollowsIf course p → IfOk result (λ a. answer_seen a ≡ closing lines (ending_of size p)) }
+    course: &Option<Course>,
+    event: Event,
+    out: &mut K,
+) -> Result<Option<Pause>, Stop>
+    ensures told { (fed : List ℕ) (last : Bool) (receipts : List Receipt) (place : ℕ) (r : Held) (before : Option (List ℕ))
+        → Happens fed last receipts place r course.now (Ok event)
+        → Appends before (K.written out.old) (text_of (group_lines 1 receipts)) → Turns fed last before (K.written out.new) place r course.now result }
+    ensures no_read { IsErrOf result Stop.Read → ⊥ }
+    ensures cause { HasCause Stop.Write (K.faults out.old) (K.faults out.new) result }
 {
-    match course {
-        Some(course) => {
-            lines.append(state_lines(alloc, &course.world)?)?;
-            Ok(Answer { status: 0, lines })
+    match event {
+        Event::Taken => Ok(None),
+        Event::Group(receipt) => {
+            write_group(alloc, course, &receipt, out)?;
+            Ok(None)
         }
-        None => stopped(alloc, lines, FileFault::BadOrder, size),
+        Event::More => Ok(Some(Pause::More)),
+        Event::End => Ok(Some(Pause::End)),
+        Event::Refused(fault, at) => Ok(Some(Pause::Refused(fault, at))),
     }
 }
 
-// The answer where a file is refused at a place.
-fn stopped(alloc: Global, mut lines: Texts, fault: FileFault, place: u64) -> Result<Answer, Memory>
-    ensures { IfOk result (λ a. answer_seen a ≡ closing lines (RefusedAt (file_fault_seen fault) place)) }
+// Takes the statements that stand, and writes the line of each group at once.
+fn tell_groups<K: Sink>(
+    alloc: Global,
+    session: &mut Session,
+    last: bool,
+    out: &mut K,
+) -> Result<Pause, Stop>
+    requires { (fed : List ℕ) × (before : Option (List ℕ)) × Told fed last before (K.written out.old) session.old.reader session.old.course }
+    ensures told { (fed : List ℕ) (before : Option (List ℕ)) → Told fed last before (K.written out.old) session.old.reader session.old.course
+        → Pauses fed last before (K.written out.new) session.new.reader session.new.course result }
+    ensures no_read { IsErrOf result Stop.Read → ⊥ }
+    ensures cause { HasCause Stop.Write (K.faults out.old) (K.faults out.new) result }
 {
-    lines.push(as_text(refusal_line(alloc, file_fault_name(fault), place)?))?;
-    Ok(Answer { status: 2, lines })
+    'told: loop {
+        let event = session.next(alloc, last)?;
+        let turn = tell(alloc, &session.course, event, out)?;
+        match turn {
+            Some(pause) => return Ok(pause),
+            None => {}
+        }
+    }
 }
 
-/// The answer to a file that is replayed.
-pub(crate) fn replay(alloc: Global, file: &[u8]) -> Result<Answer, Memory>
-    requires { length file.now ≤ read_limit }
-    ensures { IfOk result (λ a. IsVerbAnswer Replaying file.now (answer_seen a)) }
+// Writes why a file is refused, and where.
+fn refuse<K: Sink>(alloc: Global, fault: FileFault, at: u64, out: &mut K) -> Result<u8, Stop>
+    ensures closes { Closes (K.written out.old) (K.written out.new) (RefusedAt (file_fault_seen fault) at) result }
+    ensures status { IfOk result (λ status. status ≡ 2) }
+    ensures no_read { IsErrOf result Stop.Read → ⊥ }
+    ensures cause { HasCause Stop.Write (K.faults out.old) (K.faults out.new) result }
 {
-    let mut course = None;
-    let mut bodies = Bodies::new(alloc)?;
-    let mut lines = Texts::new(alloc);
-    let mut place = 0u64;
-    'statements: loop {
-        match read_next(alloc, file, place)? {
-            Next::Statement(placed) => {
-                match take(alloc, &mut course, &mut bodies, &mut lines, placed.node)? {
-                    Some(fault) => return stopped(alloc, lines, fault, placed.start),
-                    None => place = placed.end,
-                }
-            }
-            Next::End => return ended(alloc, course, lines, file.len() as u64),
-            Next::Fault(kind, at) => return stopped(alloc, lines, FileFault::Text(kind), at),
+    let line = refusal_line(alloc, file_fault_name(fault), at)?;
+    write_line(out, line.as_bytes())?;
+    Ok(2)
+}
+
+// Writes what stands behind all statements of a file of so many bytes.
+fn end<K: Sink>(alloc: Global, course: &Option<Course>, size: u64, out: &mut K) -> Result<u8, Stop>
+    requires { (p : Option PlainCourse) × FollowsIf course.now p }
+    ensures closes { (p : Option PlainCourse) → FollowsIf course.now p → Closes (K.written out.old) (K.written out.new) (ending_of size p) result }
+    ensures no_read { IsErrOf result Stop.Read → ⊥ }
+    ensures cause { HasCause Stop.Write (K.faults out.old) (K.faults out.new) result }
+{
+    match course {
+        Some(course) => {
+            let lines = state_lines(alloc, &course.world)?;
+            write_lines(out, &lines)?;
+            Ok(0)
+        }
+        None => refuse(alloc, FileFault::BadOrder, size, out),
+    }
+}
+
+/// Replays a file as it is read, and answers the status. The line of each group is written before more is read.
+pub(crate) fn replay_file<F: Files, K: Sink>(
+    alloc: Global,
+    path: &str,
+    files: &mut F,
+    out: &mut K,
+) -> Result<u8, Stop>
+    requires { Contains (F.lent files.old) path.now }
+    ensures comes { Comes (OnFile Replaying path.now) (F.content files.old) (K.written out.old) (K.written out.new) result }
+    ensures end { IfOk result (λ status. status ≡ 0 → IsAtEnd (F.left files.new)) }
+    ensures reads { HasCause Stop.Read (F.faults files.old) (F.faults files.new) result }
+    ensures writes { HasCause Stop.Write (K.faults out.old) (K.faults out.new) result }
+{
+    start(files, path)?;
+    let mut session = Session::new(alloc)?;
+    let mut buf = [0u8; 65_536];
+    let mut size = 0u64;
+    'pieces: loop {
+        let count = read(files, &mut buf)?;
+        let last = count == 0;
+        session.feed(buf.split_at(count).0)?;
+        size += count as u64;
+        match tell_groups(alloc, &mut session, last, out)? {
+            Pause::More => {}
+            Pause::End => return end(alloc, &session.course, size, out),
+            Pause::Refused(fault, at) => return refuse(alloc, fault, at, out),
         }
     }
 }

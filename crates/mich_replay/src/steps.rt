@@ -1,5 +1,5 @@
 // One statement of a file, behind others or as the first.
-ghost use Rattle.std.specs.Prelude.{◌≡◌, ◌<◌, ◌≤◌, ◌+◌, ◌-◌, ◌^◌, ℕ, List, [], ◌∷◌, ◌++◌, length, Option, Some, OnOk};
+ghost use Rattle.std.specs.Prelude.{◌≡◌, ◌<◌, ◌^◌, ℕ, List, Option, Some};
 ghost use Rattle.rules_base.specs.Tree.{size};
 ghost use Rattle.rules_course.specs.Course.{Course as PlainCourse};
 ghost use Rattle.rules_course.specs.Ranges.{IsStatement};
@@ -7,18 +7,14 @@ ghost use Rattle.rules_replay.specs.Replay.{step, taken};
 ghost use Rattle.rules_statements.specs.Statements.{form};
 ghost use Rattle.rules_world.specs.Receipts.{Receipt};
 ghost use Rattle.mich_base.specs.View.{tree};
-ghost use Rattle.rules_lines.specs.Nodes.{line, group_node};
-ghost use Rattle.mich_ops.specs.Told.{told_receipt};
-ghost use Rattle.mich_ops.specs.View.{receipt};
 ghost use Rattle.mich_scenario.specs.View.{said};
 ghost use Rattle.mich_replay.specs.Steps.{FollowsIf, HasRoom, IsTaken, Leads, Stands, groups_of};
 
 use crate::outcome::FileFault;
-use mich_base::{Memory, Node, Texts};
+use mich_base::{Memory, Node};
 use mich_course::{Course, CourseError, begin};
 use mich_machine::Bodies;
 use mich_ops::GroupReceipt;
-use mich_report::receipt_text;
 use mich_scenario::{FormError, Statement, take_form};
 use std::alloc::Global;
 
@@ -43,77 +39,74 @@ fn go_on(
     }
 }
 
-// The number of the last group.
-fn last_number(course: &Option<Course>) -> u64
+/// What a replay comes to next.
+#[derive(Drop)]
+pub enum Event {
+    /// A statement was taken of which nothing is told.
+    Taken,
+    /// A group was, with this receipt.
+    Group(GroupReceipt),
+    /// No statement stands before more is fed.
+    More,
+    /// The file ends.
+    End,
+    /// The file is refused, at a place.
+    Refused(FileFault, u64),
+}
+
+// Goes on with a statement at a place.
+fn step(
+    alloc: Global,
+    course: &mut Option<Course>,
+    bodies: &mut Bodies,
+    place: u64,
+    statement: &Statement,
+) -> Result<Event, Memory>
+    requires stands { (receipts : List Receipt) × (p : Option PlainCourse) × Stands receipts p course.old }
+    requires room { HasRoom course.old }
+    requires ranges { IsStatement (said statement.now) }
+    ensures { (receipts : List Receipt) (p : Option PlainCourse) → Stands receipts p course.old
+        → IsTaken receipts place (taken receipts p place (Some (said statement.entry.now))) course.new result }
+{
+    match go_on(alloc, course, bodies, statement) {
+        Ok(None) => Ok(Event::Taken),
+        Ok(Some(receipt)) => Ok(Event::Group(receipt)),
+        Err(CourseError::BadOrder) => Ok(Event::Refused(FileFault::BadOrder, place)),
+        Err(CourseError::BadCosts) => Ok(Event::Refused(FileFault::BadCosts, place)),
+        Err(CourseError::RepeatedAccount) => Ok(Event::Refused(FileFault::RepeatedAccount, place)),
+        Err(CourseError::SupplyLimit) => Ok(Event::Refused(FileFault::SupplyLimit, place)),
+        Err(CourseError::Memory) => Err(Memory),
+    }
+}
+
+/// Takes a node at a place as the next statement: the course goes on, with the receipt of a group, or it is why the file is refused.
+/// After Memory all is given up.
+pub(crate) fn take(
+    alloc: Global,
+    course: &mut Option<Course>,
+    bodies: &mut Bodies,
+    place: u64,
+    node: Node,
+) -> Result<Event, Memory>
+    requires stands { (receipts : List Receipt) × (p : Option PlainCourse) × Stands receipts p course.old }
+    requires room { HasRoom course.old }
+    requires small { size (tree node) < 2 ^ 32 }
+    ensures { (receipts : List Receipt) (p : Option PlainCourse) → Stands receipts p course.old
+        → IsTaken receipts place (taken receipts p place (form (tree node))) course.new result }
+{
+    match take_form(alloc, node) {
+        Ok(statement) => step(alloc, course, bodies, place, &statement),
+        Err(FormError::BadStatement) => Ok(Event::Refused(FileFault::BadStatement, place)),
+        Err(FormError::Memory) => Err(Memory),
+    }
+}
+
+/// The number of the last group.
+pub(crate) fn last_number(course: &Option<Course>) -> u64
     ensures { result ≡ groups_of course.now }
 {
     match course {
         None => 0,
         Some(found) => found.groups,
-    }
-}
-
-// Adds the line of the group that was the last.
-fn tell(
-    alloc: Global,
-    course: &Option<Course>,
-    lines: &mut Texts,
-    told: &GroupReceipt,
-) -> Result<(), Memory>
-    ensures { (found : Receipt) → told_receipt found ≡ receipt told.entry.now → OnOk result (lines.new ≡ lines.old ++ line (group_node (groups_of course.entry.now) found) ∷ []) }
-{
-    let line = receipt_text(alloc, last_number(course), told)?;
-    lines.push(line)
-}
-
-// Goes on with a statement, and adds a line where it is a group.
-fn step(
-    alloc: Global,
-    course: &mut Option<Course>,
-    bodies: &mut Bodies,
-    lines: &mut Texts,
-    statement: &Statement,
-) -> Result<Option<FileFault>, Memory>
-    requires stands { (receipts : List Receipt) × (p : Option PlainCourse) × Stands receipts p course.old lines.old }
-    requires few { length lines.old < 2 ^ 64 - 1 }
-    requires ranges { IsStatement (said statement.now) }
-    ensures taken { (receipts : List Receipt) (p : Option PlainCourse) (place : ℕ) → Stands receipts p course.old lines.old
-        → IsTaken (taken receipts p place (Some (said statement.entry.now))) place course.new lines.new result }
-    ensures count { OnOk result (length lines.new ≤ length lines.old + 1) }
-{
-    match go_on(alloc, course, bodies, statement) {
-        Ok(None) => Ok(None),
-        Ok(Some(receipt)) => {
-            tell(alloc, course, lines, &receipt)?;
-            Ok(None)
-        }
-        Err(CourseError::BadOrder) => Ok(Some(FileFault::BadOrder)),
-        Err(CourseError::BadCosts) => Ok(Some(FileFault::BadCosts)),
-        Err(CourseError::RepeatedAccount) => Ok(Some(FileFault::RepeatedAccount)),
-        Err(CourseError::SupplyLimit) => Ok(Some(FileFault::SupplyLimit)),
-        Err(CourseError::Memory) => Err(Memory),
-    }
-}
-
-/// Takes a node as the next statement: the course and the lines of the groups go on, or it is why the file is refused. After Memory
-/// all is given up.
-pub(crate) fn take(
-    alloc: Global,
-    course: &mut Option<Course>,
-    bodies: &mut Bodies,
-    lines: &mut Texts,
-    node: Node,
-) -> Result<Option<FileFault>, Memory>
-    requires stands { (receipts : List Receipt) × (p : Option PlainCourse) × Stands receipts p course.old lines.old }
-    requires few { length lines.old < 2 ^ 64 - 1 }
-    requires small { size (tree node) < 2 ^ 32 }
-    ensures taken { (receipts : List Receipt) (p : Option PlainCourse) (place : ℕ) → Stands receipts p course.old lines.old
-        → IsTaken (taken receipts p place (form (tree node))) place course.new lines.new result }
-    ensures count { OnOk result (length lines.new ≤ length lines.old + 1) }
-{
-    match take_form(alloc, node) {
-        Ok(statement) => step(alloc, course, bodies, lines, &statement),
-        Err(FormError::BadStatement) => Ok(Some(FileFault::BadStatement)),
-        Err(FormError::Memory) => Err(Memory),
     }
 }

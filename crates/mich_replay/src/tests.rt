@@ -1,10 +1,11 @@
 // Whole calls: transfers, contracts, groups that come to nothing, files that are refused, nodes that are encoded and decoded, words that
 // are no command, and calls that fail.
 ghost use Rattle.std.specs.Prelude.{◌≡◌, IfOk, ◌∷◌, [], Some};
+ghost use Rattle.rules_io.specs.Known.{content_in};
 
 use crate::{mich, replay_bytes};
 use mich_base::{Bytes, Memory, Rows, Text, Texts};
-use mich_io::{MemFiles, MemSink, Sink, SinkFault};
+use mich_io::{Files, FilesFault, MemFiles, MemSink, Sink, SinkFault};
 use std::alloc::Global;
 use std::test::Fail;
 
@@ -281,7 +282,9 @@ fn reads_that_fail(rt: HostRuntime) -> Result<(), Fail> {
     for number in 0..3u64 {
         let (status, out) = run(rt.alloc(), "replay", file.as_str(), &[number], &[])?;
         assert_eq!(rt; status, 3, "call {number}");
-        assert_eq!(rt; out.as_slice(), b"".as_slice(), "call {number}");
+        // the read that finds the end comes behind the group
+        let expected = text(rt.alloc(), &TRANSFER, (number / 2) as usize)?;
+        assert_eq!(rt; out.as_slice(), expected.as_bytes(), "call {number}");
     }
     Ok(())
 }
@@ -324,6 +327,49 @@ fn one_byte_a_write(rt: HostRuntime) -> Result<(), Fail> {
     assert_eq!(rt; status, 0);
     let expected = text(rt.alloc(), &TRANSFER, 5)?;
     assert_eq!(rt; out.inner.as_slice(), expected.as_bytes());
+    Ok(())
+}
+
+// Gives one byte a read.
+#[derive(Drop)]
+struct SlowFiles {
+    inner: MemFiles,
+}
+
+impl Files for SlowFiles {
+    ghost content = { λ s path. content_in s.inner.files path };
+
+    ghost left = { λ s. s.inner.left };
+
+    ghost lent = { λ s. s.inner.lent };
+
+    ghost faults = { λ s. s.inner.faults };
+
+    fn start(&mut self, path: &str) -> Result<(), FilesFault> {
+        self.inner.start(path)
+    }
+
+    fn read(&mut self, buf: &mut [u8]) -> Result<usize, FilesFault> {
+        let count = buf.len().min(1);
+        self.inner.read(&mut buf[..count])
+    }
+}
+
+#[test]
+fn one_byte_a_read(rt: HostRuntime) -> Result<(), Fail> {
+    let alloc = rt.alloc();
+    let words = two(alloc, "replay", "f")?;
+    let file = call(alloc, 10, 1)?;
+    let mut held = Rows::new(alloc);
+    let content = Bytes::from_slice(alloc, file.as_bytes())?;
+    held.push((Text::from_slice(alloc, b"f")?, content))?;
+    let inner = MemFiles::new(one(alloc, "f")?, held, Rows::new(alloc));
+    let mut files = SlowFiles { inner };
+    let mut out = MemSink::new(alloc, Rows::new(alloc));
+    let status = mich(alloc, &words, &mut files, &mut out);
+    assert_eq!(rt; status, 0);
+    let expected = text(alloc, &TRANSFER, 5)?;
+    assert_eq!(rt; out.as_slice(), expected.as_bytes());
     Ok(())
 }
 

@@ -1,45 +1,75 @@
 // The top call.
-ghost use Rattle.std.specs.Prelude.{◌≡◌, ◌≤◌, ◌<◌, ℕ, List, drop, OnOk, OnErr};
-ghost use Rattle.std.specs.Io.KnownBytes.{Appends};
+ghost use Rattle.std.specs.Prelude.{◌≡◌, ◌≤◌, ◌<◌, ℕ, List, drop, Contains, IfOk, IsErrOf, IsSome};
+ghost use Rattle.std.specs.Io.KnownBytes.{IsAtEnd};
 ghost use Rattle.rules_io.specs.Causes.{HasCause};
-ghost use Rattle.rules_io.specs.Known.{AppendsFront};
-ghost use Rattle.rules_replay.specs.Lines.{text_of};
+ghost use Rattle.rules_replay.specs.Commands.{OnFile, command_of, file_of};
 ghost use Rattle.rules_replay.specs.Promise.{Meets};
+ghost use Rattle.mich_replay.specs.Coming.{Comes};
+ghost use Rattle.mich_replay.specs.View.{verb_seen};
 
-use crate::answer::answer_words;
+use crate::answer::{answer_whole, usage};
+use crate::command::{Command, Verb, read_words};
+use crate::replaying::replay_file;
+use crate::stop::Stop;
 use mich_base::Texts;
-use mich_io::{Files, FilesFault, Sink, SinkFault, write_all};
+use mich_io::{Files, Sink};
 use std::alloc::Global;
 
-// Writes lines, one after another.
-fn write_lines<K: Sink>(out: &mut K, lines: &Texts) -> Result<(), SinkFault>
-    ensures ok { OnOk result (Appends (K.written out.old) (K.written out.new) (text_of lines.now)) }
-    ensures err { OnErr result (AppendsFront (K.written out.old) (K.written out.new) (text_of lines.now)) }
-    ensures cause { HasCause SinkFault.Failed (K.faults out.old) (K.faults out.new) result }
+// Does what a command with a file asks for, and answers the status.
+fn answer_on_file<F: Files, K: Sink>(
+    alloc: Global,
+    verb: Verb,
+    path: &str,
+    files: &mut F,
+    out: &mut K,
+) -> Result<u8, Stop>
+    requires { Contains (F.lent files.old) path.now }
+    ensures comes { Comes (OnFile (verb_seen verb) path.now) (F.content files.old) (K.written out.old) (K.written out.new) result }
+    ensures end { IfOk result (λ status. status ≡ 0 → IsAtEnd (F.left files.new)) }
+    ensures reads { HasCause Stop.Read (F.faults files.old) (F.faults files.new) result }
+    ensures writes { HasCause Stop.Write (K.faults out.old) (K.faults out.new) result }
 {
-    'lines: for line in lines.as_slice() {
-        write_all(out, line.as_slice())?;
+    match verb {
+        Verb::Replay => replay_file(alloc, path, files, out),
+        Verb::Whole(verb) => answer_whole(alloc, verb, path, files, out),
     }
-    Ok(())
+}
+
+// Does what the words ask for, and answers the status.
+fn answer_words<F: Files, K: Sink>(
+    alloc: Global,
+    words: &Texts,
+    files: &mut F,
+    out: &mut K,
+) -> Result<u8, Stop>
+    requires { F.lent files.old ≡ drop 1 words.now }
+    ensures comes { Comes (command_of words.now) (F.content files.old) (K.written out.old) (K.written out.new) result }
+    ensures end { IfOk result (λ status. status ≡ 0 → IsAtEnd (F.left files.new)) }
+    ensures file { IsErrOf result Stop.Read → IsSome (file_of (command_of words.now)) }
+    ensures reads { HasCause Stop.Read (F.faults files.old) (F.faults files.new) result }
+    ensures writes { HasCause Stop.Write (K.faults out.old) (K.faults out.new) result }
+{
+    match read_words(words.as_slice()) {
+        Command::OnFile(verb, path) => answer_on_file(alloc, verb, path, files, out),
+        Command::NoCommand => usage(alloc, out),
+    }
 }
 
 /// Does what the words ask for, and answers the status: 0 done, 1 usage, 2 refused, 3 a read fault, 4 a write fault,
 /// 5 out of memory.
 ///
 /// The words are the command line without the program's name, and the files that are lent are those behind the first.
-/// Each line is one `write_all`.
+/// Each line is one `write_all`. `replay` reads pieces of at most 65,536 bytes, and writes the line of each group before it
+/// reads on.
 pub fn mich<F: Files, K: Sink>(alloc: Global, words: &Texts, files: &mut F, out: &mut K) -> u8
     requires { F.lent files.old ≡ drop 1 words.now }
     ensures { Meets words.now (F.content files.old) (F.faults files.old) (F.faults files.new) (K.faults out.old) (K.faults out.new)
         (F.left files.new) (K.written out.old) (K.written out.new) result }
 {
-    match answer_words(alloc, words, files) {
-        Ok(answer) => match write_lines(out, &answer.lines) {
-            Ok(()) => answer.status,
-            Err(SinkFault::Failed) => 4,
-            Err(SinkFault::Memory) => 5,
-        },
-        Err(FilesFault::Failed) => 3,
-        Err(FilesFault::Memory) => 5,
+    match answer_words(alloc, words, files, out) {
+        Ok(status) => status,
+        Err(Stop::Read) => 3,
+        Err(Stop::Write) => 4,
+        Err(Stop::Memory) => 5,
     }
 }

@@ -11,7 +11,7 @@ use Rattle.mich_replay.proofs.steps.take.Goals as goal
 pub step-requires-clause-ranges : goal.step-requires-clause-ranges
 step-requires-clause-ranges c = statements_have_ranges (tree c.args.node) (said c.in-Ok.statement) c.in-Ok.ensures c.requires.small
 
-pub returns-in-Ok-clause-taken : goal.returns-in-Ok-clause-taken
-returns-in-Ok-clause-taken c = λ receipts p place h.
-    subst (λ (o : Option Statement). IsTaken (taken receipts p place o) place c.step.new.course c.step.new.lines c.step.result) (sym c.in-Ok.ensures)
-    (c.step.ensures.taken receipts p place h)
+pub returns-in-Ok : goal.returns-in-Ok
+returns-in-Ok c = λ receipts p h.
+    subst (λ (o : Option Statement). IsTaken receipts c.args.place (taken receipts p c.args.place o) c.step.new.course c.step.result) (sym c.in-Ok.ensures)
+    (c.step.ensures receipts p h)

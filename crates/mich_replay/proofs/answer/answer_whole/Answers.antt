@@ -1,0 +1,23 @@
+use Rattle.std.proofs.Common.{Ok, Err, refl}
+use Rattle.std.proofs.lemmas.Result.{err_from_is_err_and}
+use Rattle.rules_replay.specs.Commands.{OnFile}
+use Rattle.mich_answers.specs.View.{answer_seen}
+use Rattle.mich_replay.specs.View.{whole_seen}
+use Rattle.mich_replay.proofs.Promise.{shown, nothing}
+use Rattle.mich_replay.proofs.answer.answer_whole.Goals as goal
+
+pub returns-in_err-answer-clause-comes : goal.returns-in_err-answer-clause-comes
+returns-in_err-answer-clause-comes g c =
+    let p = err_from_is_err_and c.from_residual.result c.from_residual.ensures.1 in
+    rw p.1 (λ other h. nothing _ _)
+
+pub returns-in_err-write_lines-clause-comes : goal.returns-in_err-write_lines-clause-comes
+returns-in_err-write_lines-clause-comes g c =
+    let p = err_from_is_err_and c.from_residual-in_err-write_lines.result c.from_residual-in_err-write_lines.ensures.1 in
+    rw p.1 (shown (OnFile (whole_seen c.args.verb) c.args.path.now) (g.F.Files.content c.args.files.now) _ _ (answer_seen c.in_ok-answer.answer) (Err p.0) c.in_ok-answer.ensures.exact
+    c.in_ok-answer.ensures.status c.in_err-write_lines.ensures.err)
+
+pub returns-clause-comes : goal.returns-clause-comes
+returns-clause-comes g c =
+    shown (OnFile (whole_seen c.args.verb) c.args.path.now) (g.F.Files.content c.args.files.now) _ _ (answer_seen c.in_ok-answer.answer) (Ok c.in_ok-answer.answer.status) c.in_ok-answer.ensures.exact
+    c.in_ok-answer.ensures.status (refl, c.in_ok-write_lines.ensures.ok)

@@ -1,0 +1,17 @@
+use Rattle.std.proofs.Common.{◌≤◌, ◌-◌}
+use Rattle.rules_text.specs.Fault.{file_limit}
+use Rattle.mich_replay.specs.Coming.{IsUnderway}
+use Rattle.mich_replay.proofs.replaying.replay_file.Given as goal
+
+abbrev pub invariant-pieces : goal.invariant-pieces
+invariant-pieces g l =
+    let files = g.F.Files in
+    let sink = g.K.Sink in
+    record {
+      reads : files.faults l.fn.files ≤ files.faults l.files;
+      writes : sink.faults l.fn.out ≤ sink.faults l.out;
+      underway : IsUnderway (files.content l.fn.files l.path) (files.left l.files) (sink.written l.fn.out) (sink.written l.out) l.session.reader l.session.course l.size;
+    }
+
+abbrev pub decreases-pieces : goal.decreases-pieces
+decreases-pieces g l = file_limit - l.size

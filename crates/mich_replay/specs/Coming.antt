@@ -1,0 +1,111 @@
+-- A file that comes in pieces, and what was told of it so far.
+use Rattle.std.specs.Prelude.{◌≡◌, ◌≤◌, ◌<◌, ℕ, List, [], ◌∷◌, ◌++◌, length, drop, Bool, true, false, Option, Some, None, Result, Ok, Err}
+use Rattle.std.specs.Io.KnownBytes.{Appends, Consumes}
+use Rattle.rules_course.specs.Course.{Course as PlainCourse}
+use Rattle.rules_io.specs.Known.{AppendsFront}
+use Rattle.rules_text.specs.Fault.{file_limit}
+use Rattle.rules_replay.specs.Answers.{Answer, status_of}
+use Rattle.rules_replay.specs.Commands.{Command, IsTold, IsAnswer, IsOwn}
+use Rattle.rules_replay.specs.Lines.{group_lines, ending_lines, text_of}
+use Rattle.rules_replay.specs.Places.{Placed, AreStatements, IsEndAt}
+use Rattle.rules_replay.specs.Replay.{IsReplay, Ending, RefusedAt, FileFault, going, run_all}
+use Rattle.rules_world.specs.Receipts.{Receipt}
+use Rattle.mich_base.specs.declared.memory.Memory.{Memory}
+use Rattle.mich_course.specs.declared.course.Course.{Course}
+use Rattle.mich_reader.specs.Held.{Held}
+use Rattle.mich_replay.specs.Steps.{Stands, Tells}
+use Rattle.mich_replay.specs.View.{file_fault_seen}
+use Rattle.mich_replay.specs.declared.replaying.Pause.{Pause}
+use Rattle.mich_replay.specs.declared.replaying.Pause.TheVariants as pause
+use Rattle.mich_replay.specs.declared.steps.Event.{Event}
+use Rattle.mich_replay.specs.declared.steps.Event.TheVariants as event
+use Rattle.mich_replay.specs.declared.stop.Stop.{Stop}
+
+-- ---- what these bytes come to, whatever follows them; nothing does where they are the last
+
+-- their statements stand up to a place, and come to these receipts
+pub record Begun (fed : List ℕ) (last : Bool) (receipts : List Receipt) (plain : Option PlainCourse) (place : ℕ) : Type 0 where
+  pub statements : List Placed
+  pub stand : (more : List ℕ) → (last ≡ true → more ≡ []) → AreStatements (fed ++ more) 0 statements place
+  pub run : run_all (going [] None) statements ≡ going receipts plain
+
+-- behind these receipts the file is refused
+abbrev pub IsRefused : List ℕ → Bool → List Receipt → FileFault → ℕ → Type 0
+IsRefused fed last receipts fault at = (more : List ℕ) → (last ≡ true → more ≡ []) → IsReplay (fed ++ more) (record { receipts = receipts; ending = RefusedAt fault at })
+
+-- ---- how far a replay has come
+
+-- a reader that was fed these bytes has come behind these receipts
+pub record Reads (fed : List ℕ) (last : Bool) (r : Held) (receipts : List Receipt) (plain : Option PlainCourse) : Type 0 where
+  pub begun : Begun fed last receipts plain r.place
+  pub few : length receipts ≤ r.place
+  pub bytes : drop r.place fed ≡ r.bytes
+  pub within : r.place ≤ length fed
+  pub short : r.place ≤ file_limit
+  pub ends : r.ended ≡ true → last ≡ true
+
+-- and so has a course
+pub record Came (fed : List ℕ) (last : Bool) (r : Held) (c : Option Course) (receipts : List Receipt) : Type 0 where
+  pub plain : Option PlainCourse
+  pub reads : Reads fed last r receipts plain
+  pub stands : Stands receipts plain c
+
+-- what comes next, behind a place
+abbrev pub Happens : List ℕ → Bool → List Receipt → ℕ → Held → Option Course → Result Event Memory → Type 0
+Happens fed last receipts place r c (Ok event.Taken) = Came fed last r c receipts × (place < r.place)
+Happens fed last receipts place r c (Ok (event.Group told)) = (found : Receipt) × Tells told found × Came fed last r c (receipts ++ found ∷ []) × (place < r.place)
+Happens fed last receipts place r c (Ok event.More) = (last ≡ false) × Came fed false r c receipts × (length fed ≤ file_limit)
+Happens fed last receipts place r c (Ok event.End) = Came fed true r c receipts × (last ≡ true) × IsEndAt fed r.place
+Happens fed last receipts place r c (Ok (event.Refused fault at)) = IsRefused fed last receipts (file_fault_seen fault) at
+Happens fed last receipts place r c (Err e) = Unit {0}
+
+-- ---- what was written
+
+-- the lines of all groups so far were
+pub record Told (fed : List ℕ) (last : Bool) (before now : Option (List ℕ)) (r : Held) (c : Option Course) : Type 0 where
+  pub receipts : List Receipt
+  pub came : Came fed last r c receipts
+  pub lines : Appends before now (text_of (group_lines 1 receipts))
+
+-- a front of the lines of some groups was
+pub record Cut (fed : List ℕ) (last : Bool) (before now : Option (List ℕ)) : Type 0 where
+  pub receipts : List Receipt
+  pub plain : Option PlainCourse
+  pub place : ℕ
+  pub begun : Begun fed last receipts plain place
+  pub lines : AppendsFront before now (text_of (group_lines 1 receipts))
+
+-- what stands behind the groups that were told
+abbrev pub Pauses : List ℕ → Bool → Option (List ℕ) → Option (List ℕ) → Held → Option Course → Result Pause Stop → Type 0
+Pauses fed last before now r c (Ok pause.More) = (last ≡ false) × Told fed false before now r c × (length fed ≤ file_limit)
+Pauses fed last before now r c (Ok pause.End) = Told fed true before now r c × (last ≡ true) × IsEndAt fed r.place
+Pauses fed last before now r c (Ok (pause.Refused fault at)) =
+    (receipts : List Receipt) × IsRefused fed last receipts (file_fault_seen fault) at × Appends before now (text_of (group_lines 1 receipts))
+Pauses fed last before now r c (Err e) = Cut fed last before now
+
+-- what came of an event behind a place: on with more events, or what stands behind the groups that were told
+abbrev pub Turns : List ℕ → Bool → Option (List ℕ) → Option (List ℕ) → ℕ → Held → Option Course → Result (Option Pause) Stop → Type 0
+Turns fed last before now place r c (Ok None) = Told fed last before now r c × (place < r.place)
+Turns fed last before now place r c (Ok (Some p)) = Pauses fed last before now r c (Ok p)
+Turns fed last before now place r c (Err e) = Cut fed last before now
+
+-- so many bytes of the file were read, and their groups told
+pub record IsUnderway (content left before now : Option (List ℕ)) (r : Held) (c : Option Course) (size : ℕ) : Type 0 where
+  pub fed : List ℕ
+  pub bytes : Consumes content left fed
+  pub size_is : size ≡ length fed
+  pub short : size ≤ file_limit
+  pub told : Told fed false before now r c
+
+-- the lines of an ending were written, and this is its status; or a front of them was
+abbrev pub Closes : Option (List ℕ) → Option (List ℕ) → Ending → Result ℕ Stop → Type 0
+Closes before now ending (Ok status) = (status ≡ status_of ending) × Appends before now (text_of (ending_lines ending))
+Closes before now ending (Err e) = AppendsFront before now (text_of (ending_lines ending))
+
+-- ---- commands
+
+-- an answer of the command has this status, and its text was written; or a front of the text of each of its answers was
+abbrev pub Comes : Command → (List ℕ → Option (List ℕ)) → Option (List ℕ) → Option (List ℕ) → Result ℕ Stop → Type 0
+Comes command content before now (Ok status) = (answer : Answer) × (IsTold command content → IsAnswer command content answer) × IsOwn command answer.status × (status ≡ answer.status)
+    × Appends before now (text_of answer.lines)
+Comes command content before now (Err e) = (answer : Answer) → IsAnswer command content answer → AppendsFront before now (text_of answer.lines)
