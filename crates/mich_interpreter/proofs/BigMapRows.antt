@@ -25,7 +25,6 @@ use Rattle.laws_evaluation.specs.Laws.{known}
 use Rattle.laws_sights.specs.Sights.{is_plain}
 use Rattle.laws_stacks.specs.Sound.{AllTypes}
 use Rattle.laws_stacks.proofs.Identities.{comparable_value}
-use Rattle.laws_suits.proofs.Rows.{row_ready}
 use Rattle.laws_typed.proofs.TypedRules.{Taken}
 use Rattle.laws_types.proofs.SameKinds.{same_kind_true}
 use Rattle.mich_entries.specs.Operands.{AreEntries, IsPlainOption, IsBigMapOnTop, HasBigMap, HasKey}
@@ -54,7 +53,8 @@ use Rattle.mich_interpreter.specs.View.{Beyond, tops, around, tally}
 use Rattle.mich_interpreter.specs.Ends.{Meets}
 use Rattle.mich_interpreter.specs.declared.state.State.{State}
 use Rattle.mich_interpreter.proofs.Plain.{big_value_plain, entries_fit_plain}
-use Rattle.mich_interpreter.proofs.Told.{stands_told, later, minted_by_now, burnt_is}
+use Rattle.mich_interpreter.proofs.Suited.{ready_tops}
+use Rattle.mich_interpreter.proofs.Told.{stands_told, later}
 
 where_holds : (b : Bool) (o : Option Change) (c : Change) → where_true b o ≡ Some c → b ≡ true
 where_holds true o c e = refl
@@ -173,7 +173,7 @@ module _ (x : Beyond) (costs : Costs) (m : State) {fs : List Frame} {d : ℕ} {Z
     pub gone_ready : IsReady m.ledger.books.present (tickets (val left))
     gone_ready =
         let V = tops x.sight m.stack in
-        let all = row_ready h m.ledger.books.present (minted_by_now m) (burnt_is m) in
+        let all = ready_tops x costs m (on_collections r) h in
         subst (IsReady m.ledger.books.present) (given_gone (collection_step r V) (tops x.sight stack) (tickets (seen x.sight left)) is ∙ same_tickets left)
         (part_ready m.ledger.books.present (gone (collection_step r V)) (flat_map tickets V) (collection_part r V) all)
 

@@ -1,4 +1,4 @@
--- A run behind PACK or a hash.
+-- A run behind PACK, UNPACK or a hash.
 use Rattle.std.proofs.Common.{◌≡◌, ◌≤◌, ◌-◌, ℕ, List, [], ap}
 use Rattle.rules_base.specs.Tree.{Tree}
 use Rattle.rules_gas.specs.Prices.{cost}
@@ -9,6 +9,7 @@ use Rattle.rules_steps.specs.Failure.{Failure}
 use Rattle.rules_steps.specs.Packing.{Trial, hash_step}
 use Rattle.rules_steps.specs.Step.{kept, fails}
 use Rattle.rules_evaluation.specs.Outcome.{Outcome, failed, finish, with_changes}
+use Rattle.rules_evaluation.specs.Surroundings.{Surroundings}
 use Rattle.rules_evaluation.specs.Trying.{trial}
 use Rattle.mich_frames.specs.Around.{at, less}
 use Rattle.mich_frames.specs.Frames.{Frame}
@@ -32,12 +33,12 @@ module _ (x : Beyond) (costs : Costs) (m : State) {fs : List Frame} {d : ℕ} {Z
   charged = cost (listed costs) (hash_kind r) heavy
 
   module _ (pays : charged ≤ m.meter) where
-    pub hash_stands : (stack : List Value) (meter : ℕ) → ((passes : Trial) → hash_step passes r (tops x.sight m.stack) ≡ kept (tops x.sight stack)) → meter ≡ m.meter - charged →
+    pub hash_stands : (stack : List Value) (meter : ℕ) → ((e : Surroundings) → hash_step (trial e) r (tops x.sight m.stack) ≡ kept (tops x.sight stack)) → meter ≡ m.meter - charged →
         StandsAt fs (around x costs (later x costs m stack meter m.ledger)) (tops x.sight stack) (tally x (later x costs m stack meter m.ledger)) d Z o
     hash_stands stack meter is paid =
         let n = less (around x costs m) (hash_kind r) heavy (tally x m) in
         stands_told x costs m stack meter m.ledger fs d Z o (hash_kind r) heavy [] (tells_same m.ledger) paid
-        (row_acts (on_hashes r) h pays (tops x.sight stack) (with_changes n []) (λ c d B. ap (λ s. finish s B n) (is (trial (at (around x costs m) c)))))
+        (row_acts (on_hashes r) h pays (tops x.sight stack) (with_changes n []) (λ c d B. ap (λ s. finish s B n) (is (at (around x costs m) c))))
 
     pub hash_failed : (f : Failure) → ((passes : Trial) → hash_step passes r (tops x.sight m.stack) ≡ fails f) → o ≡ failed f
     hash_failed f is =

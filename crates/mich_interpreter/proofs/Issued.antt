@@ -1,5 +1,5 @@
 -- A run behind an instruction that issues an operation.
-use Rattle.std.proofs.Common.{◌≡◌, ◌<◌, ◌≤◌, ◌-◌, ◌+◌, ℕ, suc, Option, Some, None, List, [], ◌∷◌, ◌++◌, map, refl, sym, ap, ◌∙◌, subst, arith, rules}
+use Rattle.std.proofs.Common.{◌≡◌, ◌<◌, ◌≤◌, ◌-◌, ◌+◌, ℕ, suc, Option, Some, None, List, [], ◌∷◌, ◌++◌, map, append_assoc, refl, sym, ap, ◌∙◌, subst, arith, rules}
 use Rattle.std.proofs.lemmas.List.{map-append}
 use Rattle.rules_gas.specs.declared.Kind.{Kind as Priced}
 use Rattle.rules_gas.specs.Prices.{cost}
@@ -23,7 +23,7 @@ use Rattle.mich_frames.specs.Shapes.{HasTop, HasBytes, HasTransfer}
 use Rattle.mich_frames.specs.Stands.{StandsAt}
 use Rattle.mich_interpreter.specs.Issues.{issued_by}
 use Rattle.mich_interpreter.specs.Parts.{HasAmount, HasAddress}
-use Rattle.mich_interpreter.specs.View.{Beyond, tops, around, tally}
+use Rattle.mich_interpreter.specs.View.{Beyond, tops, all_issued, around, tally}
 use Rattle.mich_interpreter.specs.declared.state.Counts.{Counts}
 use Rattle.mich_interpreter.specs.declared.state.State.{State}
 
@@ -40,10 +40,14 @@ module _ (x : Beyond) (costs : Costs) (old : State) (stack : List Value) (meter 
       StandsAt fs (around x costs (record old { stack = stack; meter = meter; counts = counts; issued = issued })) (tops x.sight stack) (tally x (record old { stack = stack; meter = meter; counts = counts; issued = issued })) d Z o
   stands_counted kind w originations op i n paid is_next counted originated group put same h =
       let gas : ℕ = old.meter - cost (listed costs) kind w in
-      let all : List rules.Issued = map (issued_by x.sight) issued in
+      let first : List rules.Issued = x.before.issued in
+      let all : List rules.Issued = all_issued x.sight x.before issued in
+      let new : rules.Issued = record { number = old.counts.issued; operation = op } in
       let next : counts.issued ≡ suc old.counts.issued = omega (arith, is_next, counted) in
-      let listed_is : all ≡ map (issued_by x.sight) old.issued ++ record { number = old.counts.issued; operation = op } ∷ [] =
+      let here : map (issued_by x.sight) issued ≡ map (issued_by x.sight) old.issued ++ new ∷ [] =
       ap (map (issued_by x.sight)) put ∙ map-append (issued_by x.sight) old.issued (i ∷ []) ∙ ap (λ j. map (issued_by x.sight) old.issued ++ j ∷ []) same in
+      let listed_is : all ≡ all_issued x.sight x.before old.issued ++ new ∷ [] =
+      ap (λ is. first ++ is) here ∙ sym (append_assoc first (map (issued_by x.sight) old.issued) (new ∷ [])) in
       let one : P old.counts.group gas (suc old.counts.issued) originations all = subst (λ is. P old.counts.group gas (suc old.counts.issued) originations is) (sym listed_is) h in
       let two : P old.counts.group gas (suc old.counts.issued) counts.originated all = subst (λ k. P old.counts.group gas (suc old.counts.issued) k all) (sym originated) one in
       let three : P old.counts.group gas counts.issued counts.originated all = subst (λ k. P old.counts.group gas k counts.originated all) (sym next) two in
@@ -65,6 +69,11 @@ pub transfer_second : (x : Val) (V : List Val) → HasTransfer (x ∷ V) → Has
 transfer_second x (number (pos n) ∷ bytes b ∷ V) h = tt
 transfer_second x _ h = absurd h
 
+-- what is on top where an address is
+pub address_first : (V : List Val) → HasBytes V → HasAddress V
+address_first (bytes b ∷ V) h = tt
+address_first _ h = absurd h
+
 pub transfer_third : (x y : Val) (V : List Val) → HasTransfer (x ∷ y ∷ V) → HasAddress V
 transfer_third x (number (pos n)) (bytes b ∷ V) h = tt
 transfer_third x _ _ h = absurd h
@@ -76,8 +85,3 @@ seen_operation big n = search (rules, values.the_lemmas)
 pub over_limit : (o : Option ℕ) (old new : ℕ) → ((n : ℕ) → o ≡ Some n → ⊥) → MatchOption o (operation_limit ≤ old) (λ n. (n ≡ old) × (n < operation_limit) × (new ≡ n + 1)) → operation_limit ≤ old
 over_limit None old new absent h = h
 over_limit (Some n) old new absent h = absurd (absent n refl)
-
--- what is on top where an address is
-pub address_first : (V : List Val) → HasBytes V → HasAddress V
-address_first (bytes b ∷ V) h = tt
-address_first _ h = absurd h

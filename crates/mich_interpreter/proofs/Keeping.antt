@@ -74,6 +74,7 @@ past_on a b c p q = record {
 pub acts_group : (act : Act) (old new : State) → new.ledger ≡ old.ledger → new.counts.group ≡ old.counts.group → KeepsScripts old.issued new.issued → KeepsAct act old new
 acts_group a.On old new e f g = keeps_group old new e f g
 acts_group (a.Open below body) old new e f g = keeps_group old new e f g
+acts_group (a.View w) old new e f g = keeps_group old new e f g
 acts_group (a.Failed why) old new e f g = past_of old new (keeps_group old new e f g)
 
 pub acts_same : (act : Act) (old new : State) → new.ledger ≡ old.ledger → new.counts ≡ old.counts → new.issued ≡ old.issued → KeepsAct act old new
@@ -83,10 +84,12 @@ pub step_keeps : (step : Step) (old new : State) → KeepsState old new → Keep
 step_keeps s.Free old new p = p
 step_keeps s.Paid old new p = p
 step_keeps s.Done old new p = p
+step_keeps (s.View w) old new p = p
 step_keeps (s.Failed why) old new p = past_of old new p
 
 pub step_on : (step : Step) (a b c : State) → KeepsState a b → KeepsStep step b c → KeepsStep step a c
 step_on s.Free a b c p q = keeps_on a b c p q
 step_on s.Paid a b c p q = keeps_on a b c p q
 step_on s.Done a b c p q = keeps_on a b c p q
+step_on (s.View w) a b c p q = keeps_on a b c p q
 step_on (s.Failed why) a b c p q = past_on a b c p q

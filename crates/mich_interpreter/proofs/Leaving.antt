@@ -1,11 +1,11 @@
 -- Frames that are taken off.
 use Rattle.std.proofs.Common.{◌≡◌, ℕ, List, [], ◌∷◌, ◌++◌, refl, ap, ◌∙◌, subst}
 use Rattle.rules_types.specs.Kind.{Kind}
-use Rattle.rules_evaluation.specs.Outcome.{Outcome, stack}
+use Rattle.rules_evaluation.specs.Outcome.{Outcome}
 use Rattle.mich_gas.specs.declared.costs.Costs.{Costs}
 use Rattle.mich_instr.specs.declared.instr.Instr.{Instr}
+use Rattle.mich_frames.specs.Frames as fr
 use Rattle.mich_frames.specs.Stands.{StandsAt}
-use Rattle.mich_frames.proofs.Ends.{all_done}
 use Rattle.mich_interpreter.specs.View.{Beyond, tops, frame, frames, around, tally}
 use Rattle.mich_interpreter.specs.Ends.{Stands}
 use Rattle.mich_interpreter.specs.Runs.{Behind, IsNoBlock}
@@ -14,17 +14,17 @@ use Rattle.mich_interpreter.specs.declared.frame.Frame.TheVariants as f
 use Rattle.mich_interpreter.specs.declared.machine.Machine.{Machine}
 use Rattle.mich_interpreter.proofs.Listed.{map_reverse}
 
-module _ (x : Beyond) (costs : Costs) (Z : List Kind) (o : Outcome) (m : Machine) where
+module _ (x : Beyond) (costs : Costs) (gs : List fr.Frame) (Z : List Kind) (o : Outcome) (m : Machine) where
   -- a frame was on top
-  pub on_top : (gs : List Frame) (top : Frame) → m.frames ≡ gs ++ top ∷ [] → Behind x costs m Z o → Stands top x costs m.state (frames x.sight gs) m.depth Z o
-  on_top gs top e h =
-      subst (λ hs. StandsAt hs (around x costs m.state) (tops x.sight m.state.stack) (tally x m.state) m.depth Z o)
-      (ap (frames x.sight) e ∙ map_reverse (frame x.sight) gs top) h
+  pub on_top : (hs : List Frame) (top : Frame) → m.frames ≡ hs ++ top ∷ [] → Behind x costs m gs Z o → Stands top x costs m.state (frames x.sight hs ++ gs) m.depth Z o
+  on_top hs top e h =
+      subst (λ ks. StandsAt (ks ++ gs) (around x costs m.state) (tops x.sight m.state.stack) (tally x m.state) m.depth Z o)
+      (ap (frames x.sight) e ∙ map_reverse (frame x.sight) hs top) h
 
   -- none was left
-  pub at_end : m.frames ≡ [] → Behind x costs m Z o → o ≡ stack Z (tops x.sight m.state.stack) (tally x m.state)
+  pub at_end : m.frames ≡ [] → Behind x costs m gs Z o → StandsAt gs (around x costs m.state) (tops x.sight m.state.stack) (tally x m.state) m.depth Z o
   at_end e h =
-      all_done (subst (λ hs. StandsAt hs (around x costs m.state) (tops x.sight m.state.stack) (tally x m.state) m.depth Z o) (ap (frames x.sight) e) h)
+      subst (λ ks. StandsAt (ks ++ gs) (around x costs m.state) (tops x.sight m.state.stack) (tally x m.state) m.depth Z o) (ap (frames x.sight) e) h
 
 pub no_block : (frame : Frame) → ((block : List Instr) (at : ℕ) → frame ≡ f.Rest block at → ⊥) → IsNoBlock frame
 no_block (f.Rest block at) never = never block at refl

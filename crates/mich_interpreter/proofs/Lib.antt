@@ -19,6 +19,10 @@ pub mod Keeping
 pub mod Capped
 pub mod Ruled
 pub mod Told
+pub mod Called
+pub mod Turned
+pub mod Visited
+pub mod Opened
 pub mod Issued
 pub mod Suited
 pub mod Straightened
@@ -26,9 +30,10 @@ pub mod Changed
 pub mod Failing
 pub mod Operands
 pub mod Hashed
+pub mod Unpacks
 pub mod Plain
 pub mod BigMapRows
 pub mod Dropped
-pub mod Called
+pub mod Executed
 pub mod Captured
 pub mod Founded

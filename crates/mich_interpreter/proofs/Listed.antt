@@ -14,6 +14,7 @@ use Rattle.mich_instr.specs.Code as made
 use Rattle.mich_instr.specs.View.{code, codes}
 use Rattle.mich_instr.specs.declared.instr.Instr.{Instr}
 use Rattle.mich_stack.specs.Views.{Sight, seen}
+use Rattle.mich_frames.specs.Frames as fr
 use Rattle.mich_interpreter.specs.View.{tops, frame, frames}
 use Rattle.mich_interpreter.specs.Ends.{over}
 use Rattle.mich_interpreter.specs.Runs.{with_below}
@@ -25,9 +26,9 @@ map_reverse g xs x = ap (map g) (reverse-append xs (x ∷ []))
 pub map_reverse_append : {A B : Type 0} (g : A → B) (xs ys : List A) → map g (reverse (xs ++ ys)) ≡ map g (reverse ys) ++ map g (reverse xs)
 map_reverse_append g xs ys = ap (map g) (reverse-append xs ys) ∙ map-append g (reverse ys) (reverse xs)
 
-pub over_is : (big : Sight) (fs : List Frame) (below : Option Frame) → over big below (frames big fs) ≡ frames big (with_below fs below)
-over_is big fs None = refl
-over_is big fs (Some f) = sym (map_reverse (frame big) fs f)
+pub over_is : (big : Sight) (fs : List Frame) (gs : List fr.Frame) (below : Option Frame) → over big below (frames big fs ++ gs) ≡ frames big (with_below fs below) ++ gs
+over_is big fs gs None = refl
+over_is big fs gs (Some f) = ap (λ hs. hs ++ gs) (sym (map_reverse (frame big) fs f))
 
 -- the code from a place on
 pub code_at : (is : List Instr) (k : ℕ) (i : Instr) → k < length is → slice_get is k ≡ Some i →

@@ -35,4 +35,5 @@ module _ (kind : Priced) (w : ℕ) {fs : List Frame} {u : Around} {V : List Val}
 pub turns_spend : (old mid new : ℕ) (act : Act) → mid < old → Turns act mid new → Spends act old new
 turns_spend old mid new a.On lt e = omega (arith, lt, e)
 turns_spend old mid new (a.Open below body) lt e = omega (arith, lt, e)
+turns_spend old mid new (a.View w) lt e = absurd e
 turns_spend old mid new (a.Failed why) lt e = tt

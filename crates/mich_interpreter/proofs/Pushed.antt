@@ -96,3 +96,7 @@ whole_flat (k.ticket a) p v h = absurd cc
 -- a literal that was read is the same value however big maps are seen, and wherever it stands
 pub pushed_is : (a : Kind) (t : Tree) (v : Value) (ps : List Pending) → pushable a ≡ true → IsWhole a v → read a 0 t ≡ good (val v) ps → (big : Sight) (at : ℕ) → value_of (read a at t) ≡ Some (seen big v)
 pushed_is a t v ps p whole is big at = value_there a at 0 t ∙ ap value_of is ∙ ap Some (sym (flat_is big v (whole_flat a p v whole)))
+
+-- a value with the parts of such a type is the same however big maps are seen
+pub whole_is : (a : Kind) (v : Value) → pushable a ≡ true → IsWhole a v → (big : Sight) → seen big v ≡ val v
+whole_is a v p whole big = flat_is big v (whole_flat a p v whole)

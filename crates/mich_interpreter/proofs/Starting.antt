@@ -1,5 +1,5 @@
 -- Where a run begins.
-use Rattle.std.proofs.Common.{◌≡◌, List, [], ◌∷◌, sym, subst, lit<}
+use Rattle.std.proofs.Common.{◌≡◌, List, [], ◌∷◌, ◌++◌, sym, subst, lit<}
 use Rattle.rules_types.specs.Kind.{Kind}
 use Rattle.rules_evaluation.specs.Outcome.{Outcome}
 use Rattle.mich_gas.specs.declared.costs.Costs.{Costs}
@@ -14,6 +14,6 @@ use Rattle.mich_interpreter.specs.declared.frame.Frame.{Frame}
 use Rattle.mich_interpreter.specs.declared.state.State.{State}
 
 pub run_begins : (x : Beyond) (costs : Costs) (code : List Instr) (m : State) (Z : List Kind) (o : Outcome) (gs : List Frame) → gs ≡ [] → Opens x costs code m Z o →
-    StandsAt (fr.rest (codes code) ∷ frames x.sight gs) (around x costs m) (tops x.sight m.stack) (tally x m) 1 Z o
+    StandsAt (fr.rest (codes code) ∷ frames x.sight gs ++ []) (around x costs m) (tops x.sight m.stack) (tally x m) 1 Z o
 run_begins x costs code m Z o gs e h =
-    subst (λ hs. StandsAt (fr.rest (codes code) ∷ frames x.sight hs) (around x costs m) (tops x.sight m.stack) (tally x m) 1 Z o) (sym e) (enters (lit< tt) h)
+    subst (λ hs. StandsAt (fr.rest (codes code) ∷ frames x.sight hs ++ []) (around x costs m) (tops x.sight m.stack) (tally x m) 1 Z o) (sym e) (enters (lit< tt) h)

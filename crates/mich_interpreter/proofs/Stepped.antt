@@ -55,11 +55,13 @@ popped_smaller fs gs x e = subst (λ hs. frames_size (frames big_step gs) < fram
 pub settled_of : (step : Step) (old mid new : Machine) → (step ≡ s.Free → ⊥) → mid.state.meter ≡ old.state.meter → IsSpent step mid new → IsSettled step old new
 settled_of s.Free old mid new free e h = absurd (free refl)
 settled_of s.Paid old mid new free e h = omega (arith, e, h)
-settled_of s.Done old mid new free e h = tt
+settled_of s.Done old mid new free e h = h ∙ e
+settled_of (s.View w) old mid new free e h = omega (arith, e, h)
 settled_of (s.Failed why) old mid new free e h = tt
 
 pub paid_spent : (step : Step) (old new : Machine) → IsPaidStep step old.state.meter new.state.meter → IsSpent step old new
 paid_spent s.Free old new h = absurd h
 paid_spent s.Paid old new h = h
-paid_spent s.Done old new h = tt
+paid_spent s.Done old new h = h
+paid_spent (s.View w) old new h = h
 paid_spent (s.Failed why) old new h = tt

@@ -1,5 +1,5 @@
 -- What a ledger lists after an instruction, and what was minted before the run.
-use Rattle.std.proofs.Common.{◌≡◌, ◌-◌, ℕ, List, ◌++◌, map, sym, ap, ◌∙◌, subst, arith}
+use Rattle.std.proofs.Common.{◌≡◌, ◌-◌, ℕ, List, ◌++◌, map, append_assoc, sym, ap, ◌∙◌, subst, arith}
 use Rattle.std.specs.Prelude.{ℤ, ◌+ℤ◌, ◌-ℤ◌}
 use Rattle.std.proofs.lemmas.Int.{ints}
 use Rattle.rules_gas.specs.declared.Kind.{Kind as Priced}
@@ -19,7 +19,8 @@ use Rattle.mich_frames.specs.Around.{less}
 use Rattle.mich_frames.specs.Frames.{Frame}
 use Rattle.mich_frames.specs.Rows.{minted_at}
 use Rattle.mich_frames.specs.Stands.{StandsAt}
-use Rattle.mich_interpreter.specs.View.{Beyond, tops, minted_before, burnt_before, around, tally}
+use Rattle.laws_evaluation.specs.Laws.{amount_issued}
+use Rattle.mich_interpreter.specs.View.{Before, Beyond, tops, all_changes, minted_before, burnt_before, around, tally}
 use Rattle.mich_interpreter.specs.declared.state.State.{State}
 
 back : (a b : ℤ) → (a -ℤ b) +ℤ b ≡ a
@@ -27,34 +28,43 @@ back a b = omega (arith, ints)
 
 -- what was minted before the run and in it is what the books tell
 pub minted_is : (x : Beyond) (costs : Costs) (m : State) (kind : Priced) (w : ℕ) → minted_at (around x costs m) (less (around x costs m) kind w (tally x m)) ≡ minted_of m.ledger.books.present
-minted_is x costs m kind w = λ i id. back (minted_of m.ledger.books.present id) (minted_in id (map change m.ledger.changes)) i
+minted_is x costs m kind w = λ i id. back (minted_of m.ledger.books.present id) (minted_in id (all_changes x.before m.ledger)) i
 
--- and what was burnt by now, likewise
-pub burnt_is : (m : State) (id : Identity) → burnt_of m.ledger.books.present id ≡ burnt_before m.ledger id +ℤ burnt_in id (map change m.ledger.changes)
-burnt_is m id = sym (back (burnt_of m.ledger.books.present id) (burnt_in id (map change m.ledger.changes)))
+more_back : (a b c : ℤ) → ((a -ℤ (b +ℤ c)) +ℤ c) +ℤ b ≡ a
+more_back a b c = omega (arith, ints)
 
-pub minted_by_now : (m : State) (id : Identity) → minted_of m.ledger.books.present id ≡ minted_before m.ledger id +ℤ minted_in id (map change m.ledger.changes)
-minted_by_now m id = sym (back (minted_of m.ledger.books.present id) (minted_in id (map change m.ledger.changes)))
+-- and what was burnt by now, likewise; a view begins with nothing burnt
+pub burnt_is : (b : Before) (m : State) (id : Identity) → burnt_of m.ledger.books.present id ≡ (burnt_before b m.ledger id +ℤ burnt_in id (all_changes b m.ledger)) +ℤ amount_issued id b.issued
+burnt_is b m id = sym (more_back (burnt_of m.ledger.books.present id) (amount_issued id b.issued) (burnt_in id (all_changes b m.ledger)))
+
+pub minted_by_now : (b : Before) (m : State) (id : Identity) → minted_of m.ledger.books.present id ≡ minted_before b m.ledger id +ℤ minted_in id (all_changes b m.ledger)
+minted_by_now b m id = sym (back (minted_of m.ledger.books.present id) (minted_in id (all_changes b m.ledger)))
 
 less_more : (a b c d e : ℤ) → a ≡ b +ℤ c → d ≡ e +ℤ c → a -ℤ d ≡ b -ℤ e
 less_more a b c d e p q = omega (arith, ints)
 
--- what was minted before the run stays
-module _ (changes : List Change) (old new : Ledger) (t : Tells changes old new) where
-  same_before : (id : Identity) → minted_before new id ≡ minted_before old id
-  same_before id =
-      less_more (minted_of new.books.present id) (minted_of old.books.present id) (minted_in id changes) (minted_in id (map change new.changes)) (minted_in id (map change old.changes))
-      (t.books.minted id) (ap (minted_in id) t.told ∙ minted_append id (map change old.changes) changes)
+less_more_than : (a b c d e f : ℤ) → a ≡ b +ℤ c → d ≡ e +ℤ c → a -ℤ (f +ℤ d) ≡ b -ℤ (f +ℤ e)
+less_more_than a b c d e f p q = omega (arith, ints)
 
-  pub before_stays : minted_before new ≡ minted_before old
+-- what was minted before the run stays
+module _ (before : Before) (changes : List Change) (old new : Ledger) (t : Tells changes old new) where
+  pub told_all : all_changes before new ≡ all_changes before old ++ changes
+  told_all = ap (λ cs. before.changes ++ cs) t.told ∙ sym (append_assoc before.changes (map change old.changes) changes)
+
+  same_before : (id : Identity) → minted_before before new id ≡ minted_before before old id
+  same_before id =
+      less_more (minted_of new.books.present id) (minted_of old.books.present id) (minted_in id changes) (minted_in id (all_changes before new)) (minted_in id (all_changes before old))
+      (t.books.minted id) (ap (minted_in id) told_all ∙ minted_append id (all_changes before old) changes)
+
+  pub before_stays : minted_before before new ≡ minted_before before old
   before_stays = λ i id. same_before id i
 
-  same_burnt : (id : Identity) → burnt_before new id ≡ burnt_before old id
+  same_burnt : (id : Identity) → burnt_before before new id ≡ burnt_before before old id
   same_burnt id =
-      less_more (burnt_of new.books.present id) (burnt_of old.books.present id) (burnt_in id changes) (burnt_in id (map change new.changes)) (burnt_in id (map change old.changes))
-      (t.books.burnt id) (ap (burnt_in id) t.told ∙ burnt_append id (map change old.changes) changes)
+      less_more_than (burnt_of new.books.present id) (burnt_of old.books.present id) (burnt_in id changes) (burnt_in id (all_changes before new)) (burnt_in id (all_changes before old)) (amount_issued id before.issued)
+      (t.books.burnt id) (ap (burnt_in id) told_all ∙ burnt_append id (all_changes before old) changes)
 
-  pub burnt_stays : burnt_before new ≡ burnt_before old
+  pub burnt_stays : burnt_before before new ≡ burnt_before before old
   burnt_stays = λ i id. same_burnt id i
 
 module _ (x : Beyond) (costs : Costs) (old : State) (stack : List Value) (meter : ℕ) (ledger : Ledger) where
@@ -70,11 +80,13 @@ module _ (x : Beyond) (costs : Costs) (old : State) (stack : List Value) (meter 
         StandsAt fs (around x costs old) (tops x.sight stack) (with_changes (less (around x costs old) kind w (tally x old)) changes) d Z o →
         StandsAt fs (around x costs later) (tops x.sight later.stack) (tally x later) d Z o
     stands_told t paid h =
-        let f = minted_before old.ledger in
-        let b = burnt_before old.ledger in
+        let before = x.before in
+        let f = minted_before before old.ledger in
+        let b = burnt_before before old.ledger in
         let gas : ℕ = old.meter - cost (listed costs) kind w in
-        let one : P f b gas (map change old.ledger.changes ++ changes) = h in
-        let two : P f b gas (map change ledger.changes) = subst (λ cs. P f b gas cs) (sym t.told) one in
-        let three : P f b meter (map change ledger.changes) = subst (λ g. P f b g (map change ledger.changes)) (sym paid) two in
-        let four : P (minted_before ledger) b meter (map change ledger.changes) = subst (λ y. P y b meter (map change ledger.changes)) (sym (before_stays changes old.ledger ledger t)) three in
-        subst (λ y. P (minted_before ledger) y meter (map change ledger.changes)) (sym (burnt_stays changes old.ledger ledger t)) four
+        let all = all_changes before ledger in
+        let one : P f b gas (all_changes before old.ledger ++ changes) = h in
+        let two : P f b gas all = subst (λ cs. P f b gas cs) (sym (told_all before changes old.ledger ledger t)) one in
+        let three : P f b meter all = subst (λ g. P f b g all) (sym paid) two in
+        let four : P (minted_before before ledger) b meter all = subst (λ y. P y b meter all) (sym (before_stays before changes old.ledger ledger t)) three in
+        subst (λ y. P (minted_before before ledger) y meter all) (sym (burnt_stays before changes old.ledger ledger t)) four

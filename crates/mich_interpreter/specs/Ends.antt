@@ -1,11 +1,13 @@
 -- How an instruction ends.
-use Rattle.std.specs.Prelude.{◌≡◌, ◌≤◌, ◌<◌, ◌-◌, ℕ, Bool, true, false, List, ◌∷◌, Option, Some, None, Result, IfOk}
+use Rattle.std.specs.Prelude.{◌≡◌, ◌≤◌, ◌<◌, ◌-◌, ℕ, pos, ◌+ℤ◌, ◌-ℤ◌, Bool, true, false, List, [], ◌∷◌, Option, Some, None, Result, IfOk}
 use Rattle.mich_base.specs.declared.memory.Memory.{Memory}
 use Rattle.rules_gas.specs.declared.Kind.{Kind as Priced}
 use Rattle.rules_gas.specs.Prices.{Listed, cost}
 use Rattle.rules_types.specs.Kind.{Kind}
 use Rattle.rules_values.specs.Val.{Val}
-use Rattle.rules_steps.specs.Changes.{Change}
+use Rattle.rules_steps.specs.Changes.{Change, burnt_in}
+use Rattle.rules_steps.specs.Environment.{Environment}
+use Rattle.laws_evaluation.specs.Laws.{amount_issued}
 use Rattle.rules_steps.specs.Failure.{Failure}
 use Rattle.rules_steps.specs.Failure as f
 use Rattle.rules_evaluation.specs.Operations.{Tally}
@@ -13,10 +15,11 @@ use Rattle.rules_evaluation.specs.Outcome.{Outcome, failed}
 use Rattle.mich_gas.specs.declared.costs.Costs.{Costs}
 use Rattle.mich_base.specs.TypeView.{kind}
 use Rattle.mich_undo.specs.History.{Keeps as KeepsBooks}
-use Rattle.mich_stack.specs.Views.{Sight}
+use Rattle.mich_stack.specs.Views.{Sight, seen}
+use Rattle.mich_step.specs.Views.{environment}
 use Rattle.mich_instr.specs.Code.{Code}
 use Rattle.mich_instr.specs.View.{codes}
-use Rattle.mich_frames.specs.Around.{Around}
+use Rattle.mich_frames.specs.Around.{Around, in_environment, with_burnt}
 use Rattle.mich_frames.specs.Frames as fr
 use Rattle.mich_frames.specs.Stands.{StandsAt, MeetsAt, OpensAt}
 use Rattle.mich_interpreter.specs.declared.act.Act.{Act}
@@ -53,19 +56,27 @@ abbrev pub over : Sight → Option Frame → List fr.Frame → List fr.Frame
 over big None fs = fs
 over big (Some below) fs = frame big below ∷ fs
 
+-- in a view with this environment, at whose beginning nothing is burnt or handed over
+abbrev pub in_view : Around → Environment → Tally → Around
+in_view u e m = with_burnt (in_environment u e) (λ id. pos 0 -ℤ (amount_issued id m.issued +ℤ burnt_in id m.changes))
+
+-- a view opens on the one value that it begins with, over the stack of its caller
 abbrev pub ActsAt : Sight → Act → List fr.Frame → Around → List Val → Tally → ℕ → List Kind → Outcome → Type 0
 ActsAt big a.On fs u V m d Z o = StandsAt fs u V m d Z o
 ActsAt big (a.Open below body) fs u V m d Z o = OpensAt (codes body) (over big below fs) u V m d Z o
 ActsAt big (a.Failed why) fs u V m d Z o = o ≡ failed (failure big why)
+ActsAt big (a.View w) fs u V m d Z o =
+    OpensAt (codes w.code) (fr.viewing u.environment u.burnt m.issued m.changes V ∷ fs) (in_view u (environment w.env) m) (seen big w.value ∷ []) m d Z o
 
 -- what was paid for leaves less gas
 abbrev pub Spends : Act → ℕ → ℕ → Type 0
 Spends (a.Failed why) old new = Unit {0}
 Spends _ old new = new < old
 
--- what comes after a turn costs nothing where there is no further one
+-- what comes after a turn is no view, and costs nothing where there is no further one
 abbrev pub Turns : Act → ℕ → ℕ → Type 0
 Turns (a.Failed why) old new = Unit {0}
+Turns (a.View w) old new = ⊥
 Turns a.On old new = new ≡ old
 Turns _ old new = new < old
 

@@ -7,4 +7,7 @@ pub mod Sees
 pub mod Ends
 pub mod Runs
 pub mod Begins
+pub mod Callers
+pub mod Viewing
+pub mod Visits
 pub mod Calls

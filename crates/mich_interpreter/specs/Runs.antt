@@ -11,6 +11,7 @@ use Rattle.mich_frames.specs.Frames as fr
 use Rattle.mich_frames.specs.Stands.{StandsAt}
 use Rattle.mich_frames.specs.Sizes.{frames_size}
 use Rattle.mich_interpreter.specs.declared.act.Act.{Act}
+use Rattle.mich_interpreter.specs.declared.act.Act.TheVariants as a
 use Rattle.mich_interpreter.specs.declared.frame.Frame.{Frame}
 use Rattle.mich_interpreter.specs.declared.frame.Frame.TheVariants as f
 use Rattle.mich_interpreter.specs.declared.machine.Machine.{Machine}
@@ -22,34 +23,27 @@ use Rattle.mich_interpreter.specs.declared.machine.Ended.TheVariants as e
 use Rattle.mich_interpreter.specs.View.{Beyond, tops, frames, around, tally}
 use Rattle.mich_interpreter.specs.Sees.{Sees}
 use Rattle.mich_world.specs.World.{World}
-use Rattle.mich_interpreter.specs.Ends.{failure, ActsAt, KeepsPast, KeepsState}
+use Rattle.mich_interpreter.specs.Ends.{failure, Acts, KeepsPast, KeepsState}
 use Rattle.mich_term.specs.ValueView.{big_step}
 
 -- what is left of the block that runs
 abbrev pub left_of : Machine → Codes
 left_of m = codes (drop m.at m.block)
 
--- the run is in its block
-abbrev pub InBlock : Beyond → Costs → Machine → List Kind → Outcome → Type 0
-InBlock x costs m Z o =
-    StandsAt (fr.rest (left_of m) ∷ frames x.sight m.frames) (around x costs m.state) (tops x.sight m.state.stack) (tally x m.state)
+-- the run is in its block, and these frames are below its own
+abbrev pub InBlock : Beyond → Costs → Machine → List fr.Frame → List Kind → Outcome → Type 0
+InBlock x costs m gs Z o =
+    StandsAt (fr.rest (left_of m) ∷ frames x.sight m.frames ++ gs) (around x costs m.state) (tops x.sight m.state.stack) (tally x m.state)
     m.depth Z o
 
 -- the run is behind its block
-abbrev pub Behind : Beyond → Costs → Machine → List Kind → Outcome → Type 0
-Behind x costs m Z o =
-    StandsAt (frames x.sight m.frames) (around x costs m.state) (tops x.sight m.state.stack) (tally x m.state) m.depth Z o
-
--- what has acted is in front of the frames
-abbrev pub HasActed : Act → Beyond → Costs → Machine → List Kind → Outcome → Type 0
-HasActed act x costs m Z o =
-    ActsAt x.sight act (frames x.sight m.frames) (around x costs m.state) (tops x.sight m.state.stack) (tally x m.state) m.depth Z o
+abbrev pub Behind : Beyond → Costs → Machine → List fr.Frame → List Kind → Outcome → Type 0
+Behind x costs m gs Z o =
+    StandsAt (frames x.sight m.frames ++ gs) (around x costs m.state) (tops x.sight m.state.stack) (tally x m.state) m.depth Z o
 
 -- what has acted is in front of the rest of the block
-abbrev pub HasActedIn : Act → Beyond → Costs → Machine → List Kind → Outcome → Type 0
-HasActedIn act x costs m Z o =
-    ActsAt x.sight act (fr.rest (left_of m) ∷ frames x.sight m.frames) (around x costs m.state) (tops x.sight m.state.stack)
-    (tally x m.state) m.depth Z o
+abbrev pub HasActedIn : Act → Beyond → Costs → Machine → List fr.Frame → List Kind → Outcome → Type 0
+HasActedIn act x costs m gs Z o = Acts act x costs m.state (fr.rest (left_of m) ∷ frames x.sight m.frames ++ gs) m.depth Z o
 
 -- frames with one more, or none
 abbrev pub with_below : List Frame → Option Frame → List Frame
@@ -72,35 +66,40 @@ IsBegun false below body fs old new = block_limit ≤ old.depth
 abbrev pub with_rest : Machine → List Frame
 with_rest m = m.frames ++ f.Rest m.block m.at ∷ []
 
-abbrev pub IsStep : Step → Beyond → Costs → Machine → List Kind → Outcome → Type 0
-IsStep s.Free x costs m Z o = InBlock x costs m Z o
-IsStep s.Paid x costs m Z o = InBlock x costs m Z o
-IsStep s.Done x costs m Z o = o ≡ stack Z (tops x.sight m.state.stack) (tally x m.state)
-IsStep (s.Failed why) x costs m Z o = o ≡ failed (failure x.sight why)
+-- where all of its own frames are done, those below come next
+abbrev pub IsStep : Step → Beyond → Costs → Machine → List fr.Frame → List Kind → Outcome → Type 0
+IsStep s.Free x costs m gs Z o = InBlock x costs m gs Z o
+IsStep s.Paid x costs m gs Z o = InBlock x costs m gs Z o
+IsStep s.Done x costs m gs Z o = StandsAt gs (around x costs m.state) (tops x.sight m.state.stack) (tally x m.state) m.depth Z o
+IsStep (s.View w) x costs m gs Z o = HasActedIn (a.View w) x costs m gs Z o
+IsStep (s.Failed why) x costs m gs Z o = o ≡ failed (failure x.sight why)
 
 -- how much there is that costs nothing
 abbrev pub size_of : Machine → ℕ
 size_of m = frames_size (fr.rest (left_of m) ∷ frames big_step m.frames)
 
--- a step costs gas, or leaves less that costs nothing
+-- a step costs gas, or leaves less that costs nothing, or is the end
 abbrev pub IsSpent : Step → Machine → Machine → Type 0
 IsSpent s.Free old new = (new.state.meter ≡ old.state.meter) × (size_of new < size_of old)
 IsSpent s.Paid old new = new.state.meter < old.state.meter
-IsSpent s.Done old new = Unit {0}
+IsSpent s.Done old new = new.state.meter ≡ old.state.meter
+IsSpent (s.View w) old new = new.state.meter < old.state.meter
 IsSpent (s.Failed why) old new = Unit {0}
 
 -- what comes of frames that are taken off, of a size
 abbrev pub HasLeft : Step → Machine → Machine → Type 0
 HasLeft s.Free old new = (new.state.meter ≡ old.state.meter) × (size_of new ≤ frames_size (frames big_step old.frames))
 HasLeft s.Paid old new = new.state.meter < old.state.meter
-HasLeft s.Done old new = Unit {0}
+HasLeft s.Done old new = new.state.meter ≡ old.state.meter
+HasLeft (s.View w) old new = ⊥
 HasLeft (s.Failed why) old new = Unit {0}
 
 -- a step in a block, which isn't free, from so much gas
 abbrev pub IsPaidStep : Step → ℕ → ℕ → Type 0
 IsPaidStep s.Free old new = ⊥
 IsPaidStep s.Paid old new = new < old
-IsPaidStep s.Done old new = Unit {0}
+IsPaidStep s.Done old new = new ≡ old
+IsPaidStep (s.View w) old new = new < old
 IsPaidStep (s.Failed why) old new = Unit {0}
 
 -- a step that isn't free
@@ -109,10 +108,10 @@ IsSettled step old new = IsPaidStep step old.state.meter new.state.meter
 
 -- where the run stands somewhere, and sees a world
 abbrev pub SomeRun : World → Costs → Machine → Type 0
-SomeRun v costs m = (x : Beyond) × (Z : List Kind) × (o : Outcome) × InBlock x costs m Z o × Sees v x
+SomeRun v costs m = (x : Beyond) × (gs : List fr.Frame) × (Z : List Kind) × (o : Outcome) × InBlock x costs m gs Z o × Sees v x
 
 abbrev pub SomeEnd : Costs → Machine → Type 0
-SomeEnd costs m = (x : Beyond) × (Z : List Kind) × (o : Outcome) × Behind x costs m Z o
+SomeEnd costs m = (x : Beyond) × (gs : List fr.Frame) × (Z : List Kind) × (o : Outcome) × Behind x costs m gs Z o
 
 -- what a step keeps
 abbrev pub KeepsStep : Step → State → State → Type 0

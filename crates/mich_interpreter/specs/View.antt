@@ -1,9 +1,11 @@
 -- The plain frames, values and counts that those of the code stand for.
-use Rattle.std.specs.Prelude.{ℕ, ℤ, ◌-ℤ◌, List, map, reverse, drop, Option}
+use Rattle.std.specs.Prelude.{ℕ, ℤ, ◌+ℤ◌, ◌-ℤ◌, List, ◌++◌, map, reverse, drop, Option}
 use Rattle.rules_values.specs.Val.{Val}
 use Rattle.rules_values.specs.Tickets.{Identity}
 use Rattle.rules_evaluation.specs.Surroundings.{Contract}
 use Rattle.rules_evaluation.specs.Operations.{Tally}
+use Rattle.rules_evaluation.specs.Operations as rules
+use Rattle.laws_evaluation.specs.Laws.{amount_issued}
 use Rattle.mich_gas.specs.declared.costs.Costs.{Costs}
 use Rattle.mich_gas.specs.View.{listed}
 use Rattle.mich_term.specs.declared.value.Value.{Value}
@@ -11,12 +13,13 @@ use Rattle.mich_stack.specs.Views.{Sight, seen}
 use Rattle.mich_instr.specs.View.{codes}
 use Rattle.mich_frames.specs.Around.{Around}
 use Rattle.mich_frames.specs.Frames as fr
-use Rattle.rules_steps.specs.Changes.{minted_in, burnt_in}
+use Rattle.rules_steps.specs.Changes.{Change, minted_in, burnt_in}
 use Rattle.mich_step.specs.Shown.{ShowsTickets}
 use Rattle.mich_step.specs.Views.{environment}
 use Rattle.mich_tickets.specs.Books.{State as Ledger}
 use Rattle.mich_tickets.specs.Effects.{change}
 use Rattle.mich_tickets.specs.Sums.{minted_of, burnt_of}
+use Rattle.mich_instr.specs.declared.issued.Issued.{Issued}
 use Rattle.mich_interpreter.specs.Issues.{issued_by}
 use Rattle.mich_interpreter.specs.Items.{items_left}
 use Rattle.mich_interpreter.specs.Made.{making_of}
@@ -24,12 +27,18 @@ use Rattle.mich_interpreter.specs.declared.frame.Frame.{Frame}
 use Rattle.mich_interpreter.specs.declared.frame.Frame.TheVariants as f
 use Rattle.mich_interpreter.specs.declared.state.State.{State}
 
--- what a run sees that its own state doesn't hold: a sight of big maps, which shows in each the tickets that lie in it, and the
--- contracts
+-- the operations that were issued, and the changes, before the view that runs; outside views there are none
+pub record Before : Type 0 where
+  pub issued : List rules.Issued
+  pub changes : List Change
+
+-- what a run sees that its own state doesn't hold: a sight of big maps, which shows in each the tickets that lie in it, the
+-- contracts, and what was before
 pub record Beyond : Type 0 where
   pub sight : Sight
   pub shows : (vs : List Value) → ShowsTickets sight vs
   pub contract_at : List ℕ → Option Contract
+  pub before : Before
 
 -- a stack of values, whose last element is on top, as it is written: the top first
 abbrev pub tops : Sight → List Value → List Val
@@ -48,12 +57,19 @@ frame big (f.Call below) = fr.call (tops big below)
 abbrev pub frames : Sight → List Frame → List fr.Frame
 frames big fs = map (frame big) (reverse fs)
 
--- what was minted of an identity before the changes that a ledger lists, and what was burnt
-abbrev pub minted_before : Ledger → Identity → ℤ
-minted_before l id = minted_of l.books.present id -ℤ minted_in id (map change l.changes)
+-- all operations that were issued by now, and all changes
+abbrev pub all_issued : Sight → Before → List Issued → List rules.Issued
+all_issued big b is = b.issued ++ map (issued_by big) is
 
-abbrev pub burnt_before : Ledger → Identity → ℤ
-burnt_before l id = burnt_of l.books.present id -ℤ burnt_in id (map change l.changes)
+abbrev pub all_changes : Before → Ledger → List Change
+all_changes b l = b.changes ++ map change l.changes
+
+-- what was minted of an identity before all these changes, and what was burnt; a view begins with nothing burnt or handed over
+abbrev pub minted_before : Before → Ledger → Identity → ℤ
+minted_before b l id = minted_of l.books.present id -ℤ minted_in id (all_changes b l)
+
+abbrev pub burnt_before : Before → Ledger → Identity → ℤ
+burnt_before b l id = burnt_of l.books.present id -ℤ (amount_issued id b.issued +ℤ burnt_in id (all_changes b l))
 
 abbrev pub around : Beyond → Costs → State → Around
 around x costs m = record {
@@ -61,8 +77,8 @@ around x costs m = record {
   group = m.counts.group;
   prices = listed costs;
   contract_at = x.contract_at;
-  minted = minted_before m.ledger;
-  burnt = burnt_before m.ledger;
+  minted = minted_before x.before m.ledger;
+  burnt = burnt_before x.before m.ledger;
 }
 
 -- the ledger lists the changes of the run
@@ -71,6 +87,6 @@ tally x m = record {
   gas = m.meter;
   operations = m.counts.issued;
   originations = m.counts.originated;
-  issued = map (issued_by x.sight) m.issued;
-  changes = map change m.ledger.changes;
+  issued = all_issued x.sight x.before m.issued;
+  changes = all_changes x.before m.ledger;
 }

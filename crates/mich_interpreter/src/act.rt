@@ -2,6 +2,7 @@
 use crate::frame::Frame;
 use mich_base::Ty;
 use mich_instr::Block;
+use mich_step::Env;
 use mich_term::Value;
 
 /// Why a run fails (Michelson reference, "Failures").
@@ -18,11 +19,21 @@ pub enum Failed {
     TooManyOperations,
 }
 
+/// A view that opens: its code, the one value that it begins with, and where and for whom it runs.
+#[derive(Debug, Drop)]
+pub(crate) struct View {
+    pub(crate) code: Block,
+    pub(crate) value: Value,
+    pub(crate) env: Env,
+}
+
 #[derive(Debug, Drop)]
 pub(crate) enum Act {
     // The run goes on.
     On,
     // A block opens, over a frame or none.
     Open(Option<Frame>, Block),
+    // A view opens.
+    View(View),
     Failed(Failed),
 }

@@ -1,4 +1,4 @@
-// PACK and the hashes.
+// PACK, UNPACK and the hashes.
 ghost use Rattle.std.specs.Prelude.{◌≡◌, false, IfOk};
 ghost use Rattle.rules_base.specs.Tree.{Tree};
 ghost use Rattle.rules_instructions.specs.Straight.{on_hashes};
@@ -11,6 +11,7 @@ use crate::act::{Act, Failed};
 use crate::paying::pay_capped;
 use crate::state::State;
 use crate::straights::failed;
+use crate::unpacking::act_unpack;
 use mich_base::Memory;
 use mich_gas::Costs;
 use mich_hashes::{hash_step, hash_weight};
@@ -38,7 +39,7 @@ fn act_hash(alloc: Global, m: &mut State, costs: &Costs, row: &HashRow) -> Resul
     }
 }
 
-// Memory, so far, for UNPACK.
+#[tactic(auto, using(crate::proofs::Keeping::acts_same))]
 pub(crate) fn act_packing(
     alloc: Global,
     m: &mut State,
@@ -51,7 +52,7 @@ pub(crate) fn act_packing(
     ensures keeps { IfOk result (λ a. KeepsAct a m.old m.new) }
 {
     match row {
-        HashRow::Unpack(_) => Err(Memory),
+        HashRow::Unpack(ty) => Ok(act_unpack(alloc, m, costs, ty)?),
         _ => Ok(act_hash(alloc, m, costs, row)?),
     }
 }

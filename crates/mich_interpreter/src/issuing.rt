@@ -1,5 +1,5 @@
-// TRANSFER_TOKENS, EMIT and CONTRACT.
-ghost use Rattle.std.specs.Prelude.{◌≡◌, ◌≤◌, ◌<◌, ◌+◌, ◌∷◌, pos, MatchOption, IfSome, IfOk, option_map};
+// TRANSFER_TOKENS, EMIT, CONTRACT and VIEW.
+ghost use Rattle.std.specs.Prelude.{false, ◌≡◌, ◌≤◌, ◌<◌, ◌+◌, ◌∷◌, pos, MatchOption, IfSome, IfOk, option_map};
 ghost use Rattle.rules_base.specs.Tree.{Tree};
 ghost use Rattle.rules_values.specs.Val.{number, bytes};
 ghost use Rattle.rules_instructions.specs.Straight.{on_operations};
@@ -9,19 +9,21 @@ ghost use Rattle.rules_evaluation.specs.Issuing.{operation_limit};
 ghost use Rattle.mich_base.specs.TypeView.{kind};
 ghost use Rattle.mich_forms.specs.Spelled.{address_bytes};
 ghost use Rattle.mich_instr.specs.Code as made;
+ghost use Rattle.mich_overload.specs.Steps.{in_step};
 ghost use Rattle.mich_overload.specs.View.{operation_row};
 ghost use Rattle.mich_stack.specs.Views.{Sight, seen};
 ghost use Rattle.mich_interpreter.specs.View.{tops};
 ghost use Rattle.mich_interpreter.specs.Issues.{KeepsScripts};
-ghost use Rattle.mich_interpreter.specs.Parts.{HasAmount, HasAddress};
-ghost use Rattle.mich_interpreter.specs.Ends.{Comes, Carries, ComesIn, CarriesIn, Spends};
+ghost use Rattle.mich_interpreter.specs.Parts.{HasAmount};
+ghost use Rattle.mich_interpreter.specs.Ends.{Comes, Carries, ComesIn, CarriesIn, Spends, KeepsAct};
 
 use crate::act::{Act, Failed};
 use crate::bodies::Bodies;
 use crate::lookups::contract_of;
 use crate::paying::pay;
-use crate::stack::{pop, push};
+use crate::stack::{pop, pop_address, push};
 use crate::state::{Counts, State};
+use crate::viewing::act_view;
 use mich_base::{Bytes, Link, Memory, Rows, Text, Ty, copy_type};
 use mich_forms::{Address, Entrypoint};
 use mich_gas::{Costs, Kind};
@@ -41,17 +43,6 @@ pub(crate) fn pop_amount(stack: &mut Rows<Value>) -> Option<u64>
 {
     match stack.pop() {
         Some(Value::Number(amount)) => u64::try_from(amount).ok(),
-        _ => unreachable!(),
-    }
-}
-
-// Takes the address on top. None where the bytes are none.
-fn pop_address(stack: &mut Rows<Value>) -> Option<Address>
-    requires { (big : Sight) × HasAddress (tops big stack.old) }
-    ensures { IfSome result (λ a. (big : Sight) → tops big stack.old ≡ bytes (address_bytes a) ∷ tops big stack.new) }
-{
-    match stack.pop() {
-        Some(Value::Bytes(spelled)) => Address::read(spelled.as_slice()),
         _ => unreachable!(),
     }
 }
@@ -166,7 +157,8 @@ fn act_contract(
     Ok(Act::On)
 }
 
-// An instruction on operations and contracts that isn't in a step. VIEW answers Memory so far.
+// An instruction on operations and contracts that isn't in a step.
+#[tactic(auto, using(crate::proofs::Keeping::acts_group, crate::proofs::Keeping::acts_same))]
 pub(crate) fn act_operation(
     alloc: Global,
     m: &mut State,
@@ -175,12 +167,11 @@ pub(crate) fn act_operation(
     bodies: &mut Bodies,
     row: &OperationRow,
 ) -> Result<Act, Memory>
-    requires { (app : Tree) × ComesIn world.now (made.straight (on_operations (operation_row row.now)) app) costs.now m.old }
+    requires apart { in_step (on_operations (operation_row row.now)) ≡ false }
+    requires comes { (app : Tree) × ComesIn world.now (made.straight (on_operations (operation_row row.now)) app) costs.now m.old }
     ensures acts { (app : Tree) → CarriesIn world.now (made.straight (on_operations (operation_row row.now)) app) costs.now m.old m.new result }
     ensures less { IfOk result (λ a. Spends a m.old.meter m.new.meter) }
-    ensures ledger { m.new.ledger ≡ m.old.ledger }
-    ensures group { m.new.counts.group ≡ m.old.counts.group }
-    ensures scripts { IfOk result (λ _. KeepsScripts m.old.issued m.new.issued) }
+    ensures keeps { IfOk result (λ a. KeepsAct a m.old m.new) }
 {
     match row {
         OperationRow::TransferTokens => Ok(act_transfer(m, costs)?),
@@ -188,6 +179,9 @@ pub(crate) fn act_operation(
         OperationRow::Contract(annotation, ty) => {
             Ok(act_contract(alloc, m, costs, world, *annotation, ty)?)
         }
-        _ => Err(Memory),
+        OperationRow::View(name, input, output) => {
+            Ok(act_view(alloc, m, costs, world, name, input, output)?)
+        }
+        OperationRow::Address | OperationRow::ImplicitAccount => unreachable!(),
     }
 }

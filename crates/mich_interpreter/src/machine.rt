@@ -1,19 +1,22 @@
 // A run: its blocks, its frames and what they come to.
-ghost use Rattle.std.specs.Prelude.{◌≡◌, ◌+◌, ◌^◌, ◌<◌, ℕ, List, length, IfOk};
+ghost use Rattle.std.specs.Prelude.{[], ◌≡◌, ◌+◌, ◌^◌, ◌<◌, ℕ, List, length, IfOk};
 ghost use Rattle.rules_types.specs.Kind.{Kind};
 ghost use Rattle.rules_evaluation.specs.Outcome.{Outcome};
 ghost use Rattle.mich_gas.specs.declared.costs.Costs.{Costs as Prices};
+ghost use Rattle.mich_frames.specs.Frames.{Frame as PlainFrame};
 ghost use Rattle.mich_instr.specs.View.{code};
 ghost use Rattle.mich_interpreter.specs.View.{Beyond};
 ghost use Rattle.mich_interpreter.specs.Ends.{ComesIn, CarriesIn, Waits, Resumes, Spends, Turns, KeepsAct};
 ghost use Rattle.mich_interpreter.specs.declared.state.State.{State as PlainState};
 ghost use Rattle.mich_interpreter.specs.Sees.{Sees};
+ghost use Rattle.mich_interpreter.specs.Callers.{InCall, SomeStart};
 ghost use Rattle.mich_interpreter.specs.Runs.{InBlock, Behind, HasActedIn, IsStep, IsBegun, IsSpent, IsPaidStep, IsSettled, HasLeft, with_below, with_rest, SomeRun, SomeEnd, IsEnd, KeepsStep, KeepsEnd, IsNoBlock, IsNoSequence};
 
-use crate::act::{Act, Failed};
+use crate::act::{Act, Failed, View};
 use crate::applying::act_apply;
 use crate::bodies::Bodies;
 use crate::branches::{act_if, act_if_cons, act_if_left, act_if_none};
+use crate::callers::{enter, go_back, go_home};
 use crate::calls::{act_exec, act_failwith, act_never};
 use crate::creating::act_create;
 use crate::dipping::act_dip;
@@ -32,7 +35,7 @@ use mich_world::World;
 use std::alloc::Global;
 
 /// How many blocks may be open.
-const MOST_OPEN: u32 = 100_000;
+pub(crate) const MOST_OPEN: u32 = 100_000;
 
 // A run on its way: the block that runs with the place of its next instruction, and what is left to do behind it.
 #[derive(Debug, Drop)]
@@ -51,6 +54,8 @@ pub(crate) enum Step {
     Free,
     // Something that was paid for.
     Paid,
+    // A view opens, which was paid for.
+    View(View),
     Done,
     Failed(Failed),
 }
@@ -173,7 +178,7 @@ fn begin_inside(m: &mut Machine, below: Option<Frame>, body: Block) -> Result<bo
 
 // What has acted in the block that runs.
 fn follow(m: &mut Machine, act: Act) -> Result<Step, Memory>
-    ensures stays { (x : Beyond) (costs : Prices) (Z : List Kind) (o : Outcome) → HasActedIn act x costs m.old Z o → IfOk result (λ s. IsStep s x costs m.new Z o) }
+    ensures stays { (x : Beyond) (costs : Prices) (gs : List PlainFrame) (Z : List Kind) (o : Outcome) → HasActedIn act x costs m.old gs Z o → IfOk result (λ s. IsStep s x costs m.new gs Z o) }
     ensures spent { (n : ℕ) → Spends act n m.old.state.meter → IfOk result (λ s. IsPaidStep s n m.new.state.meter) }
     ensures state { m.new.state ≡ m.old.state }
     ensures keeps { (from : PlainState) → KeepsAct act from m.old.state → IfOk result (λ s. KeepsStep s from m.new.state) }
@@ -181,6 +186,7 @@ fn follow(m: &mut Machine, act: Act) -> Result<Step, Memory>
     match act {
         Act::On => Ok(Step::Paid),
         Act::Failed(why) => Ok(Step::Failed(why)),
+        Act::View(view) => Ok(Step::View(view)),
         Act::Open(below, body) => {
             let begun = begin_inside(m, below, body)?;
             if begun {
@@ -196,7 +202,7 @@ fn follow(m: &mut Machine, act: Act) -> Result<Step, Memory>
 #[tactic(auto, using(crate::proofs::Keeping::same_keeps, crate::proofs::Keeping::keeps_state, crate::proofs::Keeping::keeps_on))]
 fn leave(alloc: Global, m: &mut Machine, costs: &Costs) -> Result<Step, Memory>
     requires { SomeEnd costs.now m.old }
-    ensures stays { (x : Beyond) (Z : List Kind) (o : Outcome) → Behind x costs.now m.old Z o → IfOk result (λ s. IsStep s x costs.now m.new Z o) }
+    ensures stays { (x : Beyond) (gs : List PlainFrame) (Z : List Kind) (o : Outcome) → Behind x costs.now m.old gs Z o → IfOk result (λ s. IsStep s x costs.now m.new gs Z o) }
     ensures spent { IfOk result (λ s. HasLeft s m.old m.new) }
     ensures keeps { IfOk result (λ s. KeepsStep s m.old.state m.new.state) }
 {
@@ -212,6 +218,7 @@ fn leave(alloc: Global, m: &mut Machine, costs: &Costs) -> Result<Step, Memory>
                 frame => match unwind(alloc, &mut m.state, costs, frame)? {
                     Act::On => {}
                     Act::Failed(why) => return Ok(Step::Failed(why)),
+                    Act::View(_) => unreachable!(),
                     Act::Open(below, body) => {
                         let begun = begin(m, below, body)?;
                         return if begun {
@@ -238,7 +245,7 @@ fn advance_inside(
     requires within { m.old.at < length m.old.block }
     requires fits { m.old.at + 1 < 2 ^ 64 }
     requires stands { SomeRun world.now costs.now m.old }
-    ensures stays { (x : Beyond) (Z : List Kind) (o : Outcome) → InBlock x costs.now m.old Z o → Sees world.now x → IfOk result (λ s. IsStep s x costs.now m.new Z o) }
+    ensures stays { (x : Beyond) (gs : List PlainFrame) (Z : List Kind) (o : Outcome) → InBlock x costs.now m.old gs Z o → Sees world.now x → IfOk result (λ s. IsStep s x costs.now m.new gs Z o) }
     ensures spent { IfOk result (λ s. IsSpent s m.old m.new) }
     ensures keeps { IfOk result (λ s. KeepsStep s m.old.state m.new.state) }
 {
@@ -270,7 +277,7 @@ fn advance(
     bodies: &mut Bodies,
 ) -> Result<Step, Memory>
     requires { SomeRun world.now costs.now m.old }
-    ensures stays { (x : Beyond) (Z : List Kind) (o : Outcome) → InBlock x costs.now m.old Z o → Sees world.now x → IfOk result (λ s. IsStep s x costs.now m.new Z o) }
+    ensures stays { (x : Beyond) (gs : List PlainFrame) (Z : List Kind) (o : Outcome) → InBlock x costs.now m.old gs Z o → Sees world.now x → IfOk result (λ s. IsStep s x costs.now m.new gs Z o) }
     ensures spent { IfOk result (λ s. IsSpent s m.old m.new) }
     ensures keeps { IfOk result (λ s. KeepsStep s m.old.state m.new.state) }
 {
@@ -294,7 +301,7 @@ fn settle(
     bodies: &mut Bodies,
 ) -> Result<Step, Memory>
     requires { SomeRun world.now costs.now m.old }
-    ensures stays { (x : Beyond) (Z : List Kind) (o : Outcome) → InBlock x costs.now m.old Z o → Sees world.now x → IfOk result (λ s. IsStep s x costs.now m.new Z o) }
+    ensures stays { (x : Beyond) (gs : List PlainFrame) (Z : List Kind) (o : Outcome) → InBlock x costs.now m.old gs Z o → Sees world.now x → IfOk result (λ s. IsStep s x costs.now m.new gs Z o) }
     ensures less { IfOk result (λ s. IsSettled s m.old m.new) }
     ensures keeps { IfOk result (λ s. KeepsStep s m.old.state m.new.state) }
 {
@@ -315,17 +322,27 @@ pub(crate) fn work(
     world: &World,
     bodies: &mut Bodies,
 ) -> Result<Ended, Memory>
-    requires { SomeRun world.now costs.now m }
-    ensures ends { (x : Beyond) (Z : List Kind) (o : Outcome) → InBlock x costs.now m Z o → Sees world.now x → IfOk result (λ e. IsEnd e x Z o) }
+    requires { SomeStart world.now costs.now m }
+    ensures ends { (x : Beyond) (Z : List Kind) (o : Outcome) → InCall x costs.now m [] Z o → Sees world.now x → IfOk result (λ e. IsEnd e x Z o) }
     ensures keeps { IfOk result (λ e. KeepsEnd e m.state) }
 {
     let mut m = m;
+    let mut callers = Rows::new(alloc);
     'paid: loop {
         match settle(alloc, &mut m, costs, world, bodies)? {
             Step::Free => unreachable!(),
             Step::Paid => {}
-            Step::Done => return Ok(Ended::Stack(m.state)),
-            Step::Failed(why) => return Ok(Ended::Failed(m.state, why)),
+            Step::View(view) => {
+                let entered = enter(alloc, &mut m, &mut callers, view)?;
+                if !entered {
+                    return Ok(Ended::Failed(go_home(m.state, callers), Failed::DepthLimit));
+                }
+            }
+            Step::Done => match callers.pop() {
+                Some(caller) => go_back(alloc, &mut m, caller)?,
+                None => return Ok(Ended::Stack(m.state)),
+            },
+            Step::Failed(why) => return Ok(Ended::Failed(go_home(m.state, callers), why)),
         }
     }
 }

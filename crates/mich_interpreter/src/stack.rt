@@ -1,13 +1,15 @@
 // Stacks of values, whose last element is on top.
-ghost use Rattle.std.specs.Prelude.{◌≡◌, ◌∷◌, ◌++◌, [], reverse, IfOk, MatchOption};
-ghost use Rattle.rules_values.specs.Val.{truth};
+ghost use Rattle.std.specs.Prelude.{◌≡◌, ◌∷◌, ◌++◌, [], reverse, IfOk, IfSome, MatchOption};
+ghost use Rattle.rules_values.specs.Val.{bytes, truth};
+ghost use Rattle.mich_forms.specs.Spelled.{address_bytes};
 ghost use Rattle.mich_stack.specs.Views.{Sight, seen};
 ghost use Rattle.mich_frames.specs.Shapes.{HasTop, HasTruth, HasOption, HasUnion, HasList};
 ghost use Rattle.mich_interpreter.specs.View.{tops};
-ghost use Rattle.mich_interpreter.specs.Parts.{is_left_top, is_none_top, is_cons_top, opened};
+ghost use Rattle.mich_interpreter.specs.Parts.{HasAddress, is_left_top, is_none_top, is_cons_top, opened};
 
 use crate::items::split_list;
 use mich_base::{Memory, Rows};
+use mich_forms::Address;
 use mich_term::Value;
 use std::mem;
 
@@ -121,4 +123,15 @@ pub(crate) fn put_below(stack: &mut Rows<Value>, below: Rows<Value>) -> Result<(
 {
     let above = mem::replace(stack, below);
     put_all(stack, above)
+}
+
+// Takes the address on top. None where the bytes are none.
+pub(crate) fn pop_address(stack: &mut Rows<Value>) -> Option<Address>
+    requires { (big : Sight) × HasAddress (tops big stack.old) }
+    ensures { IfSome result (λ a. (big : Sight) → tops big stack.old ≡ bytes (address_bytes a) ∷ tops big stack.new) }
+{
+    match stack.pop() {
+        Some(Value::Bytes(spelled)) => Address::read(spelled.as_slice()),
+        _ => unreachable!(),
+    }
 }

@@ -54,7 +54,6 @@ fn act_step(alloc: Global, m: &mut State, costs: &Costs, instr: &Simple) -> Resu
     }
 }
 
-// Memory, so far, for those that unpack, or look a contract up.
 #[tactic(auto, using(crate::proofs::Keeping::acts_group))]
 pub(crate) fn act_straight(
     alloc: Global,

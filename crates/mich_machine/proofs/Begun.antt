@@ -1,6 +1,6 @@
 -- Where the code of a contract begins, and that it ends as the definitions say.
 use Rattle.std.proofs.Common.{rules, ◌≡◌, ℕ, ℤ, pos, ◌-ℤ◌, Bool, true, false, cond, List, [], ◌∷◌, map, Some, None, Ok, Err, Result, refl, sym, ap, ◌∙◌, subst, arith, is_some}
-use Rattle.std.specs.Prelude.{option_map}
+use Rattle.std.specs.Prelude.{◌+ℤ◌, option_map}
 use Rattle.std.specs.declared.option.Option.{Option}
 use Rattle.std.specs.BTreeMap.{is_at}
 use Rattle.std.specs.List.{AllByRecursion}
@@ -123,6 +123,9 @@ one_of x y e = cc
 settled_formed : (x : Value) → AreSettled x → AreFormed x
 settled_formed x h = each_more SettledLayer FormedLayer (λ b s. s.formed) x h
 
+none_burnt : (a b : ℤ) → a ≡ b → (a -ℤ (pos 0 +ℤ pos 0)) ≡ b
+none_burnt a b e = omega (arith, ints, e)
+
 none_minted : (a b : ℤ) → a ≡ b → (a -ℤ pos 0) ≡ b
 none_minted a b e = omega (arith, ints, e)
 
@@ -228,7 +231,12 @@ module _ (q : Asked) where
     entry_some = ap is_some entry_is
 
     abbrev pub x : Beyond
-    x = record { sight = sight bs; shows = sight_shows bs q.h.ticketless; contract_at = plain_contract_at q.w }
+    x = record {
+      sight = sight bs;
+      shows = sight_shows bs q.h.ticketless;
+      contract_at = plain_contract_at q.w;
+      before = record { issued = []; changes = [] };
+    }
 
     -- it sees the world, without the ledger too
     pub sees_so : (u : World) (l : Ledger) → u ≡ with_ledger q.v l → Sees u x
@@ -275,7 +283,7 @@ module _ (q : Asked) where
         prices = listed q.costs;
         contract_at = plain_contract_at q.w;
         minted = λ id. none_minted _ _ (q.c.stands.those.minted id) i;
-        burnt = λ id. none_minted _ _ (q.c.stands.those.burnt id) i;
+        burnt = λ id. none_burnt _ _ (q.c.stands.those.burnt id) i;
       })
 
       pub opens_so : Opens x q.costs (code_of k.script) begun Z o

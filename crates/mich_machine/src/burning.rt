@@ -13,6 +13,7 @@ ghost use Rattle.mich_machine.specs.Returned.{handed};
 use crate::returning::Numbered;
 use mich_base::{Memory, Rows};
 use mich_instr::Issued;
+use mich_interpreter::burn_all;
 use mich_term::{Ticket, discard};
 use mich_tickets::{Collector, Ledger};
 use std::alloc::Global;
@@ -39,19 +40,6 @@ fn discard_all(alloc: Global, operations: Numbered) -> Result<Rows<Ticket>, Memo
         discard_operation(alloc, operation, &mut told)?;
     }
     Ok(told.tickets)
-}
-
-// Burns tickets, the first before those behind it.
-#[tactic(auto, using(mich_undo::proofs::Histories::keeps_same, mich_undo::proofs::Histories::keeps_trans, mich_step::proofs::Ledgers::tells_same))]
-fn burn_all(alloc: Global, ledger: &mut Ledger, tickets: Rows<Ticket>) -> Result<(), Memory>
-    requires { IsReady ledger.old.books.present (map held tickets) }
-    ensures tells { IfOk result (λ _. Tells (burns (map held tickets)) ledger.old ledger.new) }
-    ensures keeps { Keeps ledger.old.books ledger.new.books }
-{
-    for ticket in tickets.into_vec() {
-        ledger.burn(alloc, ticket)?;
-    }
-    Ok(())
 }
 
 // Burns the tickets of operations that are discarded, in the order of their numbers.

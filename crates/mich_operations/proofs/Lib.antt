@@ -7,4 +7,9 @@ pub mod Calling
 pub mod Orders
 pub mod Ran
 pub mod Entering
+pub mod Credited
+pub mod Offers
+pub mod Given
+pub mod Handing
+pub mod Bestowals
 pub mod Sent

@@ -7,6 +7,7 @@ use Rattle.std.proofs.lemmas.Bool.Decides.{nat_tests}
 use Rattle.rules_evaluation.specs.Surroundings.{Contract as PlainContract}
 use Rattle.rules_forms.specs.Spelling.{contract_place, spelled_address}
 use Rattle.rules_gas.specs.Prices.{Listed}
+use Rattle.rules_steps.specs.Changes.{Change as PlainChange}
 use Rattle.rules_steps.specs.Environment.{Environment}
 use Rattle.rules_steps.specs.Failure.{balance_too_low}
 use Rattle.rules_typing.specs.Fits.{is_place}
@@ -17,11 +18,11 @@ use Rattle.rules_world.specs.Balances.{balance_or_none, moved}
 use Rattle.rules_world.specs.Forms.{IsWorld}
 use Rattle.rules_world.specs.Groups.{setting_of}
 use Rattle.rules_world.specs.Outcomes.{Setting, Counts as PlainCounts, Outcome, applied, failed, stuck, issued}
-use Rattle.rules_world.specs.Receipts.{Transfer}
+use Rattle.rules_world.specs.Receipts.{Effect, Transfer}
 use Rattle.rules_world.specs.RunLaws.{IsCall}
 use Rattle.rules_world.specs.Runs.{Call, environment_of, Finished as PlainFinished, Ended, finished, run_failed, run_stuck, run_in, waiting_of, with_effect, run}
 use Rattle.rules_world.specs.Targets.{Target}
-use Rattle.rules_world.specs.Transfers.{Transaction, transfer_effect, if_covered}
+use Rattle.rules_world.specs.Transfers.{transfer_effect, if_covered}
 use Rattle.rules_world.specs.World.{World as PlainWorld, contract_at as plain_contract_at}
 use Rattle.laws_accounts.proofs.More.{Extends}
 use Rattle.laws_runs.specs.RunEnds.{IsFinished as IsFinishedRun, EndsWell}
@@ -45,7 +46,7 @@ use Rattle.mich_machine.specs.declared.running.RunError.TheVariants as errors
 use Rattle.mich_ops.specs.Told.{told}
 use Rattle.mich_ops.specs.View.{failure, effect as effect_of, change as change_of}
 use Rattle.mich_ops.specs.declared.failure.Failure.{Failure as Why}
-use Rattle.mich_ops.specs.declared.receipt.Effect.TheVariants as effect
+use Rattle.mich_ops.specs.declared.receipt.Effect.TheVariants as effects
 use Rattle.mich_standing.proofs.Agreement.{contracts_agree}
 use Rattle.mich_standing.proofs.Contracts.{length_is}
 use Rattle.mich_standing.proofs.Owners.{contract_is_place}
@@ -151,9 +152,6 @@ module _ (v : World) (w : PlainWorld) (costs : Costs) (counts : Counts) (source 
 
     -- ---- its end
 
-    abbrev T : Transaction
-    T = transaction from (place.Contract to) name amount (value x)
-
     emits : (bs : Bases) (xs : List Issued) → waiting_of (contract_place t.hash) (map (issued_in bs) xs) ≡ map (issued_by bs to) xs
     emits bs [] = refl
     emits bs (i ∷ xs) = (λ j. issued (contract_place (ready.hash j)) (issued_in bs i).operation ∷ emits bs xs j)
@@ -166,20 +164,19 @@ module _ (v : World) (w : PlainWorld) (costs : Costs) (counts : Counts) (source 
     same_changes [] = refl
     same_changes (c ∷ cs) = (λ i. same_change c i ∷ same_changes cs i)
 
-    pub ran : (gas left : ℕ) (z : World) (new : Counts) (done : Finished) (a : Applied) (literal : Node) → tree literal ≡ canonical x →
-        a.effect ≡ effect.Transfer from (record { place = place.Contract to; entrypoint = name }) amount literal done.changes → a.by ≡ to → a.emitted ≡ done.returned →
+    pub ran : (effect : List PlainChange → Effect) (gas left : ℕ) (z : World) (new : Counts) (done : Finished) (a : Applied) →
+        effect_of a.effect ≡ effect (map change_of done.changes) → a.by ≡ to → a.emitted ≡ done.returned →
         is_some (contract_at v.funds.present to) ≡ true →
         machine.IsFinished (run_of v w (listed costs) counts gas argument env t) z left counts new done →
-        EndsAs (run s w call gas (counts_of counts) (transfer_effect T x)) z left counts new (Ok a)
-    ran gas left z new done a literal printed did by emitted there h = record {
+        EndsAs (run s w call gas (counts_of counts) effect) z left counts new (Ok a)
+    ran effect gas left z new done a did by emitted there h = record {
       world = h.world;
       stands = h.stands;
-      same = ap (with_effect t.hash (transfer_effect T x)) (sym (run_is gas) ∙ h.same)
+      same = ap (with_effect t.hash effect) (sym (run_is gas) ∙ h.same)
           ∙ (λ i. applied (record {
             world = h.world;
             emitted = (emits z.store.bases.present done.returned ∙ (λ j. map (issued_by z.store.bases.present (sym by j)) (sym emitted j))) i;
-            effects = ((λ j. Transfer (place_bytes from) (spelled_address (contract_place to) name) amount (sym printed j) (same_changes done.changes j))
-                ∙ ap effect_of (sym did)) i ∷ [];
+            effects = (ap effect (same_changes done.changes) ∙ sym did) i ∷ [];
             gas = left;
             counts = counts_of new;
           }));
@@ -188,14 +185,22 @@ module _ (v : World) (w : PlainWorld) (costs : Costs) (counts : Counts) (source 
       there = λ _. subst (λ (hash : List ℕ). is_some (contract_at z.funds.present hash) ≡ true) (sym by) (keeps_contracts gas z new left done h to there);
     }
 
-    pub ran_failed : (gas left : ℕ) (z : World) (new : Counts) (f : Why) → machine.EndsAs (run_of v w (listed costs) counts gas argument env t) z left counts new (Err (errors.Failed f)) →
-        EndsAs (run s w call gas (counts_of counts) (transfer_effect T x)) z left counts new (Err (Failed f))
-    ran_failed gas left z new f h = by (run_in (environment_of s w call) s w t x gas (counts_of counts)) (subst (λ (o : Ended). machine.EndsAs o z left counts new (Err (errors.Failed f))) (run_is gas) h)
+    pub ran_failed : (effect : List PlainChange → Effect) (gas left : ℕ) (z : World) (new : Counts) (f : Why) →
+        machine.EndsAs (run_of v w (listed costs) counts gas argument env t) z left counts new (Err (errors.Failed f)) →
+        EndsAs (run s w call gas (counts_of counts) effect) z left counts new (Err (Failed f))
+    ran_failed effect gas left z new f h = by (run_in (environment_of s w call) s w t x gas (counts_of counts)) (subst (λ (o : Ended). machine.EndsAs o z left counts new (Err (errors.Failed f))) (run_is gas) h)
       where
-        by : (o : Ended) → machine.EndsAs o z left counts new (Err (errors.Failed f)) → EndsAs (with_effect t.hash (transfer_effect T x) o) z left counts new (Err (Failed f))
+        by : (o : Ended) → machine.EndsAs o z left counts new (Err (errors.Failed f)) → EndsAs (with_effect t.hash effect o) z left counts new (Err (Failed f))
         by (run_failed why) g = g
         by (finished e) g = absurd g
         by run_stuck g = absurd g
+
+-- what a transfer to a contract did
+pub transfer_told : (from : Place) (to name : List ℕ) (amount : ℕ) (x : Val) (literal : Node) (changes : List Change) → tree literal ≡ canonical x →
+    effect_of (effects.Transfer from (record { place = place.Contract to; entrypoint = name }) amount literal changes)
+    ≡ transfer_effect (transaction from (place.Contract to) name amount (value x)) x (map change_of changes)
+transfer_told from to name amount x literal changes printed =
+    ap (λ n. Transfer (place_bytes from) (spelled_address (contract_place to) name) amount n (map change_of changes)) printed
 
 pub ends_memory : (o : Outcome) (v : World) (gas : ℕ) (old new : Counts) → EndsAs o v gas old new (Err Memory)
 ends_memory (applied a) v gas old new = tt

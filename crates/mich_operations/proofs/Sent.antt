@@ -1,7 +1,8 @@
 -- Transfers that contracts issue.
-use Rattle.std.proofs.Common.{◌≡◌, ◌≤◌, ℕ, ◌∷◌, [], Bool, true, List, length, length-append, Some, Result, refl, sym, ap, ◌∙◌, subst, is_some, arith, inl, inr}
+use Rattle.std.proofs.Common.{◌≡◌, ◌≤◌, ℕ, ◌∷◌, [], Bool, true, false, List, length, length-append, None, Some, Result, refl, sym, ap, ◌∙◌, subst, is_some, arith, inl, inr}
 use Rattle.std.specs.Prelude.{if◌then◌else◌}
 use Rattle.std.specs.Str.{bytes_eq}
+use Rattle.std.specs.declared.option.Option.{Option}
 use Rattle.std.proofs.lemmas.Bool.Decides.{nat_tests}
 use Rattle.std.proofs.lemmas.List.Elements.{All-head}
 use Rattle.rules_evaluation.specs.Contracts.{hash_in, takes}
@@ -13,19 +14,22 @@ use Rattle.rules_steps.specs.Failure.{no_entrypoint}
 use Rattle.rules_types.specs.Kind.{Kind}
 use Rattle.rules_typing.specs.Fits.{is_place}
 use Rattle.rules_values.specs.ByteForms.{is_implicit, is_key_hash}
+use Rattle.rules_values.specs.Tickets.{Held}
 use Rattle.rules_values.specs.Val.{Val}
 use Rattle.rules_world.specs.Application.{issued_transaction}
 use Rattle.rules_world.specs.Arguments.{value}
+use Rattle.rules_world.specs.Gives.{as_value}
 use Rattle.rules_world.specs.Good.{FitsIn, IsGoodWaiting, IsGoodOperation}
 use Rattle.rules_world.specs.Outcomes.{Setting, Waiting, issued, failed, Counts as PlainCounts}
 use Rattle.rules_world.specs.Targets.{Target, Search, met, search, on_met}
-use Rattle.rules_world.specs.Transfers.{Transaction, delivered, to_account, with_argument, with_taken}
+use Rattle.rules_world.specs.Transfers.{Transaction, as_ticket, delivered, to_account, with_argument, with_taken}
 use Rattle.rules_world.specs.World.{World as PlainWorld, contract_at as plain_contract_at}
 use Rattle.laws_runs.proofs.Scripts.{IsMet, Searched, searched, address_takes, met_takes}
 use Rattle.laws_runs.proofs.Steps.{orderly_of}
 use Rattle.laws_world.proofs.Calls.{called_call}
 use Rattle.laws_world.proofs.Taken.{taken_transfer}
 use Rattle.mich_bigmap.specs.Standing.{val_in}
+use Rattle.mich_conditions.proofs.Waiting.{transfers_may_run}
 use Rattle.mich_forms.specs.Spelled.{place_bytes}
 use Rattle.mich_forms.proofs.Joining.{IsPlace-length}
 use Rattle.mich_forms.specs.declared.places.Place.{Place}
@@ -33,12 +37,14 @@ use Rattle.mich_forms.specs.declared.places.Place.TheVariants as place
 use Rattle.mich_interpreter.specs.declared.state.Counts.{Counts}
 use Rattle.mich_machine.specs.Calls.{counts_of}
 use Rattle.mich_standing.proofs.Owners.{account_is_place, hash_of, implicit_of}
+use Rattle.mich_term.specs.TicketView.{held}
+use Rattle.mich_term.specs.declared.ticket.Ticket.{Ticket}
 use Rattle.mich_term.specs.declared.value.Value.{Value}
 use Rattle.mich_world.specs.Holders.{contract_at}
 use Rattle.mich_world.specs.World.{World}
 use Rattle.mich_operations.specs.Calls.{covered, IsDue}
 use Rattle.mich_operations.specs.Going.{Begins, EndsAs}
-use Rattle.mich_operations.specs.Transfers.{AreBetween, transaction}
+use Rattle.mich_operations.specs.Transfers.{AreBetween, IsSent, transaction}
 use Rattle.mich_operations.specs.declared.applied.Applied.{Applied}
 use Rattle.mich_operations.specs.declared.applied.ApplyError.{ApplyError}
 use Rattle.mich_operations.proofs.Entering.{place_is, name_is, takes_met}
@@ -59,6 +65,23 @@ module _ (w : PlainWorld) (from : Place) (who name : List ℕ) (amount : ℕ) (x
       ends_along (to_account w T gas (counts_of counts)) (with_taken (Some x) w T gas (counts_of counts)) z gas counts counts r
       (ap (λ (n : List ℕ). if bytes_eq n default_name then with_taken (Some x) w T gas (counts_of counts) else failed no_entrypoint) named)
       h
+
+  -- a ticket that it sends
+  pub takes_ticket : (v : World) (t : Ticket) (r : Result Applied ApplyError) → name ≡ default_name → x ≡ as_value (held t) → IsSent v w from who x
+      → (IsSent v w from who (as_value (held t)) → EndsAs (with_taken (Some (as_value (held t))) w T gas (counts_of counts)) z gas counts counts r)
+      → EndsAs (to_account w T gas (counts_of counts)) z gas counts counts r
+  takes_ticket v t r named is sent h =
+      account_takes r named
+      (subst (λ (y : Val). EndsAs (with_taken (Some y) w T gas (counts_of counts)) z gas counts counts r) (sym is)
+      (h (subst (λ (y : Val). IsSent v w from who y) is sent)))
+
+no_held : (o : Option Held) → is_some o ≡ false → o ≡ None
+no_held None h = refl
+no_held (Some t) h = absurd cc
+
+-- a value that is no ticket
+pub no_ticket : (x : Val) {b : Bool} → b ≡ false → b ≡ is_some (as_ticket x) → as_ticket x ≡ None
+no_ticket x f e = no_held (as_ticket x) (sym e ∙ f)
 
 key_hash_so : (who : List ℕ) → IsKeyHash who → is_key_hash who ≡ true
 key_hash_so [] h = absurd h
@@ -106,8 +129,16 @@ module _ (v : World) (w : PlainWorld) (s : Setting) (by : List ℕ) (to : Place)
     account : is_place (implicit_place who) ≡ true
     account = account_so who (subst (λ (p : Place). IsPlace (place_bytes p)) is is_target)
 
-    pub sent_between : AreBetween v w (place.Contract by) (place.Implicit who)
+    sent_between : AreBetween v w (place.Contract by) (place.Implicit who)
     sent_between = record { stands = b.stands; form = b.next.going.good.sound.form; sender = first.0; receiver = account }
+
+    pub sent_so : IsSent v w (place.Contract by) who x
+    sent_so = record {
+      between = sent_between;
+      kind = first.1.0;
+      fits = first.1.2;
+      may = transfers_may_run w (contract_place by) x amount address b.next.behind b.next.going.good;
+    }
 
     pub sends_account : (gas : ℕ) (counts : Counts) (z : World) (r : Result Applied ApplyError) →
         EndsAs (to_account w (transaction (place.Contract by) (place.Implicit who) name amount (value x)) gas (counts_of counts)) z gas counts counts r →

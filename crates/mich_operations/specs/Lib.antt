@@ -2,3 +2,4 @@ pub mod Going
 pub mod Transfers
 pub mod Foundings
 pub mod Calls
+pub mod Gifts

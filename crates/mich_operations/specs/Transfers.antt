@@ -2,13 +2,17 @@
 use Rattle.std.specs.Prelude.{◌≡◌, ◌-◌, ℕ, nat_lt, true, false, List, Result, Ok, Err}
 use Rattle.rules_gas.specs.declared.Kind.{Kind}
 use Rattle.rules_gas.specs.Prices.{Listed, cost}
+use Rattle.rules_types.specs.Kind.{Kind as TypeKind}
 use Rattle.rules_typing.specs.Fits.{is_place}
+use Rattle.rules_values.specs.Val.{Val}
 use Rattle.rules_world.specs.Arguments.{Argument}
 use Rattle.rules_world.specs.Forms.{IsWorld}
+use Rattle.rules_world.specs.Good.{FitsIn, MayRun}
 use Rattle.rules_world.specs.Transfers.{Transaction}
 use Rattle.rules_world.specs.World.{World as PlainWorld}
 use Rattle.mich_forms.specs.Spelled.{place_bytes}
 use Rattle.mich_forms.specs.declared.places.Place.{Place}
+use Rattle.mich_forms.specs.declared.places.Place.TheVariants as place
 use Rattle.mich_ops.specs.declared.failure.Failure.TheVariants.{OutOfGas}
 use Rattle.mich_world.specs.Standing.{StandsFor}
 use Rattle.mich_world.specs.World.{World}
@@ -38,3 +42,10 @@ pub record AreBetween (v : World) (w : PlainWorld) (from to : Place) : Type 0 wh
   pub form : IsWorld w
   pub sender : is_place (place_bytes from) ≡ true
   pub receiver : is_place (place_bytes to) ≡ true
+
+-- and a value goes with them to an account, which has a type and for which there is room
+pub record IsSent (v : World) (w : PlainWorld) (from : Place) (to : List ℕ) (x : Val) : Type 0 where
+  pub between : AreBetween v w from (place.Implicit to)
+  pub kind : TypeKind
+  pub fits : FitsIn w kind x
+  pub may : MayRun w x

@@ -1,8 +1,10 @@
 // Transfers to accounts.
 ghost use Rattle.std.specs.Prelude.{◌≡◌, ◌<◌, ◌^◌, [], ℕ, true, is_some, Some, None, IfOk};
 ghost use Rattle.rules_base.specs.Tree.{size};
+ghost use Rattle.rules_values.specs.Canonical.{canonical};
 ghost use Rattle.rules_world.specs.Arguments.{Argument, node};
 ghost use Rattle.rules_world.specs.Arguments as rules;
+ghost use Rattle.rules_world.specs.Gives.{as_value};
 ghost use Rattle.rules_world.specs.Transfers.{as_ticket, to_account, with_taken};
 ghost use Rattle.rules_world.specs.World.{World as PlainWorld};
 ghost use Rattle.mich_base.specs.View.{tree};
@@ -12,17 +14,19 @@ ghost use Rattle.mich_forms.specs.declared.places.Place.TheVariants as place;
 ghost use Rattle.mich_machine.specs.Calls.{counts_of, IsHosting};
 ghost use Rattle.mich_interpreter.specs.declared.state.Counts.{Counts};
 ghost use Rattle.mich_ops.specs.declared.receipt.Effect.TheVariants as effect;
+ghost use Rattle.mich_term.specs.TicketView.{held};
 ghost use Rattle.mich_world.specs.Holders.{may_receive};
 ghost use Rattle.mich_world.specs.Marks.{KeepsWorld};
 ghost use Rattle.mich_operations.specs.Going.{EndsAs, KeepsContracts};
-ghost use Rattle.mich_operations.specs.Transfers.{AreBetween, transaction};
+ghost use Rattle.mich_operations.specs.Transfers.{AreBetween, IsSent, transaction};
 
 use crate::applied::{Applied, ApplyError};
+use crate::crediting::credit;
 use crate::printing::{is_unit, printed};
 use mich_base::{Node, Rows};
 use mich_forms::{Address, Entrypoint, KeyHash, Place};
 use mich_ops::{Effect, Failure};
-use mich_term::{Value, abandon};
+use mich_term::{Ticket, Value, abandon};
 use mich_world::{MoveError, World};
 use std::alloc::Global;
 
@@ -117,7 +121,48 @@ fn is_ticket(value: &Value) -> bool
     }
 }
 
-// Mutez and a value that a contract sends go to an account.
+// The ticket that a value is.
+fn ticket_of(value: Value) -> Ticket
+    requires { (bs : Bases) × (is_some (as_ticket (val_in bs value)) ≡ true) }
+    ensures { (bs : Bases) → val_in bs value ≡ as_value (held result) }
+{
+    let Value::Ticket(ticket) = value else {
+        unreachable!();
+    };
+    ticket.into_value()
+}
+
+// Mutez go from a place to an account, and a ticket with them.
+fn send_ticket(
+    alloc: Global,
+    world: &mut World,
+    from: &Place,
+    to: &KeyHash,
+    entry: &Entrypoint,
+    amount: u64,
+    argument: Node,
+    ticket: Ticket,
+) -> Result<Applied, ApplyError>
+    requires there { may_receive world.old.funds.present from.now ≡ true }
+    requires sent { (w : PlainWorld) × IsSent world.old w from.now to.now (as_value (held ticket)) }
+    requires printed { tree argument ≡ canonical (as_value (held ticket)) }
+    ensures ends { (w : PlainWorld) (a : Argument) (gas : ℕ) (counts : Counts) → IsSent world.old w from.now to.now (as_value (held ticket)) → EndsAs (with_taken (Some (as_value (held ticket))) w (transaction from.now (place.Implicit to.now) entry.now amount a) gas (counts_of counts)) world.new gas counts counts result }
+    ensures hosting { IsHosting world.old → IfOk result (λ _. IsHosting world.new) }
+    ensures contracts { KeepsContracts world.old world.new }
+    ensures store { world.new.store ≡ world.old.store }
+    ensures keeps { KeepsWorld world.old world.new }
+{
+    match world.move_mutez(*from, Place::Implicit(*to), amount) {
+        Ok(()) => {}
+        Err(MoveError::BalanceTooLow) => return Err(ApplyError::Failed(Failure::BalanceTooLow)),
+        Err(MoveError::NoContract) => unreachable!(),
+        Err(MoveError::Memory) => return Err(ApplyError::Memory),
+    }
+    credit(alloc, world, to, ticket)?;
+    Ok(moved(alloc, from, to, entry, amount, argument))
+}
+
+// What a contract sends goes to an account: mutez with a value, or a ticket and mutez with it.
 pub(crate) fn send_account(
     alloc: Global,
     world: &mut World,
@@ -128,7 +173,8 @@ pub(crate) fn send_account(
     value: Value,
 ) -> Result<Applied, ApplyError>
     requires there { may_receive world.old.funds.present from.now ≡ true }
-    ensures ends { (w : PlainWorld) (gas : ℕ) (counts : Counts) → AreBetween world.old w from.now (place.Implicit to.now) → EndsAs (to_account w (transaction from.now (place.Implicit to.now) entry.now amount (rules.value (val_in world.old.store.bases.present value))) gas (counts_of counts)) world.new gas counts counts result }
+    requires sent { (w : PlainWorld) × IsSent world.old w from.now to.now (val_in world.old.store.bases.present value) }
+    ensures ends { (w : PlainWorld) (gas : ℕ) (counts : Counts) → IsSent world.old w from.now to.now (val_in world.old.store.bases.present value) → EndsAs (to_account w (transaction from.now (place.Implicit to.now) entry.now amount (rules.value (val_in world.old.store.bases.present value))) gas (counts_of counts)) world.new gas counts counts result }
     ensures hosting { IsHosting world.old → IfOk result (λ _. IsHosting world.new) }
     ensures contracts { KeepsContracts world.old world.new }
     ensures store { world.new.store ≡ world.old.store }
@@ -138,10 +184,18 @@ pub(crate) fn send_account(
         abandon(value);
         return Err(ApplyError::Failed(Failure::NoEntrypoint));
     }
-    // Accounts are not yet credited with tickets that contracts send.
     if is_ticket(&value) {
-        abandon(value);
-        return Err(ApplyError::Memory);
+        let argument = printed(alloc, world.store(), &value)?;
+        return send_ticket(
+            alloc,
+            world,
+            from,
+            to,
+            entry,
+            amount,
+            argument,
+            ticket_of(value),
+        );
     }
     let paid = pay_account(alloc, world, from, to, entry, amount, &value);
     abandon(value);

@@ -14,6 +14,7 @@ ghost use Rattle.mich_operations.specs.Going.{Begins, EndsAs, KeepsContracts, Wi
 use crate::applied::{Applied, ApplyError};
 use crate::calls::call;
 use crate::charging::charge;
+use crate::giving::give;
 use crate::originating::originate;
 use mich_forms::KeyHash;
 use mich_gas::{Costs, Kind, Meter};
@@ -62,6 +63,19 @@ pub fn apply_action(
             charge(costs, meter, Kind::Origination)?;
             originate(alloc, world, source, counts, *balance, script, storage)
         }
-        Action::Give { .. } => Err(ApplyError::Memory),
+        Action::Give {
+            issuer,
+            ty,
+            content,
+            amount,
+            to,
+            entry,
+        } => {
+            charge(costs, meter, Kind::Transfer)?;
+            give(
+                alloc, world, costs, source, meter, counts, bodies, issuer, ty, content, *amount,
+                to, entry,
+            )
+        }
     }
 }

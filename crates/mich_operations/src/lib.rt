@@ -7,8 +7,12 @@ mod applied;
 mod arguments;
 mod calls;
 mod charging;
+mod crediting;
 mod founding;
+mod gifts;
+mod giving;
 mod issued;
+mod offering;
 mod originating;
 mod printing;
 mod running;
@@ -18,3 +22,6 @@ mod telling;
 pub use action::apply_action;
 pub use applied::{Applied, ApplyError};
 pub use issued::apply_issued;
+
+#[cfg(test)]
+mod tests;

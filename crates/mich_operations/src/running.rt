@@ -35,7 +35,13 @@ use mich_world::{MoveError, World};
 use std::alloc::Global;
 
 // What surrounds a contract of these 20 bytes that a place calls with mutez that it has already.
-fn surroundings(world: &World, source: &KeyHash, from: &Place, to: [u8; 20], amount: u64) -> Env
+pub(crate) fn surroundings(
+    world: &World,
+    source: &KeyHash,
+    from: &Place,
+    to: [u8; 20],
+    amount: u64,
+) -> Env
     ensures source { result.source ≡ source.now }
     ensures environment { (w : PlainWorld) (prices : Listed) (group : ℕ) (t : Target) (x : Val) → StandsFor world.now w → t.hash ≡ to → environment result ≡ environment_of (setting_of prices group source.now) w (call_of from.now amount t x) }
 {

@@ -35,6 +35,10 @@ use Rattle.mich_replay.proofs.Written.{lines-more, text_of-append}
 pub came_fresh : Came [] false fresh None []
 came_fresh = record { plain = None; reads = reads_fresh; stands = record { follows = tt; count = refl } }
 
+-- a session that was fed nothing
+pub came_new : (r : Held) (c : Option Course) → r ≡ fresh → c ≡ None → Came [] false r c []
+came_new r c e f = subst (λ (x : Held). Came [] false x c []) (sym e) (subst (λ (x : Option Course). Came [] false fresh x []) (sym f) came_fresh)
+
 pub came_fed : (bytes piece : List ℕ) (last : Bool) (r : Held) (c : Option Course) (receipts : List Receipt) → Came bytes false r c receipts →
     Came (bytes ++ piece) last (fed r piece) c receipts
 came_fed bytes piece last r c receipts h = record { plain = h.plain; reads = reads_fed bytes piece last r receipts h.plain h.reads; stands = h.stands }

@@ -1,13 +1,17 @@
 pub mod Begins
 pub mod Coming
 pub mod Conserved
+pub mod Counting
 pub mod Cut
+pub mod Digits
 pub mod Ends
 pub mod Fronts
+pub mod Generated
 pub mod Happening
 pub mod Once
 pub mod Promise
 pub mod Replayed
 pub mod Taking
 pub mod Truth
+pub mod Words
 pub mod Written

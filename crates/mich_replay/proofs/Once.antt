@@ -6,12 +6,14 @@ use Rattle.mich_text.proofs.Unique.{one_statement}
 use Rattle.mich_text.proofs.OneReading.{one_fault, no_fault_at_node, no_node_at_end, no_fault_at_end}
 use Rattle.rules_replay.specs.Places.{Placed, IsNodeAt, IsFaultAt, IsEndAt, AreStatements, EndsIn}
 use Rattle.rules_world.specs.Receipts.{Receipt}
-use Rattle.rules_replay.specs.Replay.{Replay, Closes, FileFault, TextFault, RefusedAt, Run, going, stopped, stuck_run, run_one, run_all}
-use Rattle.rules_replay.specs.Answers.{Answer, replay_answer}
+use Rattle.rules_generate.specs.Workload.{scenario}
+use Rattle.rules_summary.specs.Summary.{summary_line}
+use Rattle.rules_replay.specs.Replay.{Replay, Closes, Ending, State, FileFault, TextFault, RefusedAt, Run, going, stopped, stuck_run, run_one, run_all}
+use Rattle.rules_replay.specs.Answers.{Answer, done_with, replay_answer}
 use Rattle.rules_replay.specs.Codec.{of_text, IsCodecAnswer, of_listing, encode_node, decode_node}
 use Rattle.rules_replay.specs.Scripts.{check_statements, IsCheckAnswer}
 use Rattle.rules_replay.specs.Packs.{pack_node}
-use Rattle.rules_replay.specs.Commands.{Command, OnFile, NoCommand, Verb, Replaying, Checking, Encoding, Decoding, Packing, IsVerbAnswer, IsAnswer}
+use Rattle.rules_replay.specs.Commands.{Command, OnFile, Generating, NoCommand, Verb, Replaying, Checking, Encoding, Decoding, Packing, IsVerbAnswer, IsWorkloadAnswer, IsAnswer}
 
 -- ---- what stands at a place
 
@@ -132,10 +134,23 @@ verbs-one Encoding file a b m n = codec-one encode_node file a b m n
 verbs-one Decoding file a b m n = codec-one decode_node file a b m n
 verbs-one Packing file a b m n = codec-one pack_node file a b m n
 
+-- the summary of what a workload came to
+abbrev summed_up : ℕ → List Receipt → Ending → List ℕ
+summed_up calls receipts (State w) = summary_line calls receipts w
+summed_up calls receipts (RefusedAt fault place) = []
+
+workloads-one : (calls : ℕ) (a b : Answer) → IsWorkloadAnswer calls a → IsWorkloadAnswer calls b → a ≡ b
+workloads-one calls a b m n =
+    let one : Replay = record { receipts = m.0; ending = State m.1 } in
+    let other : Replay = record { receipts = n.0; ending = State n.1 } in
+    m.3 ∙ ap (λ (d : Replay). done_with (summed_up calls d.receipts d.ending))
+    (replays-one (scenario calls) 0 (going [] None) one other m.2.statements n.2.statements m.2.to n.2.to m.2.stand n.2.stand m.2.closes n.2.closes) ∙ sym n.3
+
 some_is : (x y : List ℕ) → Some x ≡ Some y → x ≡ y
 some_is x y e = cc
 
 pub answers-one : (command : Command) (content : List ℕ → Option (List ℕ)) (a b : Answer) → IsAnswer command content a → IsAnswer command content b → a ≡ b
 answers-one (OnFile verb path) content a b m n =
     verbs-one verb m.0 a b m.2 (subst (λ (file : List ℕ). IsVerbAnswer verb file b) (some_is n.0 m.0 (sym n.1 ∙ m.1)) n.2)
+answers-one (Generating calls) content a b m n = workloads-one calls a b m n
 answers-one NoCommand content a b m n = m ∙ sym n

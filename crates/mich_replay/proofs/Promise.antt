@@ -7,7 +7,7 @@ use Rattle.rules_io.specs.Causes.{Rose}
 use Rattle.rules_io.specs.Known.{AppendsFront}
 use Rattle.rules_replay.specs.Lines.{text_of}
 use Rattle.rules_replay.specs.Answers.{Answer}
-use Rattle.rules_replay.specs.Commands.{Command, OnFile, NoCommand, IsOwn, IsTold, IsAnswer, command_of, file_of}
+use Rattle.rules_replay.specs.Commands.{Command, OnFile, Generating, NoCommand, IsOwn, IsTold, IsAnswer, command_of, file_of}
 use Rattle.rules_replay.specs.Promise.{Meets}
 use Rattle.mich_replay.specs.Coming.{Comes}
 use Rattle.mich_replay.specs.declared.stop.Stop.{Stop}
@@ -16,20 +16,24 @@ use Rattle.mich_replay.proofs.Once.{answers-one}
 own_known : (command : Command) (status : ℕ) → IsOwn command status → status ≤ 2
 own_known (OnFile verb path) status (inl e) = omega (arith, e)
 own_known (OnFile verb path) status (inr e) = omega (arith, e)
+own_known (Generating calls) status e = omega (arith, e)
 own_known NoCommand status e = omega (arith, e)
 
 own_usage : (command : Command) (status : ℕ) → IsOwn command status → status ≡ 1 → command ≡ NoCommand
 own_usage (OnFile verb path) status (inl e) h = absurd (omega (arith, e, h))
 own_usage (OnFile verb path) status (inr e) h = absurd (omega (arith, e, h))
+own_usage (Generating calls) status e h = absurd (omega (arith, e, h))
 own_usage NoCommand status e h = refl
 
 own_refused : (command : Command) (status : ℕ) → IsOwn command status → status ≡ 2 → IsSome (file_of command)
 own_refused (OnFile verb path) status own h = refl
+own_refused (Generating calls) status e h = absurd (omega (arith, e, h))
 own_refused NoCommand status e h = absurd (omega (arith, e, h))
 
 -- what has an answer is told
 told : (command : Command) (content : List ℕ → Option (List ℕ)) (answer : Answer) → IsAnswer command content answer → IsTold command content
 told (OnFile verb path) content answer h = subst IsSome (sym h.1) refl
+told (Generating calls) content answer h = tt
 told NoCommand content answer h = tt
 
 -- each answer is this one
@@ -61,7 +65,7 @@ nothing a text = ([], text, refl, Appends-nil a)
 -- ---- what is promised
 
 module _ (words : List (List ℕ)) (content : List ℕ → Option (List ℕ)) (a b : Option (List ℕ)) (r0 r1 w0 w1 : ℕ) (left : Option (List ℕ)) where
-  pub meets : (status : ℕ) → Comes (command_of words) content a b (Ok status) → (status ≡ 0 → IsAtEnd left) → Meets words content r0 r1 w0 w1 left a b status
+  pub meets : (status : ℕ) → Comes (command_of words) content a b (Ok status) → (status ≡ 0 → IsSome (file_of (command_of words)) → IsAtEnd left) → Meets words content r0 r1 w0 w1 left a b status
   meets status (answer, exact, own, is, p) end =
       let same : IsOwn (command_of words) status = subst (IsOwn (command_of words)) (sym is) own in
       let small = own_known (command_of words) status same in

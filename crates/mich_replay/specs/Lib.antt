@@ -11,4 +11,5 @@ pub mod Laws
 pub mod Steps
 pub mod View
 pub mod Coming
+pub mod Generating
 pub mod Fronts

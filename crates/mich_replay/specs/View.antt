@@ -1,4 +1,5 @@
 -- What the code's values stand for.
+use Rattle.std.specs.Prelude.{ℕ, ◌≤◌}
 use Rattle.rules_replay.specs.Replay as replay
 use Rattle.rules_replay.specs.Commands as commands
 use Rattle.mich_replay.specs.declared.command.Verb.{Verb}
@@ -22,7 +23,14 @@ verb_seen (verbs.Whole verb) = whole_seen verb
 
 abbrev pub command_seen : Command → commands.Command
 command_seen (words.OnFile verb path) = commands.OnFile (verb_seen verb) path.now
+command_seen (words.Generate calls) = commands.Generating calls
 command_seen words.NoCommand = commands.NoCommand
+
+-- a workload has 1 to 100,000 calls
+abbrev pub IsInRange : Command → Type 0
+IsInRange (words.OnFile verb path) = Unit {0}
+IsInRange (words.Generate calls) = (1 ≤ calls) × (calls ≤ 100000)
+IsInRange words.NoCommand = Unit {0}
 
 abbrev pub file_fault_seen : FileFault → replay.FileFault
 file_fault_seen (files.Text kind) = replay.TextFault kind

@@ -1,8 +1,8 @@
 // What the words ask for.
-ghost use Rattle.std.specs.Prelude.{◌≡◌, Some, None, option_map, if◌then◌else◌};
+ghost use Rattle.std.specs.Prelude.{◌≡◌, ◌≤◌, Some, None, length, option_map, if◌then◌else◌};
 ghost use Rattle.std.specs.Str.{is_utf8};
-ghost use Rattle.rules_replay.specs.Commands.{is_path, verb_of, command_of};
-ghost use Rattle.mich_replay.specs.View.{verb_seen, command_seen};
+ghost use Rattle.rules_replay.specs.Commands.{is_path, verb_of, on_file, digits_behind, calls_of, on_calls, command_of};
+ghost use Rattle.mich_replay.specs.View.{verb_seen, command_seen, IsInRange};
 
 use mich_base::Text;
 use std::str;
@@ -23,10 +23,11 @@ pub enum Verb {
     Whole(WholeVerb),
 }
 
-/// A command with its file, or none.
+/// A command with its file, a workload of so many calls, or none.
 #[derive(Clone, Copy)]
 pub enum Command<'a> {
     OnFile(Verb, &'a str),
+    Generate(u32),
     NoCommand,
 }
 
@@ -68,15 +69,66 @@ fn path_of(word: &[u8]) -> Option<&str>
     }
 }
 
-/// The command that the words are.
-pub(crate) fn read_words(words: &[Text]) -> Command<'_>
-    ensures { command_seen result ≡ command_of words.now }
+// The command with its file.
+fn on_file<'a>(verb: &[u8], path: &'a [u8]) -> Command<'a>
+    ensures seen { command_seen result ≡ on_file (verb_of verb.now) path.now }
+    ensures range { IsInRange result }
 {
-    let [verb, path] = words else {
-        return Command::NoCommand;
-    };
-    match (verb_of(verb.as_slice()), path_of(path.as_slice())) {
+    match (verb_of(verb), path_of(path)) {
         (Some(verb), Some(path)) => Command::OnFile(verb, path),
         _ => Command::NoCommand,
+    }
+}
+
+// The value of at most six digits.
+fn value_of(word: &[u8]) -> Option<u32>
+    requires { length word.now ≤ 6 }
+    ensures { result ≡ digits_behind 0 word.now }
+{
+    let mut value = 0;
+    'digits: for digit in word {
+        if !digit.is_ascii_digit() {
+            return None;
+        }
+        value = value * 10 + u32::from(*digit - b'0');
+    }
+    Some(value)
+}
+
+// The number of calls that the word tells.
+fn calls_of(word: &[u8]) -> Option<u32>
+    ensures { result ≡ calls_of word.now }
+{
+    if word.len() > 6 {
+        return None;
+    }
+    match value_of(word) {
+        Some(calls) if (1..=100_000).contains(&calls) => Some(calls),
+        _ => None,
+    }
+}
+
+// The workload of so many calls.
+fn on_calls(calls: Option<u32>) -> Command<'static>
+    ensures { command_seen result ≡ on_calls calls }
+{
+    match calls {
+        Some(calls) => Command::Generate(calls),
+        None => Command::NoCommand,
+    }
+}
+
+/// The command that the words are.
+pub(crate) fn read_words(words: &[Text]) -> Command<'_>
+    ensures seen { command_seen result ≡ command_of words.now }
+    ensures range { IsInRange result }
+{
+    let [verb, word] = words else {
+        return Command::NoCommand;
+    };
+    if verb.as_slice() == b"generate".as_slice() {
+        on_calls(calls_of(word.as_slice()))
+    } else {
+        on_file(verb.as_slice(), word.as_slice())
     }
 }

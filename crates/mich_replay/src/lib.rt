@@ -3,6 +3,7 @@
 
 mod answer;
 mod command;
+mod generating;
 mod honest;
 mod laws;
 mod lines;
@@ -25,4 +26,10 @@ pub use top::mich;
 #[cfg(test)]
 mod check_tests;
 #[cfg(test)]
+mod generate_tests;
+#[cfg(test)]
+mod instructions;
+#[cfg(test)]
 mod tests;
+#[cfg(test)]
+mod worked;

@@ -9,6 +9,7 @@ ghost use Rattle.mich_replay.specs.View.{verb_seen};
 
 use crate::answer::{answer_whole, usage};
 use crate::command::{Command, Verb, read_words};
+use crate::generating::generate;
 use crate::replaying::replay_file;
 use crate::stop::Stop;
 use mich_base::Texts;
@@ -44,13 +45,14 @@ fn answer_words<F: Files, K: Sink>(
 ) -> Result<u8, Stop>
     requires { F.lent files.old ≡ drop 1 words.now }
     ensures comes { Comes (command_of words.now) (F.content files.old) (K.written out.old) (K.written out.new) result }
-    ensures end { IfOk result (λ status. status ≡ 0 → IsAtEnd (F.left files.new)) }
+    ensures end { IfOk result (λ status. status ≡ 0 → IsSome (file_of (command_of words.now)) → IsAtEnd (F.left files.new)) }
     ensures file { IsErrOf result Stop.Read → IsSome (file_of (command_of words.now)) }
     ensures reads { HasCause Stop.Read (F.faults files.old) (F.faults files.new) result }
     ensures writes { HasCause Stop.Write (K.faults out.old) (K.faults out.new) result }
 {
     match read_words(words.as_slice()) {
         Command::OnFile(verb, path) => answer_on_file(alloc, verb, path, files, out),
+        Command::Generate(calls) => generate(alloc, calls, out),
         Command::NoCommand => usage(alloc, out),
     }
 }
@@ -59,7 +61,7 @@ fn answer_words<F: Files, K: Sink>(
 /// 5 out of memory.
 ///
 /// The words are the command line without the program's name, and the files that are lent are those behind the first.
-/// Each line is one `write_all`. `replay` reads pieces of at most 65,536 bytes, and writes the line of each group before it
+/// Each line is one `write_all`. `generate` reads no file. `replay` reads pieces of at most 65,536 bytes, and writes the line of each group before it
 /// reads on.
 pub fn mich<F: Files, K: Sink>(alloc: Global, words: &Texts, files: &mut F, out: &mut K) -> u8
     requires { F.lent files.old ≡ drop 1 words.now }

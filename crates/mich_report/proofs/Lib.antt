@@ -3,3 +3,4 @@ mod Loops
 mod Written
 mod Walks
 mod Rest
+mod Summing

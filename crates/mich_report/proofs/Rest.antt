@@ -261,25 +261,29 @@ totals_positive v w r = λ j. (
   subst (λ (n : ℤ). pos 0 ≤ℤ n) (sym (r.stands.those.burnt j)) (burnt_positive j w.log r.good.sound.form.log),
 )
 
+-- what was minted and not burnt is held
+pub held_rest : (v : World) (w : PlainWorld) → IsAtRest v w → (j : Identity) → minted_of v.ledger.books.present j -ℤ burnt_of v.ledger.books.present j ≡ held w j
+held_rest v w r j =
+    let left : held w j ≡ minted_ever w j -ℤ burnt_ever w j = waiting_none (held w j) (minted_ever w j) (burnt_ever w j) (pos 0) refl (r.good.tickets j) in
+    ap (λ x. x -ℤ burnt_of v.ledger.books.present j) (r.stands.those.minted j) ∙ ap (λ x. minted_ever w j -ℤ x) (r.stands.those.burnt j) ∙ sym left
+
 ticket_same : (v : World) (w : PlainWorld) → IsAtRest v w → (j : Identity) (n : ℤ) → ticket_of v.ledger.books.present (j, n) ≡ ticket_node w j
 ticket_same v w r j n =
-    let left : held w j ≡ minted_ever w j -ℤ burnt_ever w j = waiting_none (held w j) (minted_ever w j) (burnt_ever w j) (pos 0) refl (r.good.tickets j) in
     let m = r.stands.those.minted j in
     let b = r.stands.those.burnt j in
-    λ i. over (codes "Tickets") (ticket_fields j.issuer j.kind j.content ++ int (m i) ∷ int (b i) ∷ int ((ap (λ x. x -ℤ burnt_of v.ledger.books.present j) m ∙ ap (λ x. minted_ever w j -ℤ x) b ∙ sym left) i) ∷ [])
+    λ i. over (codes "Tickets") (ticket_fields j.issuer j.kind j.content ++ int (m i) ∷ int (b i) ∷ int (held_rest v w r j i) ∷ [])
 
 tickets_same : (v : World) (w : PlainWorld) → IsAtRest v w → (ids : List Identity)
     → map (ticket_of v.ledger.books.present) (map (λ j. (j, minted_ever w j)) ids) ≡ map (ticket_node w) ids
 tickets_same v w r [] = refl
 tickets_same v w r (j ∷ ids) = λ i. ticket_same v w r j (minted_ever w j) i ∷ tickets_same v w r ids i
 
-pub all_tickets : (v : World) (w : PlainWorld) (es : Amounts) → IsAtRest v w → IsStrictlySortedBy by_identity (keys_of v.ledger.books.present.lines)
+-- what is minted by the ledger's lines is what the world tells
+pub entries_told : (v : World) (w : PlainWorld) (es : Amounts) → IsAtRest v w → IsStrictlySortedBy by_identity (keys_of v.ledger.books.present.lines)
     → ((j : Identity) → amount_in j es ≡ settled minted_of_line j v.ledger.books.present.lines (pos 0))
     → IsStrictlySortedBy by_print (keys_of es) → AllByRecursion (λ e. pos 0 <ℤ e.1) es
-    → map (ticket_of v.ledger.books.present) (map seen es) ≡ map (ticket_node w) (identities w.log)
-all_tickets v w es r lines same sorted positive =
-    ap (map (ticket_of v.ledger.books.present)) (one_list (told w) es (told_in_order w r.good.sound.form) sorted positive amounts)
-    ∙ tickets_same v w r (identities w.log)
+    → map seen es ≡ told w
+entries_told v w es r lines same sorted positive = one_list (told w) es (told_in_order w r.good.sound.form) sorted positive amounts
   where
     amounts : (j : Identity) → amount_in j es ≡ amount_told j (told w)
     amounts j =
@@ -288,6 +292,13 @@ all_tickets v w es r lines same sorted positive =
         ∙ lines_settled minted_of_line j v.ledger.books.present.lines (pos 0) lines
         ∙ written_line minted_of_line o (minted_ever w j) (minted_positive j w.log r.good.sound.form.log) (sym (r.stands.those.minted j) ∙ line_minted o)
         ∙ sym (amount_is_told w r.good.sound.form j)
+
+pub all_tickets : (v : World) (w : PlainWorld) (es : Amounts) → IsAtRest v w → IsStrictlySortedBy by_identity (keys_of v.ledger.books.present.lines)
+    → ((j : Identity) → amount_in j es ≡ settled minted_of_line j v.ledger.books.present.lines (pos 0))
+    → IsStrictlySortedBy by_print (keys_of es) → AllByRecursion (λ e. pos 0 <ℤ e.1) es
+    → map (ticket_of v.ledger.books.present) (map seen es) ≡ map (ticket_node w) (identities w.log)
+all_tickets v w es r lines same sorted positive =
+    ap (map (ticket_of v.ledger.books.present)) (entries_told v w es r lines same sorted positive) ∙ tickets_same v w r (identities w.log)
 
 -- the line of one more
 pub ticket_more : (b : Books) (lines new whole : List (List ℕ)) (t : List ℕ) (id : TicketId) (n : ℤ) (iter rest : Amounts)
@@ -306,7 +317,7 @@ map_append f [] ys = refl
 map_append f (x ∷ xs) ys = ap (λ (ts : List (List ℕ)). f x ∷ ts) (map_append f xs ys)
 
 -- all balances and fees
-total_same : (v : World) (w : PlainWorld) → StandsFor v w → total v.funds.present ≡ supply w
+pub total_same : (v : World) (w : PlainWorld) → StandsFor v w → total v.funds.present ≡ supply w
 total_same v w s = total_is v.funds.present v.store.bases.present v.ledger.books.present w s.those
 
 pub all_lines : (v : World) (w : PlainWorld) (tickets : List Tree) (a b c d : List (List ℕ)) → IsAtRest v w

@@ -10,10 +10,12 @@ mod line;
 mod parts;
 mod receipts;
 mod state;
+mod summary;
 
 pub use line::node_line;
 pub use receipts::receipt_text;
 pub use state::{state_lines, state_text};
+pub use summary::summary_text;
 
 #[cfg(test)]
 mod tests;

@@ -15,7 +15,7 @@ use Rattle.mich_stack.specs.Views.{seen}
 use Rattle.mich_frames.proofs.Calls.{apply_top}
 use Rattle.mich_prices.proofs.Weighed.{found_weighs}
 use Rattle.mich_interpreter.specs.View.{tops}
-use Rattle.mich_interpreter.proofs.Called.{call_top, call_below}
+use Rattle.mich_interpreter.proofs.Executed.{call_top, call_below}
 use Rattle.mich_interpreter.proofs.Captured.{captured_seen, apply_any_broke, apply_any_acts, apply_any_large, apply_any_deep}
 use Rattle.mich_interpreter.proofs.Capped.{paid_is, broke_is}
 use Rattle.mich_interpreter.proofs.Mapped.{seen_lambda}

@@ -9,7 +9,7 @@ use Rattle.mich_gas.specs.View.{listed}
 use Rattle.mich_stack.specs.Views.{seen}
 use Rattle.mich_frames.proofs.Calls.{exec_top}
 use Rattle.mich_interpreter.specs.View.{tops}
-use Rattle.mich_interpreter.proofs.Called.{call_top, call_below, call_seq, exec_any_broke, exec_fits, exec_faultless, exec_any_opens}
+use Rattle.mich_interpreter.proofs.Executed.{call_top, call_below, call_seq, exec_any_broke, exec_fits, exec_faultless, exec_any_opens}
 use Rattle.mich_interpreter.proofs.Paid.{opens_paid, paid_less}
 use Rattle.mich_interpreter.proofs.calls.act_exec.Goals as goal
 

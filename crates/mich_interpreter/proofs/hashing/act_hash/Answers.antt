@@ -1,6 +1,7 @@
 use Rattle.std.proofs.Common.{Err, refl, subst}
+use Rattle.rules_evaluation.specs.Trying.{trial}
 use Rattle.rules_instructions.specs.Straight.{on_hashes}
-use Rattle.rules_steps.specs.Packing.{Trial, hash_step}
+use Rattle.rules_steps.specs.Packing.{hash_step}
 use Rattle.mich_overload.specs.View.{hash_row}
 use Rattle.mich_stack.specs.Ends.{IsKept}
 use Rattle.mich_stack.specs.Views.{values}
@@ -29,7 +30,7 @@ pub returns-in-Ok-clause-acts : goal.returns-in-Ok-clause-acts
 returns-in-Ok-clause-acts c = λ app x fs d Z o h.
     let r = hash_row c.args.row.now in
     let p = paid_is _ _ _ _ _ _ _ c.if-not-pay_capped.false c.hash_price.ensures (c.pay_capped.ensures (heavy x c.args.costs.now c.args.m.now r h) (c.hash_weight-weight.ensures x.sight) h.runs.charged) in
-    hash_stands x c.args.costs.now c.args.m.now r h p.0 c.hash_step.new.stack c.pay_capped.new.meter (λ passes. c.in-Ok.ensures passes x.sight) p.1
+    hash_stands x c.args.costs.now c.args.m.now r h p.0 c.hash_step.new.stack c.pay_capped.new.meter (λ e. c.in-Ok.ensures (trial e) x.sight) p.1
 
 pub returns-in-Err-Failed-clause-acts : goal.returns-in-Err-Failed-clause-acts
 returns-in-Err-Failed-clause-acts c = λ app x fs d Z o h.

@@ -1,4 +1,4 @@
-use Rattle.std.proofs.Common.{◌≡◌, ◌+◌, ◌∷◌, drop, Some, None, sym, ap, ◌∙◌, refl}
+use Rattle.std.proofs.Common.{◌≡◌, ◌+◌, ◌∷◌, ◌++◌, drop, Some, None, sym, ap, ◌∙◌, refl}
 use Rattle.std.specs.List.{slice_get}
 use Rattle.mich_instr.specs.Code as made
 use Rattle.mich_instr.specs.View.{code, codes}
@@ -25,23 +25,23 @@ perform-requires c =
       charged = c.in_default.not-Seq;
       comes = (
         r.0,
-        fr.rest (codes (drop (c.args.m.now.at + 1) c.args.m.now.block)) ∷ frames r.0.sight c.args.m.now.frames,
+        fr.rest (codes (drop (c.args.m.now.at + 1) c.args.m.now.block)) ∷ frames r.0.sight c.args.m.now.frames ++ r.1,
         c.args.m.now.depth,
-        r.1,
         r.2,
-        meets_at r.0 c.args.costs.now r.1 r.2 c.args.m.now r.3 c.at-instr.result.now c.requires.within e,
-        r.4,
+        r.3,
+        meets_at r.0 c.args.costs.now r.1 r.2 r.3 c.args.m.now r.4 c.at-instr.result.now c.requires.within e,
+        r.5,
       );
     }
 
 pub returns-then-begun-clause-stays : goal.returns-then-begun-clause-stays
-returns-then-begun-clause-stays c = λ x Z o h s.
+returns-then-begun-clause-stays c = λ x gs Z o h s.
     let e : slice_get c.args.m.now.block c.args.m.now.at ≡ Some c.at-instr.result.now = ap (λ b. slice_get b c.args.m.now.at) (sym c.get.ensures) ∙ c.at-instr.ensures in
     let mid : Machine = record c.args.m.now { at = c.args.m.now.at + 1 } in
-    let meets = rw (ap code c.in-Seq.is ∙ code_seq c.in-Seq.inner) at (meets_at x c.args.costs.now Z o c.args.m.now h c.at-instr.result.now c.requires.within e) in
-    let opens : HasActedIn (a.Open None c.in_ok-inner.inner) x c.args.costs.now mid Z o = rw c.in_ok-inner.ensures (seq_opens meets) in
+    let meets = rw (ap code c.in-Seq.is ∙ code_seq c.in-Seq.inner) at (meets_at x c.args.costs.now gs Z o c.args.m.now h c.at-instr.result.now c.requires.within e) in
+    let opens : HasActedIn (a.Open None c.in_ok-inner.inner) x c.args.costs.now mid gs Z o = rw c.in_ok-inner.ensures (seq_opens meets) in
     let begun = rw c.if-begun.true at c.in_ok-begun.ensures.begun in
-    opens_inside x c.args.costs.now Z o None c.in_ok-inner.inner mid c.begin_inside.new.m begun c.begin_inside.ensures.state opens
+    opens_inside x c.args.costs.now gs Z o None c.in_ok-inner.inner mid c.begin_inside.new.m begun c.begin_inside.ensures.state opens
 
 pub returns-then-begun-clause-spent : goal.returns-then-begun-clause-spent
 returns-then-begun-clause-spent c =
@@ -53,21 +53,21 @@ returns-then-begun-clause-spent c =
     (ap (λ s. s.meter) c.begin_inside.ensures.state, seq_smaller c.args.m.now mid c.begin_inside.new.m c.in_ok-inner.inner (one ∙ two) refl begun)
 
 pub returns-else-begun-clause-stays : goal.returns-else-begun-clause-stays
-returns-else-begun-clause-stays c = λ x Z o h s.
+returns-else-begun-clause-stays c = λ x gs Z o h s.
     let e : slice_get c.args.m.now.block c.args.m.now.at ≡ Some c.at-instr.result.now = ap (λ b. slice_get b c.args.m.now.at) (sym c.get.ensures) ∙ c.at-instr.ensures in
     let mid : Machine = record c.args.m.now { at = c.args.m.now.at + 1 } in
-    let meets = rw (ap code c.in-Seq.is ∙ code_seq c.in-Seq.inner) at (meets_at x c.args.costs.now Z o c.args.m.now h c.at-instr.result.now c.requires.within e) in
-    let opens : HasActedIn (a.Open None c.in_ok-inner.inner) x c.args.costs.now mid Z o = rw c.in_ok-inner.ensures (seq_opens meets) in
+    let meets = rw (ap code c.in-Seq.is ∙ code_seq c.in-Seq.inner) at (meets_at x c.args.costs.now gs Z o c.args.m.now h c.at-instr.result.now c.requires.within e) in
+    let opens : HasActedIn (a.Open None c.in_ok-inner.inner) x c.args.costs.now mid gs Z o = rw c.in_ok-inner.ensures (seq_opens meets) in
     let begun = rw c.if-begun.false at c.in_ok-begun.ensures.begun in
-    deep_inside x c.args.costs.now Z o None c.in_ok-inner.inner mid begun opens
+    deep_inside x c.args.costs.now gs Z o None c.in_ok-inner.inner mid begun opens
 
 pub returns-in_ok-step : goal.returns-in_ok-step
 returns-in_ok-step c =
     let e : slice_get c.args.m.now.block c.args.m.now.at ≡ Some c.at-instr.result.now = ap (λ b. slice_get b c.args.m.now.at) (sym c.get.ensures) ∙ c.at-instr.ensures in
     record {
-      stays = λ x Z o h s. c.in_ok-step.ensures.stays x c.args.costs.now Z o
-          (c.in_ok-act.ensures.acts x (fr.rest (codes (drop (c.args.m.now.at + 1) c.args.m.now.block)) ∷ frames x.sight c.args.m.now.frames) c.args.m.now.depth Z o
-          (meets_at x c.args.costs.now Z o c.args.m.now h c.at-instr.result.now c.requires.within e) s);
+      stays = λ x gs Z o h s. c.in_ok-step.ensures.stays x c.args.costs.now gs Z o
+          (c.in_ok-act.ensures.acts x (fr.rest (codes (drop (c.args.m.now.at + 1) c.args.m.now.block)) ∷ frames x.sight c.args.m.now.frames ++ gs) c.args.m.now.depth Z o
+          (meets_at x c.args.costs.now gs Z o c.args.m.now h c.at-instr.result.now c.requires.within e) s);
       spent = paid_spent c.in_ok-step.step c.args.m.now c.follow.new.m (c.in_ok-step.ensures.spent c.args.m.now.state.meter c.in_ok-act.ensures.less);
       keeps = c.in_ok-step.ensures.keeps c.args.m.now.state c.in_ok-act.ensures.keeps;
     }

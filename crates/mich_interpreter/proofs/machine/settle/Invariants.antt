@@ -1,6 +1,7 @@
 use Rattle.std.proofs.Common.{◌≡◌, List}
 use Rattle.rules_types.specs.Kind.{Kind}
 use Rattle.rules_evaluation.specs.Outcome.{Outcome}
+use Rattle.mich_frames.specs.Frames.{Frame}
 use Rattle.mich_interpreter.specs.View.{Beyond}
 use Rattle.mich_interpreter.specs.Ends.{KeepsState}
 use Rattle.mich_interpreter.specs.Runs.{InBlock, SomeRun, size_of}
@@ -10,7 +11,7 @@ use Rattle.mich_interpreter.proofs.machine.settle.Given as goal
 abbrev pub invariant-free : goal.invariant-free
 invariant-free l = record {
   some : SomeRun l.world l.costs l.m;
-  keeps : (x : Beyond) (Z : List Kind) (o : Outcome) → InBlock x l.costs l.initial.m Z o → Sees l.world x → InBlock x l.costs l.m Z o;
+  keeps : (x : Beyond) (gs : List Frame) (Z : List Kind) (o : Outcome) → InBlock x l.costs l.initial.m gs Z o → Sees l.world x → InBlock x l.costs l.m gs Z o;
   gas : l.m.state.meter ≡ l.initial.m.state.meter;
   state : KeepsState l.initial.m.state l.m.state;
 }

@@ -18,8 +18,12 @@ not_false false h = cc
 on_big_map : (s : Simple) (row : Row) → s ≡ simple.Collections row → in_step (straight s) ≡ false → is_on_big_map (collection_row row) ≡ true
 on_big_map s row e h = not_false (is_on_big_map (collection_row row)) (ap (λ t. in_step (straight t)) (sym e) ∙ h)
 
-pub act_operation-requires : goal.act_operation-requires
-act_operation-requires c =
+pub act_operation-requires-clause-apart : goal.act_operation-requires-clause-apart
+act_operation-requires-clause-apart c =
+    subst (λ (s : Simple). in_step (straight s) ≡ false) c.in-Operations.is (sym c.in_step.ensures ∙ c.if-in_step.false)
+
+pub act_operation-requires-clause-comes : goal.act_operation-requires-clause-comes
+act_operation-requires-clause-comes c =
     subst (λ (s : Simple). (app : Tree) × ComesIn c.args.world.now (made.straight (straight s) app) c.args.costs.now c.args.m.now) c.in-Operations.is c.requires
 
 pub returns-in_ok-act_operation-in-Operations-clause-acts : goal.returns-in_ok-act_operation-in-Operations-clause-acts

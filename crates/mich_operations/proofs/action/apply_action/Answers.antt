@@ -1,12 +1,16 @@
-use Rattle.std.proofs.Common.{rules, sym, subst}
+use Rattle.std.proofs.Common.{rules, SFits, sym, subst}
+use Rattle.std.specs.Int.{w128}
+use Rattle.std.proofs.lemmas.Int.{to_z-of_z}
 use Rattle.rules_gas.specs.declared.Kind.TheVariants as price
 use Rattle.rules_typing.specs.Nodes.{script}
 use Rattle.rules_world.specs.Application.{apply_action}
 use Rattle.rules_world.specs.Contents.{Originate}
+use Rattle.rules_world.specs.Gives.{Offer, given, offered, with_offered}
 use Rattle.rules_world.specs.Groups.{setting_of}
 use Rattle.rules_world.specs.Originations.{with_script}
 use Rattle.rules_world.specs.Outcomes.{ordered}
 use Rattle.mich_base.specs.View.{tree}
+use Rattle.mich_forms.specs.Spelled.{place_bytes}
 use Rattle.mich_gas.specs.View.{listed}
 use Rattle.mich_machine.specs.Calls.{counts_of}
 use Rattle.mich_ops.specs.View.{action as action_of}
@@ -38,3 +42,33 @@ returns-in_ok-charge-in-Originate-clause-ends c = λ w b.
     c.args.counts.now c.originate.new.counts c.originate.result
     (charged_paid s.prices price.Origination c.args.meter.now c.charge-in-Originate.new.meter _ paid.0 paid.1)
     (c.originate.ensures.ends (listed c.args.costs.now) w c.charge-in-Originate.new.meter begins))
+
+pub returns-in_err-charge-in-Give-clause-keeps : goal.returns-in_err-charge-in-Give-clause-keeps
+returns-in_err-charge-in-Give-clause-keeps c = keeps_either c.from_residual-in_err-charge-in-Give.result c.args.world.now
+
+pub returns-in_ok-charge-in-Give-clause-ends : goal.returns-in_ok-charge-in-Give-clause-ends
+returns-in_ok-charge-in-Give-clause-ends c = λ w b.
+    let o = c.in-Give in
+    let s = setting_of (listed c.args.costs.now) c.args.counts.now.group c.args.source.now in
+    let paid = c.in_ok-charge-in-Give.ensures in
+    let fits : SFits w128 o.amount = search rules in
+    let offer : Offer = record { issuer = place_bytes o.issuer; kind = tree o.ty; content = tree o.content; amount = o.amount } in
+    let begins = subst (λ (a : Ordered). Begins c.args.world.now w s (ordered (action_of a)) (counts_of c.args.counts.now)) o.is b in
+    subst (λ (a : Ordered). EndsAs (apply_action s w (action_of a) c.args.meter.now (counts_of c.args.counts.now)) c.give.new.world c.give.new.meter
+    c.args.counts.now c.give.new.counts c.give.result) (sym o.is)
+    (ends_along (given s w offer (place_bytes o.to) o.entry c.args.meter.now (counts_of c.args.counts.now))
+    (with_offered (offered offer) s w (place_bytes o.to) o.entry c.charge-in-Give.new.meter (counts_of c.args.counts.now)) c.give.new.world c.give.new.meter
+    c.args.counts.now c.give.new.counts c.give.result
+    (charged_paid s.prices price.Transfer c.args.meter.now c.charge-in-Give.new.meter _ paid.0 paid.1)
+    ((rw (to_z-of_z w128 o.amount fits) at (c.give.ensures.ends w)) begins))
+
+pub give-requires-clause-next : goal.give-requires-clause-next
+give-requires-clause-next c =
+    let o = c.in-Give in
+    let n = c.requires.next in
+    let s = setting_of (listed c.args.costs.now) c.args.counts.now.group c.args.source.now in
+    let fits : SFits w128 o.amount = search rules in (
+      n.0,
+      rw (to_z-of_z w128 o.amount fits)
+          (subst (λ (a : Ordered). Begins c.args.world.now n.0 s (ordered (action_of a)) (counts_of c.args.counts.now)) o.is n.1),
+    )

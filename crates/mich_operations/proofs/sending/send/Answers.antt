@@ -4,7 +4,7 @@ use Rattle.mich_bigmap.specs.Standing.{val_in}
 use Rattle.mich_forms.specs.Spelled.{address_bytes}
 use Rattle.mich_gas.specs.View.{listed}
 use Rattle.mich_machine.specs.Calls.{counts_of}
-use Rattle.mich_operations.proofs.Sent.{sends_account, sends_contract, sent_between, sent_due}
+use Rattle.mich_operations.proofs.Sent.{sends_account, sends_contract, sent_due, sent_so}
 use Rattle.mich_operations.proofs.sending.send.Goals as goal
 
 pub call_contract-requires-clause-due : goal.call_contract-requires-clause-due
@@ -16,11 +16,21 @@ call_contract-requires-clause-due c =
     (address_bytes c.args.to.now) p.ensures.spelled p.ensures.place p.ensures.name g.1 c.in-Contract.hash c.in-Contract.is in
     (g.0, d.0, d.1)
 
+pub send_account-requires-clause-sent : goal.send_account-requires-clause-sent
+send_account-requires-clause-sent c =
+    let s = setting_of (listed c.args.costs.now) c.args.counts.now.group c.args.source.now in
+    let p = c.parts-place in
+    let g = c.requires.next in (
+      g.0,
+      sent_so c.args.world.now g.0 s c.args.by p.result.0 p.result.1 c.args.amount c.args.argument (counts_of c.args.counts.now)
+          (address_bytes c.args.to.now) p.ensures.spelled p.ensures.place p.ensures.name g.1 c.in-Implicit.who c.in-Implicit.is,
+    )
+
 pub returns-in-Implicit-clause-ends : goal.returns-in-Implicit-clause-ends
 returns-in-Implicit-clause-ends c = λ w b.
     let s = setting_of (listed c.args.costs.now) c.args.counts.now.group c.args.source.now in
     let p = c.parts-place in
-    let m = sent_between c.args.world.now w s c.args.by p.result.0 p.result.1 c.args.amount c.args.argument (counts_of c.args.counts.now)
+    let m = sent_so c.args.world.now w s c.args.by p.result.0 p.result.1 c.args.amount c.args.argument (counts_of c.args.counts.now)
     (address_bytes c.args.to.now) p.ensures.spelled p.ensures.place p.ensures.name b c.in-Implicit.who c.in-Implicit.is in
     sends_account c.args.world.now w s c.args.by p.result.0 p.result.1 c.args.amount c.args.argument (counts_of c.args.counts.now)
     (address_bytes c.args.to.now) p.ensures.spelled p.ensures.place p.ensures.name b c.in-Implicit.who c.in-Implicit.is

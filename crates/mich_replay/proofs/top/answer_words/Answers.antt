@@ -1,14 +1,26 @@
-use Rattle.std.proofs.Common.{ap, ◌∙◌, subst}
+use Rattle.std.proofs.Common.{ℕ, List, Contains, refl, sym, ap, ◌∙◌, subst, arith}
 use Rattle.rules_replay.specs.Commands.{Command, command_of}
 use Rattle.mich_replay.specs.Coming.{Comes}
+use Rattle.mich_replay.proofs.Words.{only_path}
 use Rattle.mich_replay.proofs.top.answer_words.Goals as goal
+
+pub answer_on_file-requires : goal.answer_on_file-requires
+answer_on_file-requires g c =
+    let path = c.in-OnFile.path.now in
+    let only = only_path _ path c.args.words.now (c.in-OnFile.ensures.seen ∙ ap command_of c.as_slice.ensures) in
+    subst (λ (lent : List (List ℕ)). Contains lent path) (sym (c.requires ∙ only)) (0, omega arith, refl)
 
 pub returns-in-OnFile-clause-comes : goal.returns-in-OnFile-clause-comes
 returns-in-OnFile-clause-comes g c =
     subst (λ (x : Command). Comes x (g.F.Files.content c.args.files.now) (g.K.Sink.written c.args.out.now) (g.K.Sink.written c.answer_on_file.new.out) c.answer_on_file.result)
-    (c.in-OnFile.ensures ∙ ap command_of c.as_slice.ensures) c.answer_on_file.ensures.comes
+    (c.in-OnFile.ensures.seen ∙ ap command_of c.as_slice.ensures) c.answer_on_file.ensures.comes
 
 pub returns-in-NoCommand-clause-comes : goal.returns-in-NoCommand-clause-comes
 returns-in-NoCommand-clause-comes g c =
     subst (λ (x : Command). Comes x (g.F.Files.content c.args.files.now) (g.K.Sink.written c.args.out.now) (g.K.Sink.written c.usage.new.out) c.usage.result)
-    (c.in-NoCommand.ensures ∙ ap command_of c.as_slice.ensures) (c.usage.ensures.comes (g.F.Files.content c.args.files.now))
+    (c.in-NoCommand.ensures.seen ∙ ap command_of c.as_slice.ensures) (c.usage.ensures.comes (g.F.Files.content c.args.files.now))
+
+pub returns-in-Generate-clause-comes : goal.returns-in-Generate-clause-comes
+returns-in-Generate-clause-comes g c =
+    subst (λ (x : Command). Comes x (g.F.Files.content c.args.files.now) (g.K.Sink.written c.args.out.now) (g.K.Sink.written c.generate.new.out) c.generate.result)
+    (c.in-Generate.ensures.seen ∙ ap command_of c.as_slice.ensures) (c.generate.ensures.comes (g.F.Files.content c.args.files.now))

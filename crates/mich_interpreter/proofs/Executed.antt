@@ -1,0 +1,78 @@
+-- Calls of lambdas, whatever their bodies are.
+use Rattle.std.proofs.Common.{◌≡◌, ◌<◌, ◌^◌, ℕ, Bool, true, false, List, [], ◌∷◌, Option, Some, None, refl, subst}
+use Rattle.std.specs.Prelude.{is_none}
+use Rattle.rules_base.specs.Tree.{Tree, int, str, bytes, prim, seq, Trees, size}
+use Rattle.rules_gas.specs.declared.Kind.TheVariants as g
+use Rattle.rules_types.specs.Kind.{Kind}
+use Rattle.rules_instructions.specs.Context as place
+use Rattle.rules_instructions.specs.Control.{call_kinds}
+use Rattle.rules_values.specs.Val.{Val}
+use Rattle.rules_values.specs.Val as v
+use Rattle.rules_steps.specs.Failure as f
+use Rattle.rules_typing.specs.Literals.{lambda_fault}
+use Rattle.rules_evaluation.specs.Calls.{call_values}
+use Rattle.rules_evaluation.specs.Operations.{Tally}
+use Rattle.rules_evaluation.specs.Outcome.{Outcome, failed}
+use Rattle.mich_control.specs.Answers.{inside}
+use Rattle.mich_instr.specs.Code.{Codes}
+use Rattle.mich_instr.specs.Code as made
+use Rattle.mich_instr.specs.Typed.{AreCode, is_exec}
+use Rattle.mich_frames.specs.Around.{Around, less, Pays, Lacks}
+use Rattle.mich_frames.specs.Frames.{Frame}
+use Rattle.mich_frames.specs.Frames as fr
+use Rattle.mich_frames.specs.Stands.{MeetsAt, OpensAt}
+use Rattle.mich_frames.specs.Shapes.{HasTop, HasCall}
+use Rattle.mich_frames.proofs.Calls.{exec_top, exec_opens, exec_typed, exec_broke}
+use Rattle.mich_frames.proofs.Fine.{lambda_below}
+use Rattle.mich_frames.proofs.Made.{FineCase, meets_fine}
+use Rattle.mich_interpreter.specs.Calls.{HasLambda, called}
+
+-- ---- an argument and a lambda
+
+pub call_top : (V : List Val) → HasCall V → HasTop V
+call_top [] h = absurd h
+call_top (x ∷ V) h = tt
+
+pub call_below : (x : Val) (V : List Val) → HasCall (x ∷ V) → HasLambda V
+call_below x (v.lambda (seq ts) recursive ∷ W) h = tt
+call_below x _ h = absurd h
+
+pub call_seq : (x : Val) (t : Tree) (recursive : Bool) (W : List Val) → HasCall (x ∷ v.lambda t recursive ∷ W) → t ≡ seq (inside t)
+call_seq x (seq ts) recursive W h = refl
+call_seq x _ recursive W h = absurd h
+
+called_is : (x : Val) (ts : Trees) (recursive : Bool) → call_values x ts recursive ≡ called x (seq ts) recursive
+called_is x ts true = refl
+called_is x ts false = refl
+
+is_none_is : (o : Option ℕ) → is_none o ≡ true → o ≡ None
+is_none_is None e = refl
+is_none_is (Some n) e = absurd cc
+
+-- ---- EXEC
+
+module _ {fs : List Frame} {u : Around} {m : Tally} {d : ℕ} {Z : List Kind} {o : Outcome} {a r : Kind} where
+  pub exec_any_broke : (V : List Val) → Lacks u g.Exec 0 m → MeetsAt (made.exec a r) fs u V m d Z o → HasCall V → o ≡ failed f.out_of_gas
+  exec_any_broke (x ∷ v.lambda (seq ts) recursive ∷ W) lacks h top = exec_broke x ts recursive W lacks h
+  exec_any_broke _ lacks h top = absurd top
+
+  exec_small : (x : Val) (ts : Trees) (recursive : Bool) (W : List Val) → MeetsAt (made.exec a r) fs u (x ∷ v.lambda (seq ts) recursive ∷ W) m d Z o → size (seq ts) < 2 ^ 32
+  exec_small x ts recursive W h = meets_fine h by
+    where
+      by : FineCase (made.exec a r) fs u (x ∷ v.lambda (seq ts) recursive ∷ W) m d Z o (size (seq ts) < 2 ^ 32)
+      by ps c _ _ _ (is_exec {A = A} form) rests depth same typed small holds = (lambda_below holds).0
+
+  -- its body is no larger than bodies of lambdas may be
+  pub exec_fits : (x : Val) (t : Tree) (recursive : Bool) (W : List Val) → MeetsAt (made.exec a r) fs u (x ∷ v.lambda t recursive ∷ W) m d Z o → size t < 2 ^ 32
+  exec_fits x (seq ts) recursive W h = exec_small x ts recursive W h
+  exec_fits x _ recursive W h = absurd (exec_top h)
+
+  -- and goes from the type of its argument to that of its result
+  pub exec_faultless : (x : Val) (t : Tree) (recursive : Bool) (W : List Val) → MeetsAt (made.exec a r) fs u (x ∷ v.lambda t recursive ∷ W) m d Z o → lambda_fault a r recursive t ≡ None
+  exec_faultless x (seq ts) recursive W h = is_none_is (lambda_fault a r recursive (seq ts)) (exec_typed x ts recursive W h)
+  exec_faultless x _ recursive W h = absurd (exec_top h)
+
+  pub exec_any_opens : {is : Codes} (x : Val) (t : Tree) (recursive : Bool) (W : List Val) → Pays u g.Exec 0 m → AreCode place.lambda (inside t) is (call_kinds a r recursive) (r ∷ []) →
+      MeetsAt (made.exec a r) fs u (x ∷ v.lambda t recursive ∷ W) m d Z o → OpensAt is (fr.call W ∷ fs) u (called x t recursive) (less u g.Exec 0 m) d Z o
+  exec_any_opens {is = is} x (seq ts) recursive W pays fine h = subst (λ (X : List Val). OpensAt is (fr.call W ∷ fs) u X (less u g.Exec 0 m) d Z o) (called_is x ts recursive) (exec_opens x ts recursive W pays fine h)
+  exec_any_opens x _ recursive W pays fine h = absurd (exec_top h)

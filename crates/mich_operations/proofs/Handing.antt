@@ -1,0 +1,126 @@
+-- Contracts that are called with tickets that a source gives.
+use Rattle.std.proofs.Common.{◌≡◌, ◌≤◌, ◌<◌, ◌^◌, ◌||◌, ℕ, ℤ, pos, ◌+ℤ◌, ◌-ℤ◌, ◌≤ℤ◌, List, ◌∷◌, Bool, true, false, None, Some, refl, sym, ◌∙◌, subst, arith}
+use Rattle.std.specs.Prelude.{if◌then◌else◌, int_lt}
+use Rattle.std.specs.declared.option.Option.{Option}
+use Rattle.std.proofs.lemmas.Int.{ints}
+use Rattle.rules_base.specs.Tree.{size}
+use Rattle.rules_forms.specs.Spelling.{implicit_place}
+use Rattle.rules_instructions.specs.Same.{same_kind}
+use Rattle.rules_steps.specs.Changes.{amount_of, amount_in, identity_of}
+use Rattle.rules_types.specs.Attributes.{comparable}
+use Rattle.rules_types.specs.Kind.{Kind}
+use Rattle.rules_types.specs.Kind as k
+use Rattle.rules_types.specs.Reading.{Reading, a_type, bad_type, too_large, type_at}
+use Rattle.rules_typing.specs.Fits.{is_place}
+use Rattle.rules_values.specs.ByteForms.{is_contract, is_implicit, is_key_hash}
+use Rattle.rules_values.specs.Forms.{is_ticket_amount}
+use Rattle.rules_values.specs.Literals.{Literal, good, bad, read}
+use Rattle.rules_values.specs.Tickets.{Held}
+use Rattle.rules_values.specs.Val.{Val}
+use Rattle.rules_world.specs.Balances.{most_mutez}
+use Rattle.rules_world.specs.Contents.{Action}
+use Rattle.rules_world.specs.Forms.{IsTicket}
+use Rattle.rules_world.specs.Gives.{Offer, as_value, offered, ticket_by, ticket_with}
+use Rattle.rules_world.specs.Good.{FitsIn}
+use Rattle.rules_world.specs.Holdings.{amount_held, debited, held, held_by}
+use Rattle.rules_world.specs.Outcomes.{Setting, Waiting, ordered, Counts}
+use Rattle.rules_world.specs.RunLaws.{IsCall}
+use Rattle.rules_world.specs.Runs.{Call, environment_of}
+use Rattle.rules_world.specs.Targets.{Target}
+use Rattle.rules_world.specs.World.{World, account_or_none}
+use Rattle.laws_accounts.proofs.Holdings.{debited_held}
+use Rattle.laws_accounts.proofs.More.{fits_in_more}
+use Rattle.laws_accounts.proofs.ReadLiterals.{compared_fits}
+use Rattle.laws_runs.proofs.Scripts.{IsMet, met_more}
+use Rattle.laws_runs.proofs.Steps.{orderly_of}
+use Rattle.laws_runs.proofs.Worlds.{IsOrderly, account_holdings}
+use Rattle.laws_runs.specs.Going.{IsSetting, IsGoing}
+use Rattle.laws_types.proofs.SameKinds.{same_kind_true}
+use Rattle.laws_world.proofs.Accounts.{IsReceived, account_changed}
+use Rattle.laws_world.proofs.Calls.{run_called}
+use Rattle.laws_world.proofs.Taken.{taken_on, taken_order}
+use Rattle.mich_standing.proofs.Accounts.{account_held}
+
+-- ---- the ticket
+
+-- one that is offered has its form, and fits its type
+abbrev pub IsOffered : World → Option Held → Type 0
+IsOffered w (Some t) = IsTicket t × FitsIn w (k.ticket t.kind) (as_value t)
+IsOffered w None = Unit {0}
+
+contract_place : (b : List ℕ) → is_contract b ≡ true → is_place b ≡ true
+contract_place b h = by (is_implicit b)
+  where
+    by : (c : Bool) → (c || is_contract b) ≡ true
+    by true = refl
+    by false = h
+
+pub offered_is : (w : World) (o : Offer) → is_contract o.issuer ≡ true → is_ticket_amount o.amount ≡ true → size o.content < 2 ^ 32 → IsOffered w (offered o)
+offered_is w o issuer amount small = by (type_at 0 o.kind)
+  where
+    place : is_place o.issuer ≡ true
+    place = contract_place o.issuer issuer
+
+    by_literal : (a : Kind) → comparable a ≡ true → (l : Literal Val) → read a 0 o.content ≡ l → IsOffered w (ticket_with o a l)
+    by_literal a c (good x ps) e = ((place, amount), (refl, compared_fits w a o.content x ps c e small, amount, place))
+    by_literal a c (bad l) e = tt
+
+    by_kind : (a : Kind) (c : Bool) → comparable a ≡ c → IsOffered w (if c then ticket_with o a (read a 0 o.content) else None)
+    by_kind a true e = by_literal a e (read a 0 o.content) refl
+    by_kind a false e = tt
+
+    by : (r : Reading) → IsOffered w (ticket_by o r)
+    by (a_type a) = by_kind a (comparable a) refl
+    by (bad_type l) = tt
+    by too_large = tt
+
+-- ---- it goes from an account
+
+less_by : (x m : ℤ) → x -ℤ m ≡ x +ℤ (pos 0 -ℤ m)
+less_by x m = omega (arith, ints)
+
+as_much_as : (a b c : ℤ) → b ≡ c → int_lt b a ≡ false → a ≤ℤ c
+as_much_as a b c e h = omega (arith, ints)
+
+debited_is : (w : World) (who : List ℕ) (t : Held) → IsOrderly w → is_key_hash who ≡ true → IsTicket t
+    → int_lt (held_by w (identity_of t) (implicit_place who)) t.amount ≡ false
+    → IsReceived w (debited w who t) (λ id. pos 0 -ℤ amount_of id t)
+debited_is w who t o key i enough =
+    let a = account_or_none w who in
+    account_changed w who (identity_of t) (amount_held a (identity_of t) -ℤ t.amount) (λ id. pos 0 -ℤ amount_of id t) o key i.0
+    (λ id. debited_held a t id (account_holdings w o who)
+    (as_much_as t.amount (held_by w (identity_of t) (implicit_place who)) (amount_held a (identity_of t)) (account_held w who (identity_of t) key) enough)
+    ∙ less_by (amount_held a id) (amount_of id t))
+
+-- ---- and a contract is called with it
+
+zero_small : (n : ℕ) → 0 ≤ n
+zero_small n = omega arith
+
+on_way : (y h m : ℤ) → y ≡ h +ℤ (pos 0 -ℤ m) → y +ℤ (m +ℤ pos 0) ≡ h +ℤ pos 0
+on_way y h m e = omega (arith, ints, e)
+
+module _ (start : World) (s : Setting) (setting : IsSetting s) (contents : ℕ) (few : contents ≤ 1000) (w : World) (waiting : List Waiting) (counts : Counts) (action : Action)
+    (going : IsGoing start s.group contents w (ordered action ∷ waiting) counts) (t : Held) (target : Target) where
+  abbrev y : World
+  y = debited w s.source t
+
+  abbrev x : Val
+  x = as_value t
+
+  abbrev c : Call
+  c = record { target = target; sender = implicit_place s.source; amount = 0; argument = x }
+
+  source_place : is_place (implicit_place s.source) ≡ true
+  source_place = let h = setting.source in rw h refl
+
+  pub handed_call : IsTicket t → FitsIn w (k.ticket t.kind) x → IsMet w target → same_kind target.entry.kind (k.ticket t.kind) ≡ true
+      → int_lt (held_by w (identity_of t) (implicit_place s.source)) t.amount ≡ false → IsCall (environment_of s y c) s y target x counts
+  handed_call i fits m wanted enough =
+      let d = debited_is w s.source t (orderly_of w going.good.sound) setting.source i enough in
+      let on = taken_on start s.group contents w waiting counts (λ id. pos 0) (λ id. amount_in id x) y
+      (taken_order start s.group contents w waiting counts action going) d.orderly d.more d.none d.log d.granted d.mutez
+      (λ id. on_way (held y id) (held w id) (amount_of id t) (d.tickets id)) in
+      run_called start s setting contents few y c waiting counts on (met_more w y target d.more m)
+      (fits_in_more w y d.more target.entry.kind x (subst (λ (a : Kind). FitsIn w a x) (sym (same_kind_true target.entry.kind (k.ticket t.kind) wanted)) fits))
+      source_place (zero_small most_mutez)

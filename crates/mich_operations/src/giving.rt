@@ -1,0 +1,195 @@
+// Gifts that a source orders.
+ghost use Rattle.std.specs.Prelude.{◌≡◌, true, is_some, IfOk, ℤ};
+ghost use Rattle.rules_values.specs.ByteForms.{is_implicit};
+ghost use Rattle.rules_world.specs.Contents.{Give};
+ghost use Rattle.rules_instructions.specs.Same as same;
+ghost use Rattle.rules_types.specs.Kind as kinds;
+ghost use Rattle.rules_world.specs.Gives.{give_effect, offered, with_offered};
+ghost use Rattle.rules_world.specs.Gives as rules;
+ghost use Rattle.rules_world.specs.Groups.{setting_of};
+ghost use Rattle.rules_world.specs.Outcomes.{ordered};
+ghost use Rattle.rules_world.specs.Runs.{run};
+ghost use Rattle.rules_world.specs.Targets.{Target, search};
+ghost use Rattle.rules_world.specs.World.{World as PlainWorld};
+ghost use Rattle.mich_arguments.specs.Arguments.{HasTypedScripts};
+ghost use Rattle.mich_base.specs.TypeView.{kind};
+ghost use Rattle.mich_base.specs.View.{tree};
+ghost use Rattle.mich_bigmap.specs.Extended.{Extends};
+ghost use Rattle.mich_bigmap.specs.Layers.{HasBases};
+ghost use Rattle.mich_bigmap.specs.Standing.{val_in};
+ghost use Rattle.mich_forms.specs.Spelled.{place_bytes};
+ghost use Rattle.mich_forms.specs.declared.places.Place.TheVariants as place;
+ghost use Rattle.mich_gas.specs.View.{listed};
+ghost use Rattle.mich_machine.specs.Calls.{counts_of, IsHosting};
+ghost use Rattle.mich_term.specs.Layers.{AreFormed};
+ghost use Rattle.mich_world.specs.Holders.{contract_at};
+ghost use Rattle.mich_world.specs.Marks.{KeepsWorld};
+ghost use Rattle.mich_world.specs.Standing.{StandsFor};
+ghost use Rattle.mich_operations.specs.Calls.{call_of, IsReady};
+ghost use Rattle.mich_operations.specs.Gifts.{IsHandedOver, IsWanted, gift, tickets_of};
+ghost use Rattle.mich_operations.specs.Going.{Begins, EndsAs, KeepsContracts, WithMemory};
+
+use crate::applied::{Applied, ApplyError};
+use crate::gifts::{gave, give_account, take};
+use crate::offering::spelled_id;
+use crate::running::surroundings;
+use mich_base::{Link, Node, Ty};
+use mich_forms::{Entrypoint, KeyHash, Place};
+use mich_gas::{Costs, Meter};
+use mich_machine::{Bodies, Counts, Finished, RunError, run};
+use mich_ops::Failure;
+use mich_overload::same_kind;
+use mich_term::{TicketId, Value};
+use mich_types::entrypoint;
+use mich_world::World;
+use std::alloc::Global;
+
+// Whether a type is that of tickets with contents of a type.
+fn is_ticket_of(ty: &Ty, content: &Ty) -> bool
+    ensures { result ≡ same.same_kind (kind ty.now) (kinds.ticket (kind content.now)) }
+{
+    match ty {
+        Ty::Ticket(of) => same_kind(of.get(), content),
+        _ => false,
+    }
+}
+
+// Whether an entrypoint of a contract takes tickets with contents of a type.
+pub(crate) fn wants(
+    world: &World,
+    to: &[u8; 20],
+    name: &Entrypoint,
+    ty: &Ty,
+) -> Result<(), ApplyError>
+    requires { HasTypedScripts world.now }
+    ensures { (w : PlainWorld) → StandsFor world.now w → IsWanted (search w to.now name.now) (kind ty.now) result }
+{
+    let Some(contract) = world.contract(to) else {
+        return Err(ApplyError::Failed(Failure::NoContract));
+    };
+    let Some(entry) = entrypoint(&contract.script.get().parameter, name) else {
+        return Err(ApplyError::Failed(Failure::NoEntrypoint));
+    };
+    if !is_ticket_of(&entry.ty, ty) {
+        return Err(ApplyError::Failed(Failure::BadParameter(0)));
+    }
+    Ok(())
+}
+
+// A contract runs with the ticket that a source gave it.
+fn run_gift(
+    alloc: Global,
+    world: &mut World,
+    costs: &Costs,
+    source: &KeyHash,
+    meter: &mut Meter,
+    counts: &mut Counts,
+    bodies: &mut Bodies,
+    id: &TicketId,
+    amount: i128,
+    to: &[u8; 20],
+    name: &Entrypoint,
+    argument: Value,
+) -> Result<Applied, ApplyError>
+    requires ready { (w : PlainWorld) × (t : Target) × IsReady world.old w (setting_of (listed costs.now) counts.old.group source.now) (counts_of counts.old) (place.Implicit source.now) to.now name.now 0 argument t }
+    requires hosting { IsHosting world.old }
+    requires there { is_some (contract_at world.old.funds.present to.now) ≡ true }
+    requires formed { AreFormed argument }
+    requires based { HasBases world.old.store.bases.present argument }
+    ensures ends { (w : PlainWorld) (t : Target) → IsReady world.old w (setting_of (listed costs.entry.now) counts.old.group source.entry.now) (counts_of counts.old) (place.Implicit source.entry.now) to.entry.now name.entry.now 0 argument t → EndsAs (run (setting_of (listed costs.entry.now) counts.old.group source.entry.now) w (call_of (place.Implicit source.entry.now) 0 t (val_in world.old.store.bases.present argument)) meter.old (counts_of counts.old) (give_effect (setting_of (listed costs.entry.now) counts.old.group source.entry.now) (gift (tickets_of id.entry.now amount) (place.Contract to.entry.now) name.entry.now))) world.new meter.new counts.old counts.new result }
+    ensures hosting { IfOk result (λ _. IsHosting world.new) }
+    ensures bases { IfOk result (λ _. Extends world.old.store.bases.present world.new.store.bases.present) }
+    ensures contracts { IfOk result (λ _. KeepsContracts world.old world.new) }
+    ensures keeps { WithMemory result (KeepsWorld world.old world.new) }
+{
+    let from = Place::Implicit(*source);
+    let env = surroundings(world, source, &from, *to, 0);
+    match run(
+        alloc, world, costs, meter, counts, bodies, to, name, argument, &env,
+    ) {
+        Ok(done) => {
+            let Finished { returned, changes } = done;
+            let effect = gave(
+                alloc,
+                source,
+                Place::Contract(*to),
+                name,
+                id,
+                amount,
+                changes,
+            )?;
+            Ok(Applied {
+                effect,
+                by: *to,
+                emitted: returned,
+            })
+        }
+        Err(RunError::Failed(why)) => Err(ApplyError::Failed(why)),
+        Err(RunError::Memory) => Err(ApplyError::Memory),
+    }
+}
+
+// Tickets go from a source to a contract, which is called with them.
+fn give_contract(
+    alloc: Global,
+    world: &mut World,
+    costs: &Costs,
+    source: &KeyHash,
+    meter: &mut Meter,
+    counts: &mut Counts,
+    bodies: &mut Bodies,
+    id: &TicketId,
+    amount: i128,
+    to: &[u8; 20],
+    name: &Entrypoint,
+) -> Result<Applied, ApplyError>
+    requires due { (w : PlainWorld) × IsHandedOver world.old w (setting_of (listed costs.now) counts.old.group source.now) (counts_of counts.old) (tickets_of id.now amount) to.now name.now }
+    requires hosting { IsHosting world.old }
+    ensures ends { (w : PlainWorld) → IsHandedOver world.old w (setting_of (listed costs.entry.now) counts.old.group source.entry.now) (counts_of counts.old) (tickets_of id.entry.now amount) to.entry.now name.entry.now → EndsAs (rules.give_contract (setting_of (listed costs.entry.now) counts.old.group source.entry.now) w (gift (tickets_of id.entry.now amount) (place.Contract to.entry.now) name.entry.now) meter.old (counts_of counts.old)) world.new meter.new counts.old counts.new result }
+    ensures hosting { IfOk result (λ _. IsHosting world.new) }
+    ensures bases { IfOk result (λ _. Extends world.old.store.bases.present world.new.store.bases.present) }
+    ensures contracts { IfOk result (λ _. KeepsContracts world.old world.new) }
+    ensures keeps { WithMemory result (KeepsWorld world.old world.new) }
+{
+    wants(world, to, name, &id.ty)?;
+    let ticket = take(alloc, world, source, id, amount)?;
+    let argument = Value::Ticket(Link::new(alloc, ticket)?);
+    run_gift(
+        alloc, world, costs, source, meter, counts, bodies, id, amount, to, name, argument,
+    )
+}
+
+// Gives a place so many tickets of an issuer that the source holds, whose type and content nodes spell.
+pub(crate) fn give(
+    alloc: Global,
+    world: &mut World,
+    costs: &Costs,
+    source: &KeyHash,
+    meter: &mut Meter,
+    counts: &mut Counts,
+    bodies: &mut Bodies,
+    issuer: &Place,
+    ty: &Node,
+    literal: &Node,
+    amount: i128,
+    to: &Place,
+    entry: &Entrypoint,
+) -> Result<Applied, ApplyError>
+    requires next { (w : PlainWorld) × Begins world.old w (setting_of (listed costs.now) counts.old.group source.now) (ordered (Give (place_bytes issuer.now) (tree ty.now) (tree literal.now) amount (place_bytes to.now) entry.now)) (counts_of counts.old) }
+    requires hosting { IsHosting world.old }
+    ensures ends { (w : PlainWorld) → Begins world.old w (setting_of (listed costs.entry.now) counts.old.group source.entry.now) (ordered (Give (place_bytes issuer.entry.now) (tree ty.entry.now) (tree literal.entry.now) amount (place_bytes to.entry.now) entry.entry.now)) (counts_of counts.old) → EndsAs (with_offered (offered (record { issuer = place_bytes issuer.entry.now; kind = tree ty.entry.now; content = tree literal.entry.now; amount = amount })) (setting_of (listed costs.entry.now) counts.old.group source.entry.now) w (place_bytes to.entry.now) entry.entry.now meter.old (counts_of counts.old)) world.new meter.new counts.old counts.new result }
+    ensures hosting { IfOk result (λ _. IsHosting world.new) }
+    ensures bases { IfOk result (λ _. Extends world.old.store.bases.present world.new.store.bases.present) }
+    ensures contracts { IfOk result (λ _. KeepsContracts world.old world.new) }
+    ensures keeps { WithMemory result (KeepsWorld world.old world.new) }
+{
+    let Some(id) = spelled_id(alloc, issuer, ty, literal)? else {
+        return Err(ApplyError::Failed(Failure::BadParameter(0)));
+    };
+    match to {
+        Place::Implicit(who) => give_account(alloc, world, source, &id, amount, who, entry),
+        Place::Contract(hash) => give_contract(
+            alloc, world, costs, source, meter, counts, bodies, &id, amount, hash, entry,
+        ),
+    }
+}

@@ -1,0 +1,49 @@
+-- Workloads that are replayed, and their groups counted.
+use Rattle.std.specs.Prelude.{◌≡◌, ◌<◌, ℕ, List, [], ◌∷◌, length, Bool, true, false, Result, Ok, Err}
+use Rattle.std.specs.declared.option.Option.{Option}
+use Rattle.std.specs.Io.KnownBytes.{Appends}
+use Rattle.rules_io.specs.Known.{AppendsFront}
+use Rattle.rules_replay.specs.Lines.{text_of}
+use Rattle.rules_replay.specs.Places.{IsEndAt}
+use Rattle.rules_summary.specs.Summary.{was_applied, has_failed, count_of, calls_in}
+use Rattle.rules_world.specs.Receipts.{Receipt}
+use Rattle.mich_course.specs.declared.course.Course.{Course}
+use Rattle.mich_ops.specs.Told.{ToldReceipt}
+use Rattle.mich_ops.specs.Told as told
+use Rattle.mich_reader.specs.Held.{Held}
+use Rattle.mich_replay.specs.Coming.{Came}
+use Rattle.mich_replay.specs.declared.generating.Counts.{Counts}
+use Rattle.mich_replay.specs.declared.generating.Counting.{Counting}
+use Rattle.mich_replay.specs.declared.generating.Counting.TheVariants as counting
+use Rattle.mich_replay.specs.declared.stop.Stop.{Stop}
+
+-- what is told of a group whose one content was applied, or failed
+abbrev pub told_applied : ToldReceipt → Bool
+told_applied (told.Done (told.Applied gas effects ∷ [])) = true
+told_applied r = false
+
+abbrev pub told_failed : ToldReceipt → Bool
+told_failed (told.Done (told.Failed count failure ∷ [])) = true
+told_failed r = false
+
+-- of these groups so many were applied and so many failed, the first aside
+pub record AreCounts (receipts : List Receipt) (counts : Counts) : Type 0 where
+  pub groups : counts.groups ≡ length receipts
+  pub applied : counts.applied ≡ count_of was_applied (calls_in receipts)
+  pub failed : counts.failed ≡ count_of has_failed (calls_in receipts)
+
+-- the groups of the bytes so far are counted
+pub record IsCounted (fed : List ℕ) (r : Held) (c : Option Course) (counts : Counts) : Type 0 where
+  pub receipts : List Receipt
+  pub came : Came fed true r c receipts
+  pub counted : AreCounts receipts counts
+
+-- how the counting goes on behind a place, or ends
+abbrev pub Counted : List ℕ → ℕ → Held → Option Course → Counting → Type 0
+Counted fed place r c (counting.On counts) = IsCounted fed r c counts × (place < r.place)
+Counted fed place r c (counting.Ended counts) = IsCounted fed r c counts × IsEndAt fed r.place
+
+-- the line was written, with status 0; or a front of it was
+abbrev pub Summed : Option (List ℕ) → Option (List ℕ) → List ℕ → Result ℕ Stop → Type 0
+Summed before now line (Ok status) = (status ≡ 0) × Appends before now (text_of (line ∷ []))
+Summed before now line (Err e) = AppendsFront before now (text_of (line ∷ []))

@@ -1,0 +1,102 @@
+-- A literal whose bodies are tried.
+use Rattle.std.proofs.Common.{◌≡◌, ℕ, Bool, true, false, List, [], ◌∷◌, Option, Some, None, refl, ap, ◌∙◌}
+use Rattle.std.specs.Prelude.{◌&&◌, if◌then◌else◌, is_none}
+use Rattle.std.specs.List.{list_all}
+use Rattle.rules_base.specs.Tree.{Tree}
+use Rattle.rules_types.specs.Kind.{Kind}
+use Rattle.rules_types.specs.Attributes.{pushable}
+use Rattle.rules_values.specs.Val.{Val}
+use Rattle.rules_values.specs.Literals.{Pending, body, claim, Literal, good, bad, read, bodies, claims}
+use Rattle.rules_instructions.specs.Arguments.{found, fault}
+use Rattle.rules_instructions.specs.Context as place
+use Rattle.rules_instructions.specs.Control.{call_kinds}
+use Rattle.rules_instructions.specs.Same.{same_kinds}
+use Rattle.rules_typing.specs.Typing.{Typing, goes, fails, shift}
+use Rattle.rules_typing.specs.Typing as typing
+use Rattle.rules_typing.specs.Bodies.{body_fault, first_fault}
+use Rattle.rules_typing.specs.Fits.{Known}
+use Rattle.rules_typing.specs.Literals.{Checked, fault_of_bodies, checked, of_reading}
+use Rattle.rules_typing.specs.Nodes.{tree_type}
+use Rattle.rules_steps.specs.Packing.{Trial, tried}
+use Rattle.laws_typing.specs.Laws.{AllClaimed}
+use Rattle.laws_literals.proofs.Claims.{pushed_claims}
+use Rattle.mich_unpack.specs.Unpacked.{TriesBodies}
+
+-- ---- the bodies
+
+one_fault : (b : Bool) (m l : ℕ) → is_none (if b then None else Some m) ≡ is_none (if b then None else Some l)
+one_fault true m l = refl
+one_fault false m l = refl
+
+-- whether a body has a fault doesn't depend on where it stands
+fault_anywhere : (l : ℕ) (t : Typing) (r : Kind) → is_none (body_fault 0 t r) ≡ is_none (body_fault l (shift l t) r)
+fault_anywhere l (goes B) r = one_fault (same_kinds B (r ∷ [])) 0 l
+fault_anywhere l fails r = refl
+fault_anywhere l (typing.bad m) r = refl
+
+first_none : (o p : Option ℕ) → (is_none o && is_none p) ≡ is_none (first_fault o p)
+first_none None p = refl
+first_none (Some l) p = refl
+
+module _ (passes : Trial) (tries : TriesBodies passes) where
+  bodies_pass : (ps : List Pending) → list_all passes (bodies ps) ≡ is_none (fault_of_bodies ps)
+  bodies_pass [] = refl
+  bodies_pass (body l a r recursive t ∷ ps) =
+      let o : Option ℕ = body_fault l (shift l (tree_type t place.lambda (call_kinds a r recursive))) r in
+      ap (λ b. b && list_all passes (bodies ps)) (tries l a r recursive t ∙ fault_anywhere l (tree_type t place.lambda (call_kinds a r recursive)) r)
+      ∙ ap (λ b. is_none o && b) (bodies_pass ps)
+      ∙ first_none o (fault_of_bodies ps)
+  bodies_pass (claim l b a ∷ ps) = bodies_pass ps
+
+  -- ---- no claims
+
+  abbrev nothing : Known
+  nothing = record { is_contract = λ b a. ⊥; is_issued = λ n. ⊥ }
+
+  no_claims : (ps : List Pending) → AllClaimed nothing ps → list_all passes (claims ps) ≡ true
+  no_claims [] h = refl
+  no_claims (body l a r recursive t ∷ ps) h = no_claims ps h
+  no_claims (claim l b a ∷ ps) h = absurd h.0
+
+  -- ---- the whole
+
+  both : (b c : Bool) → c ≡ true → (b && c) ≡ b
+  both true c h = h
+  both false c h = refl
+
+  -- a value, unless there is a fault
+  abbrev unless : Option ℕ → Val → Option Val
+  unless None x = Some x
+  unless (Some l) x = None
+
+  by_fault : (x : Val) (o : Option ℕ) → (if is_none o then Some x else None) ≡ unless o x
+  by_fault x None = refl
+  by_fault x (Some l) = refl
+
+  good_tried : (x : Val) (ps : List Pending) → AllClaimed nothing ps → tried passes (good x ps) ≡ unless (fault_of_bodies ps) x
+  good_tried x ps h =
+      ap (λ b. if b then Some x else None) (both (list_all passes (bodies ps)) (list_all passes (claims ps)) (no_claims ps h) ∙ bodies_pass ps)
+      ∙ by_fault x (fault_of_bodies ps)
+
+  checked_value : (x : Val) (ps : List Pending) (o : Option ℕ) (c : Checked) → checked x ps o ≡ found c → unless o x ≡ Some c.value
+  checked_value x ps None c e = let same : record { value = x; claims = claims ps } ≡ c = cc in ap (λ (d : Checked). Some d.value) same
+  checked_value x ps (Some l) c e = absurd cc
+
+  checked_none : (x : Val) (ps : List Pending) (o : Option ℕ) (l : ℕ) → checked x ps o ≡ fault l → unless o x ≡ None
+  checked_none x ps None l e = absurd cc
+  checked_none x ps (Some m) l e = refl
+
+  module _ (a : Kind) (pushes : pushable a ≡ true) (t : Tree) where
+    pub value_tried : (c : Checked) → of_reading (read a 0 t) ≡ found c → tried passes (read a 0 t) ≡ Some c.value
+    value_tried c e = by (read a 0 t) refl e
+      where
+        by : (x : Literal Val) → read a 0 t ≡ x → of_reading x ≡ found c → tried passes x ≡ Some c.value
+        by (good x ps) r f = good_tried x ps (pushed_claims nothing a 0 t x ps pushes r) ∙ checked_value x ps (fault_of_bodies ps) c f
+        by (bad l) r f = absurd cc
+
+    pub none_tried : (l : ℕ) → of_reading (read a 0 t) ≡ fault l → tried passes (read a 0 t) ≡ None
+    none_tried l e = by (read a 0 t) refl e
+      where
+        by : (x : Literal Val) → read a 0 t ≡ x → of_reading x ≡ fault l → tried passes x ≡ None
+        by (good x ps) r f = good_tried x ps (pushed_claims nothing a 0 t x ps pushes r) ∙ checked_none x ps (fault_of_bodies ps) l f
+        by (bad m) r f = refl

@@ -1,0 +1,9 @@
+//! UNPACK: bytes as values, whose lambdas have typed bodies (Michelson reference, "UNPACK").
+#![tactic(auto)]
+
+mod unpacking;
+
+pub use unpacking::unpack_value;
+
+#[cfg(test)]
+mod tests;
