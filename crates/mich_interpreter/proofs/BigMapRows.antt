@@ -1,5 +1,5 @@
 -- What instructions on big maps find on a stack that fits its types, and a run behind them.
-use Rattle.std.proofs.Common.{◌≡◌, ◌≤◌, ◌-◌, ◌&&◌, ℕ, Bool, true, false, List, [], ◌∷◌, map, Option, Some, None, refl, sym, ap, ◌∙◌, subst}
+use Rattle.std.proofs.Common.{◌≡◌, ◌≤◌, ◌-◌, ◌&&◌, ℕ, Bool, true, false, List, [], ◌∷◌, map, Option, Some, refl, sym, ap, ◌∙◌, subst}
 use Rattle.std.specs.List.{flat_map}
 use Rattle.std.proofs.lemmas.Bool.{and_parts}
 use Rattle.std.proofs.lemmas.List.{append-nil}
@@ -13,8 +13,8 @@ use Rattle.rules_instructions.specs.Change.{Change, where_true}
 use Rattle.rules_instructions.specs.DataChanges.{collection_change}
 use Rattle.rules_instructions.specs.Straight.{CollectionRow, on_collections}
 use Rattle.rules_instructions.specs.Straight as i
-use Rattle.rules_values.specs.Val.{Val, Pairs, nothing, some, big_table}
-use Rattle.rules_values.specs.Tickets.{Held, tickets}
+use Rattle.rules_values.specs.Val.{Val, nothing, some, big_table}
+use Rattle.rules_values.specs.Tickets.{tickets}
 use Rattle.rules_typing.specs.Fits.{Known, Fits, AllFit}
 use Rattle.rules_steps.specs.Changes.{burns}
 use Rattle.rules_steps.specs.Collections.{collection_step}
@@ -22,12 +22,11 @@ use Rattle.rules_steps.specs.Costs.{collection_kind, collection_weight}
 use Rattle.rules_steps.specs.Step.{done}
 use Rattle.rules_evaluation.specs.Outcome.{Outcome, finish, with_changes}
 use Rattle.laws_evaluation.specs.Laws.{known}
-use Rattle.laws_sights.specs.Sights.{is_plain}
 use Rattle.laws_stacks.specs.Sound.{AllTypes}
 use Rattle.laws_stacks.proofs.Identities.{comparable_value}
 use Rattle.laws_typed.proofs.TypedRules.{Taken}
 use Rattle.laws_types.proofs.SameKinds.{same_kind_true}
-use Rattle.mich_entries.specs.Operands.{AreEntries, IsPlainOption, IsBigMapOnTop, HasBigMap, HasKey}
+use Rattle.mich_entries.specs.Operands.{IsPlainOption, IsBigMapOnTop, HasBigMap, HasKey}
 use Rattle.mich_frames.specs.Around.{less}
 use Rattle.mich_frames.specs.Frames.{Frame}
 use Rattle.mich_frames.specs.Stands.{StandsAt}
@@ -38,7 +37,7 @@ use Rattle.mich_gas.specs.View.{listed}
 use Rattle.mich_instr.specs.Code as made
 use Rattle.mich_stack.specs.Ends.{gone}
 use Rattle.mich_stack.specs.Keys.{IsKeyOnTop}
-use Rattle.mich_stack.specs.Views.{Sight, seen, values, plain}
+use Rattle.mich_stack.specs.Views.{seen, plain}
 use Rattle.mich_stack.proofs.Burnt.{given_gone}
 use Rattle.mich_step.specs.Shown.{shown}
 use Rattle.mich_step.proofs.Suiting.{suits_same}

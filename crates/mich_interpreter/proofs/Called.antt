@@ -1,5 +1,5 @@
 -- Callers of views: one more, and one less.
-use Rattle.std.proofs.Common.{◌≡◌, ◌<◌, ◌≤◌, ◌+◌, ℕ, Bool, true, false, cond, List, [], ◌∷◌, ◌++◌, map, take, drop, Some, None, refl, sym, ap, ◌∙◌, subst}
+use Rattle.std.proofs.Common.{◌≡◌, ◌<◌, ◌≤◌, ◌+◌, Bool, true, false, cond, List, [], ◌∷◌, ◌++◌, map, take, drop, Some, None, refl, sym, ap, ◌∙◌, subst}
 use Rattle.std.specs.Prelude.{ℤ, pos, ◌+ℤ◌, ◌-ℤ◌, option_map}
 use Rattle.std.specs.declared.option.Option.{Option}
 use Rattle.std.specs.Map.{lookup}
@@ -15,8 +15,8 @@ use Rattle.laws_evaluation.specs.Laws.{amount_issued}
 use Rattle.mich_frames.specs.Around.{Around}
 use Rattle.mich_frames.specs.Frames as fr
 use Rattle.mich_frames.specs.Shapes.{HasTop}
-use Rattle.mich_frames.specs.Stands.{OpensAt, StandsAt}
-use Rattle.mich_frames.proofs.Ends.{all_done, enters, too_deep, view_ends, view_top}
+use Rattle.mich_frames.specs.Stands.{StandsAt}
+use Rattle.mich_frames.proofs.Ends.{enters, too_deep, view_ends, view_top}
 use Rattle.mich_gas.specs.declared.costs.Costs.{Costs}
 use Rattle.mich_gas.specs.View.{listed}
 use Rattle.mich_instr.specs.View.{codes}
@@ -25,7 +25,6 @@ use Rattle.mich_step.specs.Views.{environment}
 use Rattle.mich_term.specs.declared.ticket.TicketId.{TicketId}
 use Rattle.mich_term.specs.declared.value.Value.{Value}
 use Rattle.mich_tickets.specs.Books.{Books, fresh, State as Ledger}
-use Rattle.mich_tickets.specs.Effects.{Tells}
 use Rattle.mich_tickets.specs.Lines.{is_of}
 use Rattle.mich_tickets.specs.Sums.{burnt_of, minted_of, totals_on}
 use Rattle.mich_tickets.specs.Viewed.{viewed_books, viewed_entry, viewed_line}

@@ -1,7 +1,7 @@
 -- Calls of lambdas, whatever their bodies are.
 use Rattle.std.proofs.Common.{◌≡◌, ◌<◌, ◌^◌, ℕ, Bool, true, false, List, [], ◌∷◌, Option, Some, None, refl, subst}
 use Rattle.std.specs.Prelude.{is_none}
-use Rattle.rules_base.specs.Tree.{Tree, int, str, bytes, prim, seq, Trees, size}
+use Rattle.rules_base.specs.Tree.{Tree, str, bytes, prim, seq, Trees, size}
 use Rattle.rules_gas.specs.declared.Kind.TheVariants as g
 use Rattle.rules_types.specs.Kind.{Kind}
 use Rattle.rules_instructions.specs.Context as place

@@ -33,7 +33,6 @@ pub mod Hashed
 pub mod Unpacks
 pub mod Plain
 pub mod BigMapRows
-pub mod Dropped
 pub mod Executed
 pub mod Captured
 pub mod Founded

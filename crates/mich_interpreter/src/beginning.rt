@@ -17,8 +17,8 @@ use mich_world::World;
 use std::alloc::Global;
 
 /// Runs typed code from a state, in a world that it sees: it ends as the evaluation of the nodes that the code is of says, with the same values, gas and
-/// counts or with the same failure. It has no answer for a stack of the wrong type. Memory where there is no room for it, and,
-/// so far, at instructions that aren't built (Michelson reference, "Semantics").
+/// counts or with the same failure. It has no answer for a stack of the wrong type. Memory where there is no room for it (Michelson
+/// reference, "Semantics").
 pub fn run_code(
     alloc: Global,
     code: Block,

@@ -2,51 +2,22 @@
 ghost use Rattle.std.specs.Prelude.{◌≡◌, true, IfOk};
 ghost use Rattle.rules_base.specs.Tree.{Tree};
 ghost use Rattle.rules_instructions.specs.Straight.{on_collections};
-ghost use Rattle.rules_steps.specs.Changes.{burns};
-ghost use Rattle.rules_values.specs.Tickets.{tickets};
 ghost use Rattle.mich_instr.specs.Code as made;
 ghost use Rattle.mich_overload.specs.Steps.{is_on_big_map};
 ghost use Rattle.mich_overload.specs.View.{collection_row};
-ghost use Rattle.mich_term.specs.ValueView.{val};
-ghost use Rattle.mich_tickets.specs.Effects.{Tells};
-ghost use Rattle.mich_tickets.specs.Limits.{IsReady};
-ghost use Rattle.mich_undo.specs.History.{Keeps as KeepsBooks};
 ghost use Rattle.mich_interpreter.specs.Ends.{ComesIn, CarriesIn, Spends, KeepsAct};
 
 use crate::act::{Act, Failed};
+use crate::burning::burn_value;
 use crate::paying::pay_capped;
 use crate::state::State;
-use mich_base::{Memory, Rows};
+use mich_base::Memory;
 use mich_entries::{big_map_step, big_map_weight};
 use mich_gas::Costs;
-use mich_overload::{CollectionRow, Simple, StackRow};
+use mich_overload::CollectionRow;
 use mich_prices::collection_price;
-use mich_step::{Env, step};
-use mich_term::Value;
-use mich_tickets::Ledger;
 use mich_world::World;
 use std::alloc::Global;
-
-// Burns the tickets of a value, as DROP does, which doesn't fail.
-#[tactic(auto, using(mich_undo::proofs::Histories::keeps_same))]
-fn burn(alloc: Global, gone: Value, ledger: &mut Ledger, env: &Env) -> Result<(), Memory>
-    requires { IsReady ledger.old.books.present (tickets (val gone)) }
-    ensures tells { IfOk result (λ _. Tells (burns (tickets (val gone))) ledger.old ledger.new) }
-    ensures keeps { KeepsBooks ledger.old.books ledger.new.books }
-{
-    let mut stack = Rows::new(alloc);
-    stack.push(gone)?;
-    match step(
-        alloc,
-        &Simple::Stack(StackRow::Drop(1)),
-        &mut stack,
-        ledger,
-        env,
-    ) {
-        Ok(()) => Ok(()),
-        Err(_) => Err(Memory),
-    }
-}
 
 // They are seen in the store of the world in which the run began.
 pub(crate) fn act_big_map(
@@ -68,6 +39,6 @@ pub(crate) fn act_big_map(
         return Ok(Act::Failed(Failed::OutOfGas));
     }
     let gone = big_map_step(alloc, row, &mut m.stack, store)?;
-    burn(alloc, gone, &mut m.ledger, &m.env)?;
+    burn_value(alloc, &mut m.ledger, gone)?;
     Ok(Act::On)
 }

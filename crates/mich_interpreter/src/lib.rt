@@ -35,7 +35,6 @@ mod visits;
 pub use act::Failed;
 pub use beginning::run_code;
 pub use bodies::Bodies;
-pub use burning::burn_all;
 pub use contracts::new_contract;
 pub use machine::Ended;
 pub use state::{Counts, State};

@@ -13,7 +13,7 @@ ghost use Rattle.mich_machine.specs.Returned.{handed};
 use crate::returning::Numbered;
 use mich_base::{Memory, Rows};
 use mich_instr::Issued;
-use mich_interpreter::burn_all;
+use mich_step::burn_all;
 use mich_term::{Ticket, discard};
 use mich_tickets::{Collector, Ledger};
 use std::alloc::Global;

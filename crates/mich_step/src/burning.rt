@@ -26,9 +26,10 @@ use mich_term::{Ticket, Value};
 use mich_tickets::{Collector, Ledger};
 use std::alloc::Global;
 
-// Burns tickets, the first before those behind it.
+/// Burns tickets, the first before those behind it. After Memory the ledger is given up, and what was written to it can be taken back
+/// (Octez "Tickets").
 #[tactic(auto, using(mich_undo::proofs::Histories::keeps_same, mich_undo::proofs::Histories::keeps_trans, crate::proofs::Ledgers::tells_same))]
-fn burn_all(alloc: Global, ledger: &mut Ledger, tickets: Rows<Ticket>) -> Result<(), Memory>
+pub fn burn_all(alloc: Global, ledger: &mut Ledger, tickets: Rows<Ticket>) -> Result<(), Memory>
     requires { IsReady ledger.old.books.present (map held tickets) }
     ensures tells { IfOk result (λ _. Tells (burns (map held tickets)) ledger.old ledger.new) }
     ensures keeps { KeepsBooks ledger.old.books ledger.new.books }

@@ -12,6 +12,7 @@ mod pairs;
 mod tickets;
 mod unions;
 
+pub use burning::burn_all;
 pub use dispatching::step;
 pub use environment::{Env, environment_step};
 pub use logic::logic_step;

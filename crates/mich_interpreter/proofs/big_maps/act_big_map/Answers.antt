@@ -63,8 +63,8 @@ returns-then-not-pay_capped-clause-acts c = λ app x fs d Z o h sees.
 pub returns-then-not-pay_capped-clause-keeps : goal.returns-then-not-pay_capped-clause-keeps
 returns-then-not-pay_capped-clause-keeps c = past_of _ _ (same_keeps _ _ refl refl refl)
 
-pub burn-requires : goal.burn-requires
-burn-requires c =
+pub burn_value-requires : goal.burn_value-requires
+burn_value-requires c =
     let t = c.requires.comes in
     let r = collection_row c.args.row.now in
     let e = store_sight c.args.world.now t.1.0 c.store-store.result.now t.1.6 c.store-store.ensures in
@@ -79,13 +79,13 @@ returns-clause-acts c = λ app x fs d Z o h sees.
     let p = paid_is _ _ _ _ _ _ _ c.if-not-pay_capped.false c.collection_price.ensures (c.pay_capped.ensures (rows.heavy x c.args.costs.now c.args.m.now r h) weighs h.runs.charged) in
     rows.big_map_stands x c.args.costs.now c.args.m.now r h c.big_map_step.new.stack c.in_ok-gone.gone
     (subst (λ (s : Sight). collection_step r (values s c.args.m.now.stack) ≡ done (values s c.big_map_step.new.stack) (burns (tickets (seen s c.in_ok-gone.gone)))) (sym e) c.in_ok-gone.ensures)
-    p.0 c.pay_capped.new.meter c.burn.new.ledger c.in_ok-burn.ensures.tells p.1
+    p.0 c.pay_capped.new.meter c.burn_value.new.ledger c.in_ok-burn_value.ensures.tells p.1
 
 pub returns-clause-keeps : goal.returns-clause-keeps
 returns-clause-keeps c = record {
-  books = c.burn.ensures.keeps;
+  books = c.burn_value.ensures.keeps;
   changes = _;
-  tells = c.in_ok-burn.ensures.tells;
+  tells = c.in_ok-burn_value.ensures.tells;
   group = refl;
   scripts = λ h. h;
 }
