@@ -383,17 +383,45 @@ fn a_contract_that_is_made_is_undone(rt: HostRuntime) -> Result<(), Fail> {
     Ok(())
 }
 
-// 2,000 accounts with 1 mutez each.
+// A contract that stores a number stores another, where nobody holds a ticket.
+fn replace(alloc: Global, world: &mut World, hash: &[u8; 20], number: i128) -> Result<(), Memory>
+    requires none { (j : Identity) (o : List ℕ) → held_of world.old.ledger.books.present j o ≡ pos 0 }
+    ensures { KeepsWorld world.old world.new }
+{
+    let Some(contract) = world.contract(hash) else {
+        return Err(Memory);
+    };
+    let Value::Number(_) = contract.storage else {
+        return Err(Memory);
+    };
+    world.commit(alloc, hash, Value::Number(number))
+}
+
+#[test]
+fn a_storage_is_replaced(rt: HostRuntime) -> Result<(), Fail> {
+    let alloc = rt.alloc();
+    let mut world = with_contract(alloc)?;
+    let before = tell(&world);
+    let mark = world.mark();
+    replace(alloc, &mut world, &HASH, 5)?;
+    assert!(rt; stored(&world) == 5);
+    assert!(rt; world.balance(Place::Contract(HASH)) == Some(60) && world.supply() == 105);
+    world.undo_to(mark);
+    assert!(rt; tell(&world) == before);
+    Ok(())
+}
+
+// 50,000 accounts with 1 mutez each.
 fn many_accounts(alloc: Global) -> Result<World, GrantError> {
     let mut world = World::new(alloc, ChainId { body: [0; 4] }, 0, 0);
-    for number in 0..2_000 {
+    for number in 0..50_000 {
         world.grant(key_hash(number), 1)?;
     }
     Ok(world)
 }
 
 fn rounds(world: &mut World) -> Result<(), MoveError> {
-    for _ in 0..20_000 {
+    for _ in 0..1_000_000 {
         let mark = world.mark();
         world.take_fee(key_hash(0), 1)?;
         world.undo_to(mark);
@@ -406,7 +434,7 @@ fn rounds(world: &mut World) -> Result<(), MoveError> {
 fn many_marks_are_undone(rt: HostRuntime) -> Result<(), Fail> {
     let mut world = many_accounts(rt.alloc())?;
     rounds(&mut world)?;
-    assert!(rt; world.fees() == 0 && world.supply() == 2_000);
-    assert!(rt; world.balance(account(0)) == Some(1) && world.balance(account(1_999)) == Some(1));
+    assert!(rt; world.fees() == 0 && world.supply() == 50_000);
+    assert!(rt; world.balance(account(0)) == Some(1) && world.balance(account(49_999)) == Some(1));
     Ok(())
 }
