@@ -420,6 +420,15 @@ fn many_accounts(alloc: Global) -> Result<World, GrantError> {
     Ok(world)
 }
 
+fn each_has_one(world: &World) -> bool {
+    for number in 0..50_000 {
+        if world.balance(account(number)) != Some(1) {
+            return false;
+        }
+    }
+    true
+}
+
 fn rounds(world: &mut World) -> Result<(), MoveError> {
     for _ in 0..1_000_000 {
         let mark = world.mark();
@@ -435,6 +444,6 @@ fn many_marks_are_undone(rt: HostRuntime) -> Result<(), Fail> {
     let mut world = many_accounts(rt.alloc())?;
     rounds(&mut world)?;
     assert!(rt; world.fees() == 0 && world.supply() == 50_000);
-    assert!(rt; world.balance(account(0)) == Some(1) && world.balance(account(49_999)) == Some(1));
+    assert!(rt; each_has_one(&world));
     Ok(())
 }
