@@ -10,7 +10,7 @@ use Rattle.rules_values.specs.ByteForms.{is_chain_id, is_key_hash}
 use Rattle.rules_world.specs.Balances.{Grant, Granted, Repeated, TooMuch, granted_to}
 use Rattle.rules_world.specs.Contents.{Content}
 use Rattle.rules_world.specs.Forms.{is_moment}
-use Rattle.rules_world.specs.Groups.{group}
+use Rattle.rules_world.specs.Groups.{Settled, group}
 use Rattle.rules_world.specs.Laws.{IsGroup}
 use Rattle.rules_world.specs.World.{World as PlainWorld, new_world}
 use Rattle.rules_course.specs.Course.{Course as PlainCourse, started, is_later, block_step, with_prices, costs_step, granting, group_step}
@@ -19,6 +19,7 @@ use Rattle.rules_statements.specs.Statements.{Group}
 use Rattle.laws_evaluation.specs.Laws.{IsCharged}
 use Rattle.laws_runs.specs.Worlds.{IsWhole}
 use Rattle.laws_world.proofs.Chains.{grants_keep_good, groups_keep_whole, new_worlds_are_good}
+use Rattle.mich_bigmap.specs.Ticketless.{HoldNoTickets}
 use Rattle.mich_gas.specs.View.{listed, reading}
 use Rattle.mich_gas.specs.declared.costs.Costs.{Costs}
 use Rattle.mich_gas.specs.declared.costs.BadCosts.{BadCosts}
@@ -27,10 +28,12 @@ use Rattle.mich_instr.specs.Scripts.{IsTypedScript}
 use Rattle.mich_machine.specs.Calls.{IsHosting}
 use Rattle.mich_ops.specs.declared.receipt.GroupReceipt.{GroupReceipt}
 use Rattle.mich_standing.specs.Laws.{Grants}
-use Rattle.mich_standing.proofs.Agreement.{new_worlds_agree, clocks_agree, grants_agree}
+use Rattle.mich_standing.proofs.Agreement.{new_worlds_agree, clocks_agree, grants_agree, keeping_agrees}
+use Rattle.mich_undo.specs.History.{History, kept as without_past}
 use Rattle.mich_world.specs.Answers.{IsGrant}
+use Rattle.mich_world.specs.Holders.{Holders}
 use Rattle.mich_world.specs.Standing.{StandsFor}
-use Rattle.mich_world.specs.Storages.{IsStored}
+use Rattle.mich_world.specs.Storages.{AreStored, IsStored, Stands}
 use Rattle.mich_world.specs.declared.contract.Contract.{Contract}
 use Rattle.mich_world.specs.World.{World, no_world, with_clock, with_funds}
 use Rattle.mich_world.specs.declared.errors.GrantError.{GrantError}
@@ -225,6 +228,26 @@ applied {p} old new source contents r f few s settled hosting c g o =
       },
       ap (λ t. t ∷ []) settled.told,
     )
+
+-- behind the end of all marks
+pub ended : {o : Option Settled} {r : GroupReceipt} (u v : World) → IsSettled o u r → IsHosting u → v.chain ≡ u.chain → v.level ≡ u.level → v.moment ≡ u.moment
+    → v.funds ≡ without_past u.funds → v.ledger.books ≡ without_past u.ledger.books
+    → AllByRecursion (Stands u.store.bases.present v.store.bases.present) u.funds.present.contracts
+    → IsSettled o v r
+ended u v s h chain level moment funds books stands = record {
+  settled = s.settled;
+  same = s.same;
+  told = s.told;
+  stands = keeping_agrees u v s.settled.world s.stands h.stored chain level moment funds books stands;
+}
+
+pub hosting_ended : (u v : World) → IsHosting u → v.funds ≡ without_past u.funds → (AreStored u → AreStored v)
+    → (HoldNoTickets u.store.bases.present → HoldNoTickets v.store.bases.present) → IsHosting v
+hosting_ended u v h funds stored ticketless = record {
+  typed = subst (λ (f : History Holders). AllByRecursion (λ (x : List ℕ × Contract). IsTypedScript x.1.script) f.present.contracts) (sym funds) h.typed;
+  stored = stored h.stored;
+  ticketless = ticketless h.ticketless;
+}
 
 -- ---- what the code tells
 

@@ -101,6 +101,7 @@ impl Course {
     {
         let number = self.groups + 1;
         let receipt = apply_group(alloc, &mut self.world, &self.costs, number, group, bodies)?;
+        self.world.end_marks();
         self.groups = number;
         self.only_chain = false;
         Ok(Some(receipt))

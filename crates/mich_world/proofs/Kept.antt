@@ -4,8 +4,10 @@ use Rattle.std.proofs.Common.{◌≡◌, ℕ, Bool, true, false, ◌||◌, ◌&&
 use Rattle.std.specs.List.{AllByRecursion}
 use Rattle.mich_bigmap.specs.Bases.{Bases}
 use Rattle.mich_bigmap.specs.Formed.{is_there}
+use Rattle.mich_bigmap.specs.Layers.{HasBases}
 use Rattle.mich_bigmap.specs.Kept.{has, kept_of, with_over, all_of, names}
 use Rattle.mich_bigmap.specs.Notes.{Notes}
+use Rattle.mich_bigmap.specs.Standing.{val_in}
 use Rattle.mich_bigmap.specs.Stored.{Stored, with_kept}
 use Rattle.mich_bigmap.specs.Ticketless.{HoldNoTickets}
 use Rattle.mich_bigmap.proofs.Kept.{has_append}
@@ -61,3 +63,12 @@ pub kept_ticketless : (old mid new : Stored) (ns : List ℕ) → Notes ns old mi
 kept_ticketless old mid new ns notes e h =
     let kept : new.bases.present ≡ kept_of mid.noted old.bases.present = ap (λ (s : Stored). s.bases.present) e ∙ ap (λ x. kept_of mid.noted x.present) notes.bases in
     subst HoldNoTickets (sym kept) (ticketless mid.noted old.bases.present h)
+
+-- ---- where the store is as it was
+
+pub still : (old new : Stored) (cs : List (List ℕ × Contract)) → new ≡ old → AllByRecursion (Stands old.bases.present new.bases.present) cs
+still old new [] e = tt
+still old new (c ∷ cs) e = (
+  (λ based. subst (λ (s : Stored). HasBases s.bases.present c.1.storage × (val_in s.bases.present c.1.storage ≡ val_in old.bases.present c.1.storage)) (sym e) (based, refl)),
+  still old new cs e,
+)

@@ -11,6 +11,9 @@ use crate::maps::Contracts;
 use crate::world::World;
 use mich_bigmap::Store;
 
+// How many bases may be added, beside one for each contract, before storages are looked through.
+const MOST_ADDED: u64 = 64;
+
 // Notes the bases that storages name.
 fn note_storages(store: &mut Store, contracts: &Contracts)
     ensures { Notes (all_of (map named_in contracts.now.entries)) store.old store.new }
@@ -41,5 +44,33 @@ impl World {
         self.store.keep();
         self.ledger.keep();
         self.funds.keep();
+    }
+
+    // Whether more bases were added since storages were last looked through than there are contracts, and some.
+    fn is_due(&self) -> bool {
+        let contracts = self.funds.contracts().len() as u64;
+        self.store.height() > contracts.saturating_add(MOST_ADDED)
+    }
+
+    #[tactic(auto, using(crate::proofs::Kept::still, crate::proofs::Kept::stored_still, crate::proofs::Kept::ticketless_still))]
+    /// Ends all marks, as `keep` does, in the time of what was done since the last end: bases that no storage names are given up only
+    /// once so many were added that looking through all storages costs no more. It takes no memory.
+    pub fn end_marks(&mut self)
+        ensures chain { self.new.chain ≡ self.old.chain }
+        ensures level { self.new.level ≡ self.old.level }
+        ensures moment { self.new.moment ≡ self.old.moment }
+        ensures funds { self.new.funds ≡ kept self.old.funds }
+        ensures books { self.new.ledger.books ≡ kept self.old.ledger.books }
+        ensures changes { self.new.ledger.changes ≡ self.old.ledger.changes }
+        ensures stands { AllByRecursion (Stands self.old.store.bases.present self.new.store.bases.present) self.old.funds.present.contracts }
+        ensures stored { AreStored self.old → AreStored self.new }
+        ensures ticketless { HoldNoTickets self.old.store.bases.present → HoldNoTickets self.new.store.bases.present }
+    {
+        if self.is_due() {
+            self.keep();
+        } else {
+            self.ledger.keep();
+            self.funds.keep();
+        }
     }
 }

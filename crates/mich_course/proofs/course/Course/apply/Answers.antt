@@ -1,6 +1,6 @@
 use Rattle.std.proofs.Common.{refl}
 use Rattle.mich_ops.specs.View.{contents as contents_of}
-use Rattle.mich_course.proofs.Steps.{applied, may_apply}
+use Rattle.mich_course.proofs.Steps.{applied, ended, hosting_ended, may_apply}
 use Rattle.mich_course.proofs.course.Course.apply.Goals as goal
 
 pub apply_group-requires-clause-good : goal.apply_group-requires-clause-good
@@ -11,5 +11,8 @@ apply_group-requires-clause-good c =
 pub returns : goal.returns
 returns c = λ p f.
     let may = may_apply c.args.group.now.source (contents_of c.args.group.now) f c.requires.few c.requires.ranges in
+    let hosting = c.in_ok-receipt.ensures.hosting in
+    let e = c.end_marks.ensures in
     applied c.args.self.now _ c.args.group.now.source (contents_of c.args.group.now) c.in_ok-receipt.receipt f c.requires.few c.requires.ranges
-    (c.in_ok-receipt.ensures.settled p.world f.stands may) c.in_ok-receipt.ensures.hosting refl refl refl
+    (ended _ _ (c.in_ok-receipt.ensures.settled p.world f.stands may) hosting e.chain e.level e.moment e.funds e.books e.stands)
+    (hosting_ended _ _ hosting e.funds e.stored e.ticketless) refl refl refl
