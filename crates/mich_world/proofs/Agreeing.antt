@@ -1,24 +1,21 @@
 -- Holders of the code and those of the world that they stand for.
-use Rattle.std.proofs.Common.{◌≡◌, ◌≤◌, ◌+◌, ◌-◌, ◌==◌, ◌||◌, ◌&&◌, ℕ, ℤ, List, [], ◌∷◌, ◌++◌, length, take, map, Bool, true, false, cond, option_map, unwrap_or, is_some, None, Some, refl, sym, ap, ◌∙◌, subst, arith}
-use Rattle.std.specs.Prelude.{pos, if◌then◌else◌, drop}
+use Rattle.std.proofs.Common.{◌≡◌, ◌+◌, ◌-◌, ◌||◌, ℕ, List, [], ◌∷◌, ◌++◌, length, take, map, Bool, true, false, cond, option_map, unwrap_or, is_some, None, Some, refl, sym, ap, ◌∙◌, subst, arith}
+use Rattle.std.specs.Prelude.{if◌then◌else◌}
 use Rattle.std.specs.declared.option.Option.{Option}
 use Rattle.std.specs.Ordering.{is_eq}
 use Rattle.std.specs.BTreeMap.{is_at, insert_entry}
 use Rattle.std.specs.List.{sum_by}
 use Rattle.std.specs.List.Sorted.{IsStrictlySortedBy}
 use Rattle.std.specs.Map.{lookup, values_of, keys_of}
-use Rattle.std.specs.Cmp.{eq_by_cmp_equiv}
 use Rattle.std.proofs.lemmas.Cmp.{nat_list_cmp_total}
 use Rattle.rules_evaluation.specs.Contracts.{hash_in}
 use Rattle.rules_evaluation.specs.Surroundings.{Contract as PlainContract}
-use Rattle.rules_forms.specs.Spelling.{contract_place}
 use Rattle.rules_typing.specs.Fits.{is_place}
-use Rattle.rules_values.specs.ByteForms.{is_implicit, is_contract, is_key_hash}
+use Rattle.rules_values.specs.ByteForms.{is_implicit}
 use Rattle.rules_values.specs.Tickets.{Identity}
-use Rattle.rules_steps.specs.Changes.{amount_in}
 use Rattle.rules_world.specs.Balances as rules
 use Rattle.rules_world.specs.Forms.{IsWorld}
-use Rattle.rules_world.specs.Holdings.{amount_held, held_by, held_by_account, held_by_contract}
+use Rattle.rules_world.specs.Holdings.{amount_held, held_by_account, held_by_contract}
 use Rattle.rules_world.specs.World.{World as PlainWorld, Account, account_at as account_in, contract_at as plain_contract_at, account_or_none, no_account, key_hash_in}
 use Rattle.mich_forms.specs.Spelled.{place_bytes}
 use Rattle.mich_forms.specs.declared.places.Place.{Place}
@@ -29,7 +26,7 @@ use Rattle.mich_tickets.specs.Books.{Books}
 use Rattle.mich_tickets.proofs.Finding.{found_close, found_inserted, found_changed}
 use Rattle.mich_world.specs.Holders.{Holders, by_bytes, contract_at, balance_at, balance_or_none, may_receive, total, rebalanced, with_balance, with_less, moved, fee_taken}
 use Rattle.mich_world.specs.Laws.{MovesAgree, FeesAgree}
-use Rattle.mich_world.specs.Standing.{purse, plain, contract_in, AreThose, StandsFor}
+use Rattle.mich_world.specs.Standing.{plain, AreThose, StandsFor}
 use Rattle.mich_world.specs.World.{World, with_funds}
 use Rattle.mich_world.specs.declared.contract.Contract.{Contract}
 use Rattle.mich_world.proofs.Moves.{contracts_there, receives}

@@ -5,7 +5,7 @@ use Rattle.std.specs.List.{AllByRecursion}
 use Rattle.mich_bigmap.specs.Bases.{Bases}
 use Rattle.mich_bigmap.specs.Formed.{is_there}
 use Rattle.mich_bigmap.specs.Layers.{HasBases}
-use Rattle.mich_bigmap.specs.Kept.{has, kept_of, with_over, all_of, names}
+use Rattle.mich_bigmap.specs.Kept.{has, kept_of, with_over, all_of}
 use Rattle.mich_bigmap.specs.Notes.{Notes}
 use Rattle.mich_bigmap.specs.Standing.{val_in}
 use Rattle.mich_bigmap.specs.Stored.{Stored, with_kept}

@@ -1,12 +1,12 @@
 -- Who is there after a write.
-use Rattle.std.proofs.Common.{◌≡◌, ◌<◌, ◌≤◌, ◌+◌, ℕ, List, [], ◌∷◌, Bool, true, false, cond, option_map, unwrap_or, is_some, None, Some, refl, sym, ap, ◌∙◌, arith}
+use Rattle.std.proofs.Common.{◌≡◌, ℕ, List, [], ◌∷◌, Bool, true, false, cond, option_map, unwrap_or, is_some, None, Some, refl, ◌∙◌}
 use Rattle.std.specs.declared.option.Option.{Option}
 use Rattle.std.specs.BTreeMap.{is_at}
 use Rattle.std.specs.Map.{lookup}
 use Rattle.mich_forms.specs.declared.places.Place.{Place}
 use Rattle.mich_forms.specs.declared.places.Place.TheVariants as place
 use Rattle.mich_undo.specs.Undone.{changed_at}
-use Rattle.mich_world.specs.Holders.{Holders, by_bytes, account_at, contract_at, balance_at, balance_or_none, may_receive, rebalanced, restored, with_balance, with_less}
+use Rattle.mich_world.specs.Holders.{Holders, by_bytes, contract_at, may_receive, rebalanced, with_balance}
 
 module _ {K X : Type 0} (t u : K → Bool) (f : X → X) where
   one : (b : Bool) (x : X) (o : Option X) → is_some (cond b (Some (f x)) o) ≡ is_some (cond b (Some x) o)

@@ -1,5 +1,5 @@
 -- Storages that stay settled.
-use Rattle.std.proofs.Common.{◌≡◌, ℕ, List, [], ◌∷◌, Bool, true, false, cond, refl, sym, ap, ◌∙◌, subst}
+use Rattle.std.proofs.Common.{◌≡◌, ℕ, List, [], ◌∷◌, Bool, true, false, cond, sym, subst}
 use Rattle.std.specs.declared.cmp.Ordering.{Ordering}
 use Rattle.std.specs.declared.cmp.Ordering.TheVariants.{Less, Equal, Greater}
 use Rattle.std.specs.Ordering.{match_ordering}
@@ -11,9 +11,8 @@ use Rattle.mich_term.specs.declared.value.Value.{Value}
 use Rattle.mich_undo.specs.Undone.{changed_at}
 use Rattle.mich_bigmap.specs.Bases.{Bases}
 use Rattle.mich_bigmap.specs.Extended.{Extends}
-use Rattle.mich_bigmap.specs.Layers.{AreSettled, HasBases}
 use Rattle.mich_bigmap.proofs.Settled.{based_later}
-use Rattle.mich_world.specs.Holders.{Holders, by_bytes, rebalanced, restored, with_balance, founded, committed, balance_or_none}
+use Rattle.mich_world.specs.Holders.{Holders, by_bytes, rebalanced, restored, with_balance}
 use Rattle.mich_world.specs.Storages.{IsStored, AreStored, Installs, Commits}
 use Rattle.mich_world.specs.Marks.{IsSame}
 use Rattle.mich_world.specs.World.{World}

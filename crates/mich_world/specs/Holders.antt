@@ -10,7 +10,6 @@ use Rattle.std.specs.Map.{lookup, values_of}
 use Rattle.rules_world.specs.Balances.{most_mutez}
 use Rattle.mich_forms.specs.declared.places.Place.{Place}
 use Rattle.mich_forms.specs.declared.places.Place.TheVariants as place
-use Rattle.mich_instr.specs.declared.instr.Script.{Script}
 use Rattle.mich_term.specs.declared.value.Value.{Value}
 use Rattle.mich_undo.specs.Undone.{changed_at}
 use Rattle.mich_world.specs.declared.contract.Contract.{Contract}

@@ -52,7 +52,7 @@ impl World {
         self.store.height() > contracts.saturating_add(MOST_ADDED)
     }
 
-    #[tactic(auto, using(crate::proofs::Kept::still, crate::proofs::Kept::stored_still, crate::proofs::Kept::ticketless_still))]
+    #[tactic(auto, using(crate::proofs::Kept::still))]
     /// Ends all marks, as `keep` does, in the time of what was done since the last end: bases that no storage names are given up only
     /// once so many were added that looking through all storages costs no more. It takes no memory.
     pub fn end_marks(&mut self)

@@ -1,7 +1,3 @@
-use Rattle.std.proofs.Common.{ℕ, ap, subst, ◌≤◌, sym, unwrap_or}
-use Rattle.std.specs.List.{sum_by}
-use Rattle.std.specs.Map.{values_of}
-use Rattle.std.specs.declared.option.Option.{Option}
 use Rattle.std.specs.BTreeMap.{is_at}
 use Rattle.mich_world.specs.Holders.{by_bytes}
 use Rattle.mich_world.proofs.Sums.{number_least, number_inserted}

@@ -1,4 +1,4 @@
-use Rattle.std.proofs.Common.{◌≡◌, ◌≤◌, Some, None, ap, sym, ◌∙◌, refl, subst, unwrap_or, option_map}
+use Rattle.std.proofs.Common.{ap, sym, ◌∙◌, refl}
 use Rattle.std.specs.BTreeMap.{is_at}
 use Rattle.mich_undo.proofs.Backs.{changed_is_set, changed_none, changed_back}
 use Rattle.mich_undo.specs.Undone.{changed_at}
