@@ -8,6 +8,7 @@ use std::alloc::Global;
 use std::test::Fail;
 
 // What a run leaves as the storage, or the failure of its call.
+#[derive(Drop)]
 enum Outcome {
     Leaves(&'static str),
     Fails(&'static str),
@@ -50,11 +51,16 @@ fn lines(alloc: Global, run: &Run) -> Result<String, Memory> {
     )?)
 }
 
-// The code of the first run that isn't answered so.
+// Whether a run has its outcome.
+fn is_run(alloc: Global, run: &Run) -> Result<bool, Memory> {
+    let (file, lines) = (file(alloc, run)?, lines(alloc, run)?);
+    is_answered(alloc, "replay", file.as_str(), 0, lines.as_str())
+}
+
+// The code of the first run that has another.
 fn unlike(alloc: Global, runs: &[Run]) -> Result<Option<&'static str>, Memory> {
     for run in runs {
-        let (file, lines) = (file(alloc, run)?, lines(alloc, run)?);
-        if !is_answered(alloc, "replay", file.as_str(), 0, lines.as_str())? {
+        if !is_run(alloc, run)? {
             return Ok(Some(run.2));
         }
     }
@@ -1222,7 +1228,7 @@ fn signs_and_bits(rt: HostRuntime) -> Result<(), Fail> {
 }
 
 // Comparisons.
-const COMPARISONS: [Run; 21] = [
+const COMPARISONS: [Run; 3] = [
     (
         "(pair nat nat)",
         "int",
@@ -1250,173 +1256,33 @@ const COMPARISONS: [Run; 21] = [
         6,
         Outcome::Leaves("0"),
     ),
-    (
-        "int",
-        "bool",
-        "CAR ; EQ ; NIL operation ; PAIR",
-        "-1",
-        "True",
-        5,
-        Outcome::Leaves("False"),
-    ),
-    (
-        "int",
-        "bool",
-        "CAR ; EQ ; NIL operation ; PAIR",
-        "0",
-        "False",
-        5,
-        Outcome::Leaves("True"),
-    ),
-    (
-        "int",
-        "bool",
-        "CAR ; EQ ; NIL operation ; PAIR",
-        "1",
-        "True",
-        5,
-        Outcome::Leaves("False"),
-    ),
-    (
-        "int",
-        "bool",
-        "CAR ; NEQ ; NIL operation ; PAIR",
-        "-1",
-        "False",
-        5,
-        Outcome::Leaves("True"),
-    ),
-    (
-        "int",
-        "bool",
-        "CAR ; NEQ ; NIL operation ; PAIR",
-        "0",
-        "True",
-        5,
-        Outcome::Leaves("False"),
-    ),
-    (
-        "int",
-        "bool",
-        "CAR ; NEQ ; NIL operation ; PAIR",
-        "1",
-        "False",
-        5,
-        Outcome::Leaves("True"),
-    ),
-    (
-        "int",
-        "bool",
-        "CAR ; LT ; NIL operation ; PAIR",
-        "-1",
-        "False",
-        5,
-        Outcome::Leaves("True"),
-    ),
-    (
-        "int",
-        "bool",
-        "CAR ; LT ; NIL operation ; PAIR",
-        "0",
-        "True",
-        5,
-        Outcome::Leaves("False"),
-    ),
-    (
-        "int",
-        "bool",
-        "CAR ; LT ; NIL operation ; PAIR",
-        "1",
-        "True",
-        5,
-        Outcome::Leaves("False"),
-    ),
-    (
-        "int",
-        "bool",
-        "CAR ; GT ; NIL operation ; PAIR",
-        "-1",
-        "True",
-        5,
-        Outcome::Leaves("False"),
-    ),
-    (
-        "int",
-        "bool",
-        "CAR ; GT ; NIL operation ; PAIR",
-        "0",
-        "True",
-        5,
-        Outcome::Leaves("False"),
-    ),
-    (
-        "int",
-        "bool",
-        "CAR ; GT ; NIL operation ; PAIR",
-        "1",
-        "False",
-        5,
-        Outcome::Leaves("True"),
-    ),
-    (
-        "int",
-        "bool",
-        "CAR ; LE ; NIL operation ; PAIR",
-        "-1",
-        "False",
-        5,
-        Outcome::Leaves("True"),
-    ),
-    (
-        "int",
-        "bool",
-        "CAR ; LE ; NIL operation ; PAIR",
-        "0",
-        "False",
-        5,
-        Outcome::Leaves("True"),
-    ),
-    (
-        "int",
-        "bool",
-        "CAR ; LE ; NIL operation ; PAIR",
-        "1",
-        "True",
-        5,
-        Outcome::Leaves("False"),
-    ),
-    (
-        "int",
-        "bool",
-        "CAR ; GE ; NIL operation ; PAIR",
-        "-1",
-        "True",
-        5,
-        Outcome::Leaves("False"),
-    ),
-    (
-        "int",
-        "bool",
-        "CAR ; GE ; NIL operation ; PAIR",
-        "0",
-        "False",
-        5,
-        Outcome::Leaves("True"),
-    ),
-    (
-        "int",
-        "bool",
-        "CAR ; GE ; NIL operation ; PAIR",
-        "1",
-        "False",
-        5,
-        Outcome::Leaves("True"),
-    ),
 ];
+
+// Code that compares a number with zero, and whether it holds of -1, 0 and 1.
+const SIGNS: [(&str, bool, bool, bool); 6] = [
+    ("CAR ; EQ ; NIL operation ; PAIR", false, true, false),
+    ("CAR ; NEQ ; NIL operation ; PAIR", true, false, true),
+    ("CAR ; LT ; NIL operation ; PAIR", true, false, false),
+    ("CAR ; GT ; NIL operation ; PAIR", false, false, true),
+    ("CAR ; LE ; NIL operation ; PAIR", true, true, false),
+    ("CAR ; GE ; NIL operation ; PAIR", false, true, true),
+];
+
+// A truth value as it is written.
+fn written(truth: bool) -> &'static str {
+    if truth { "True" } else { "False" }
+}
 
 #[test]
 fn comparisons(rt: HostRuntime) -> Result<(), Fail> {
     assert_eq!(rt; unlike(rt.alloc(), &COMPARISONS)?, None);
+    for (code, below, none, above) in SIGNS {
+        for (number, holds) in [("-1", below), ("0", none), ("1", above)] {
+            let after = Outcome::Leaves(written(holds));
+            let run = ("int", "bool", code, number, written(!holds), 5, after);
+            assert!(rt; is_run(rt.alloc(), &run)?, "{code}, {number}");
+        }
+    }
     Ok(())
 }
 

@@ -34,7 +34,7 @@ pub(crate) fn numbers(alloc: Global, numbers: &[u64]) -> Result<Rows<u64>, Memor
 }
 
 // Runs a command over a file of this text, in which these calls fail, into a sink.
-fn run_into<K: Sink>(
+pub(crate) fn run_into<K: Sink>(
     alloc: Global,
     verb: &str,
     text: &str,
@@ -50,7 +50,7 @@ fn run_into<K: Sink>(
 }
 
 // The same, into a sink in memory, in which these calls fail.
-fn run(
+pub(crate) fn run(
     alloc: Global,
     verb: &str,
     text: &str,
@@ -75,13 +75,13 @@ pub(crate) fn is_answered(
 }
 
 // A file of two accounts and one call with this fee and amount.
-fn call(alloc: Global, fee: u64, amount: u64) -> Result<String, Memory> {
+pub(crate) fn call(alloc: Global, fee: u64, amount: u64) -> Result<String, Memory> {
     Ok(format!(in alloc;
         "Chain 0x7a06a770 1 0; Account 0x000000000000000000000000000000000000000001 1000; Account 0x000000000000000000000000000000000000000002 0; Group 0x000000000000000000000000000000000000000001 {{ Call {fee} 100 {amount} 0x00000000000000000000000000000000000000000002 \"default\" Unit }};"
     )?)
 }
 
-const TRANSFER: [&str; 5] = [
+pub(crate) const TRANSFER: [&str; 5] = [
     "Group 1 { Applied 1 { Transfer 0x00000000000000000000000000000000000000000001 0x00000000000000000000000000000000000000000002 1 Unit {} } }\n",
     "Account 0x000000000000000000000000000000000000000001 989 {}\n",
     "Account 0x000000000000000000000000000000000000000002 1 {}\n",
@@ -114,7 +114,7 @@ const A_FEE_TOO_HIGH: [&str; 5] = [
 ];
 
 // The first lines, one after another.
-fn text(alloc: Global, lines: &[&str], count: usize) -> Result<String, Memory> {
+pub(crate) fn text(alloc: Global, lines: &[&str], count: usize) -> Result<String, Memory> {
     let mut text = String::new(alloc);
     for line in lines.iter().take(count) {
         text.push_str(line)?;
@@ -457,8 +457,8 @@ fn writes_that_fail(rt: HostRuntime) -> Result<(), Fail> {
 
 // Takes one byte a write.
 #[derive(Drop)]
-struct SlowSink {
-    inner: MemSink,
+pub(crate) struct SlowSink {
+    pub(crate) inner: MemSink,
 }
 
 impl Sink for SlowSink {
@@ -486,8 +486,8 @@ fn one_byte_a_write(rt: HostRuntime) -> Result<(), Fail> {
 
 // Gives one byte a read.
 #[derive(Drop)]
-struct SlowFiles {
-    inner: MemFiles,
+pub(crate) struct SlowFiles {
+    pub(crate) inner: MemFiles,
 }
 
 impl Files for SlowFiles {
