@@ -26,6 +26,8 @@ pub use top::mich;
 #[cfg(test)]
 mod check_tests;
 #[cfg(test)]
+mod examples;
+#[cfg(test)]
 mod failing;
 #[cfg(test)]
 mod generate_tests;
