@@ -11,14 +11,6 @@ use mich_io::{MemFiles, MemSink};
 use std::alloc::Global;
 use std::test::Fail;
 
-// Files in memory with this one.
-fn files_of(alloc: Global, content: &str, reads_fail: &[u64]) -> Result<MemFiles, Memory> {
-    let mut files = Rows::new(alloc);
-    let content = Bytes::from_slice(alloc, content.as_bytes())?;
-    files.push((Text::from_slice(alloc, b"f")?, content))?;
-    Ok(MemFiles::new(one(alloc, "f")?, files, numbers(alloc, reads_fail)?))
-}
-
 const USAGE: &str = "usage: mich replay|check|encode|decode|pack FILE, or mich generate N\n";
 
 // The words of a command over a file, its content, and its line.
@@ -67,11 +59,6 @@ fn files_that_are_not_there(rt: HostRuntime) -> Result<(), Fail> {
     Ok(())
 }
 
-// The first bytes of a text.
-fn front(text: &str, count: usize) -> &[u8] {
-    text.as_bytes().split_at(count).0
-}
-
 // A sink that takes one byte a write, and fails at each of them in turn.
 #[test]
 fn sinks_that_fail_at_each_byte(rt: HostRuntime) -> Result<(), Fail> {
@@ -83,11 +70,9 @@ fn sinks_that_fail_at_each_byte(rt: HostRuntime) -> Result<(), Fail> {
         let mut out = SlowSink { inner };
         let status = run_into(alloc, "replay", file.as_str(), &[], &mut out)?;
         assert_eq!(rt; status, 4, "byte {number}");
-        assert_eq!(rt;
-            out.inner.as_slice(),
-            front(lines.as_str(), number),
-            "byte {number}"
-        );
+        let written = out.inner.as_slice();
+        assert_eq!(rt; written.len(), number);
+        assert!(rt; lines.as_bytes().starts_with(written), "byte {number}");
     }
     Ok(())
 }
@@ -158,9 +143,11 @@ fn pieces_of_a_byte(rt: HostRuntime) -> Result<(), Fail> {
     let alloc = rt.alloc();
     let (file, status, written) = TOKEN;
     let words = two(alloc, "replay", "f")?;
-    let mut files = SlowFiles {
-        inner: files_of(alloc, file, &[])?,
-    };
+    let mut held = Rows::new(alloc);
+    let content = Bytes::from_slice(alloc, file.as_bytes())?;
+    held.push((Text::from_slice(alloc, b"f")?, content))?;
+    let inner = MemFiles::new(one(alloc, "f")?, held, Rows::new(alloc));
+    let mut files = SlowFiles { inner };
     let mut out = MemSink::new(alloc, Rows::new(alloc));
     let found = mich(alloc, &words, &mut files, &mut out);
     assert_eq!(rt; found, status);

@@ -38,4 +38,6 @@ mod limits;
 #[cfg(test)]
 mod tests;
 #[cfg(test)]
+mod views;
+#[cfg(test)]
 mod worked;
