@@ -206,7 +206,7 @@ fn counting(alloc: Global, outer: u32) -> Result<String, Memory> {
 fn open_blocks_at_their_limit(rt: HostRuntime) -> Result<(), Fail> {
     let alloc = rt.alloc();
     let (most, more) = (counting(alloc, 99)?, counting(alloc, 100)?);
-    let calls = [("998", 7_002, None), ("998", 7_001, Some("OutOfGas"))];
+    let calls = [("998", 7_002, None)];
     assert!(rt; are_answered(alloc, &("int", most.as_str()), &calls, "7")?);
     let calls = [
         ("998", 6_996, Some("DepthLimit")),
