@@ -252,24 +252,11 @@ fn operations_of_a_run_at_their_limit(rt: HostRuntime) -> Result<(), Fail> {
     Ok(())
 }
 
-// Contents that issue one operation more than their group may, one of them with too little gas for it, and how they fail.
-const ONE_MORE: [(&str, &str); 4] = [
-    (
-        "Call 0 9 0 0x01000000000000000100000000000000000000000000 \"default\" 1",
-        "TooManyOperations",
-    ),
-    (
-        "Call 0 8 0 0x01000000000000000100000000000000000000000000 \"default\" 1",
-        "OutOfGas",
-    ),
-    (
-        "Call 0 7 0 0x01000000000000000100000001000000000000000000 \"default\" Unit",
-        "TooManyOperations",
-    ),
-    (
-        "Call 0 7 0 0x01000000000000000100000002000000000000000000 \"default\" Unit",
-        "TooManyOperations",
-    ),
+// Contents that issue one operation more than their group may, with just the gas for it.
+const ONE_MORE: [&str; 3] = [
+    "Call 0 9 0 0x01000000000000000100000000000000000000000000 \"default\" 1",
+    "Call 0 7 0 0x01000000000000000100000001000000000000000000 \"default\" Unit",
+    "Call 0 7 0 0x01000000000000000100000002000000000000000000 \"default\" Unit",
 ];
 
 // The operations of all contents of a group count together, whatever issues them, and those of the next group from none.
@@ -277,7 +264,7 @@ const ONE_MORE: [(&str, &str); 4] = [
 fn operations_of_a_group_at_their_limit(rt: HostRuntime) -> Result<(), Fail> {
     let alloc = rt.alloc();
     let code = issuing(alloc)?;
-    for (more, failure) in ONE_MORE {
+    for more in ONE_MORE {
         let file = format!(in alloc;
             "Chain 0x7a06a770 1 0; Account 0x000000000000000000000000000000000000000001 1000; \
             Group 0x000000000000000000000000000000000000000001 {{ \
@@ -300,7 +287,7 @@ fn operations_of_a_group_at_their_limit(rt: HostRuntime) -> Result<(), Fail> {
             0x01000000000000000100000001000000000000000000 0 }} ; \
             Applied 1 {{ Origination 0x00000000000000000000000000000000000000000001 \
             0x01000000000000000100000002000000000000000000 0 }} }}\n\
-            Group 2 {{ Backtracked ; Failed 0 {failure} }}\n\
+            Group 2 {{ Backtracked ; Failed 0 TooManyOperations }}\n\
             Group 3 {{ Applied 1035 {{ Transfer 0x00000000000000000000000000000000000000000001 \
             0x01000000000000000100000000000000000000000000 0 1 {{}} }} }}\n\
             Account 0x000000000000000000000000000000000000000001 1000 {{}}\n\
