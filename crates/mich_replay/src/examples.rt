@@ -1,9 +1,9 @@
-// The files of examples/ that no other test has, and what they are to give, by hand.
+// The files of examples/ and of docs/refusals.md that no other test has, and what they are to give, by hand.
 use crate::tests::is_answered;
 use std::test::Fail;
 
 // A command, the file, the status, and what is written.
-const EXAMPLES: [(&str, &str, u8, &str); 4] = [
+const EXAMPLES: [(&str, &str, u8, &str); 6] = [
     (
         "replay",
         "Chain 0x7a06a770 1 0;\n\
@@ -59,6 +59,13 @@ const EXAMPLES: [(&str, &str, u8, &str); 4] = [
         2,
         "IllTyped 10\n",
     ),
+    (
+        "replay",
+        "Chain 0x7a06a770 1 0;Costs { Cost Foo 1 0 }",
+        2,
+        "Refused BadCosts 21\n",
+    ),
+    ("pack", "Pack (list nat) { -1 }", 2, "Refused IllTyped 4\n"),
 ];
 
 #[test]
