@@ -436,7 +436,8 @@ const VIEWS: [Row; 12] = [
         None,
     ),
     (
-        "DROP; LAMBDA unit operation { PUSH mutez 0; NONE key_hash; CREATE_CONTRACT { parameter unit; storage unit; code { CDR; NIL operation; PAIR } }; DIP { DROP } }; DROP; UNIT",
+        "DROP; LAMBDA unit operation { PUSH mutez 0; NONE key_hash; CREATE_CONTRACT { parameter unit; storage unit; code { CDR; NIL \
+            operation; PAIR } }; DIP { DROP } }; DROP; UNIT",
         None,
     ),
     ("DROP; LAMBDA unit unit { SELF }; DROP; UNIT", Some(15)),
@@ -484,7 +485,8 @@ const SELVES: [Row; 14] = [
         Some(16),
     ),
     (
-        "parameter (or (int %a) (nat %b)); storage unit; code { SELF %default; PUSH mutez 0; PUSH (or int nat) (Left 1); TRANSFER_TOKENS; DROP; FAILWITH }",
+        "parameter (or (int %a) (nat %b)); storage unit; code { SELF %default; PUSH mutez 0; PUSH (or int nat) (Left 1); TRANSFER_TOKENS; \
+            DROP; FAILWITH }",
         None,
     ),
     (
@@ -516,7 +518,8 @@ const SELVES: [Row; 14] = [
         Some(9),
     ),
     (
-        "parameter (or (or %o (int %a) nat) nat); storage unit; code { SELF %o; PUSH mutez 0; PUSH (or int nat) (Right 1); TRANSFER_TOKENS; DROP; FAILWITH }",
+        "parameter (or (or %o (int %a) nat) nat); storage unit; code { SELF %o; PUSH mutez 0; PUSH (or int nat) (Right 1); \
+            TRANSFER_TOKENS; DROP; FAILWITH }",
         None,
     ),
     // No branch.
@@ -540,7 +543,8 @@ fn self_names_an_entrypoint_of_its_own_script(rt: HostRuntime) -> Result<(), Fai
 // The script of CREATE_CONTRACT has its own faults, before its storage is compared with what is given.
 const CREATED: [Row; 13] = [
     (
-        "UNIT; PUSH mutez 0; NONE key_hash; CREATE_CONTRACT { parameter unit; storage unit; code { CDR; NIL operation; PAIR } }; DROP 2; FAILWITH",
+        "UNIT; PUSH mutez 0; NONE key_hash; CREATE_CONTRACT { parameter unit; storage unit; code { CDR; NIL operation; PAIR } }; \
+            DROP 2; FAILWITH",
         None,
     ),
     (
@@ -573,16 +577,19 @@ const CREATED: [Row; 13] = [
         Some(13),
     ),
     (
-        "UNIT; PUSH mutez 0; NONE key_hash; CREATE_CONTRACT { parameter unit; storage unit; code { CDR; NIL operation; PAIR }; view \"v\" unit unit { TRANSFER_TOKENS } }",
+        "UNIT; PUSH mutez 0; NONE key_hash; CREATE_CONTRACT { parameter unit; storage unit; code { CDR; NIL operation; PAIR }; view \"v\" \
+            unit unit { TRANSFER_TOKENS } }",
         Some(30),
     ),
     (
-        "UNIT; PUSH mutez 0; NONE key_hash; CREATE_CONTRACT { parameter (or (int %x) nat); storage unit; code { SELF %x; DROP; FAILWITH } }; DROP 2; FAILWITH",
+        "UNIT; PUSH mutez 0; NONE key_hash; CREATE_CONTRACT { parameter (or (int %x) nat); storage unit; code { SELF %x; DROP; FAILWITH } \
+            }; DROP 2; FAILWITH",
         None,
     ),
     // The code of a script, though within a lambda.
     (
-        "LAMBDA unit operation { PUSH mutez 0; NONE key_hash; CREATE_CONTRACT { parameter unit; storage unit; code { SELF; DROP; FAILWITH } }; DIP { DROP } }; DROP; FAILWITH",
+        "LAMBDA unit operation { PUSH mutez 0; NONE key_hash; CREATE_CONTRACT { parameter unit; storage unit; code { SELF; DROP; FAILWITH \
+            } }; DIP { DROP } }; DROP; FAILWITH",
         None,
     ),
     (
@@ -590,7 +597,8 @@ const CREATED: [Row; 13] = [
         Some(25),
     ),
     (
-        "UNIT; PUSH mutez 0; NONE key_hash; CREATE_CONTRACT { parameter unit; storage unit; code { UNIT; PUSH mutez 0; NONE key_hash; CREATE_CONTRACT { parameter unit; storage unit; code { FOO } } } }",
+        "UNIT; PUSH mutez 0; NONE key_hash; CREATE_CONTRACT { parameter unit; storage unit; code { UNIT; PUSH mutez 0; NONE key_hash; \
+            CREATE_CONTRACT { parameter unit; storage unit; code { FOO } } } }",
         Some(35),
     ),
 ];
@@ -601,7 +609,8 @@ fn scripts_within_are_tried_as_scripts(rt: HostRuntime) -> Result<(), Fail> {
     Ok(())
 }
 
-// Sections come from left to right and before a missing one, then the parameter, the storage, the types of views, the code and the bodies of views.
+// Sections come from left to right and before a missing one, then the parameter, the storage, the types of views, the code and
+// the bodies of views.
 const SECTIONS: [Row; 20] = [
     ("", Some(0)),
     ("5", Some(1)),

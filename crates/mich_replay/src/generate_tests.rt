@@ -22,11 +22,12 @@ fn is_generated(
 }
 
 // A number of calls, and their summary.
-static SUMMARIES: [(&str, &str); 4] = [
+static SUMMARIES: [(&str, &str); 5] = [
     ("1", "Summary 1 1 0 1000000000 7 0 7\n"),
     ("001", "Summary 1 1 0 1000000000 7 0 7\n"),
     ("2", "Summary 2 2 0 1000000000 8 0 8\n"),
     ("3", "Summary 3 2 1 1000000000 8 0 8\n"),
+    ("2000", "Summary 2000 1323 677 1000000000 5132 0 5132\n"),
 ];
 
 #[test]

@@ -8,6 +8,7 @@ use std::alloc::Global;
 use std::test::Fail;
 
 // What a run leaves as the storage, or the failure of its call.
+#[derive(Drop)]
 enum Outcome {
     Leaves(&'static str),
     Fails(&'static str),
@@ -29,7 +30,12 @@ fn file(alloc: Global, run: &Run) -> Result<String, Memory> {
     let (parameter, storage, code, argument, before, gas, _) = run;
     let less = gas.saturating_sub(1);
     Ok(format!(in alloc;
-        "Chain 0x7a06a770 9 1700; Account 0x000000000000000000000000000000000000000001 1000; Group 0x000000000000000000000000000000000000000001 {{ Originate 0 1 0 {{ parameter {parameter} ; storage {storage} ; code {{ {code} }} }} {before} }}; Group 0x000000000000000000000000000000000000000001 {{ Call 0 {gas} 0 0x01000000000000000100000000000000000000000000 \"default\" {argument} }}; Group 0x000000000000000000000000000000000000000001 {{ Call 0 {less} 0 0x01000000000000000100000000000000000000000000 \"default\" {argument} }}"
+        "Chain 0x7a06a770 9 1700; Account 0x000000000000000000000000000000000000000001 1000; Group \
+            0x000000000000000000000000000000000000000001 {{ Originate 0 1 0 {{ parameter {parameter} ; storage {storage} ; code {{ {code} \
+            }} }} {before} }}; Group 0x000000000000000000000000000000000000000001 {{ Call 0 {gas} 0 \
+            0x01000000000000000100000000000000000000000000 \"default\" {argument} }}; \
+            Group 0x000000000000000000000000000000000000000001 {{ Call 0 {less} 0 0x01000000000000000100000000000000000000000000 \
+            \"default\" {argument} }}"
     )?)
 }
 
@@ -39,22 +45,31 @@ fn lines(alloc: Global, run: &Run) -> Result<String, Memory> {
     let (second, after) = match outcome {
         Outcome::Leaves(after) => (
             format!(in alloc;
-                "Applied {gas} {{ Transfer 0x00000000000000000000000000000000000000000001 0x01000000000000000100000000000000000000000000 0 {argument} {{}} }}"
+                "Applied {gas} {{ Transfer 0x00000000000000000000000000000000000000000001 0x01000000000000000100000000000000000000000000 0 \
+                    {argument} {{}} }}"
             )?,
             after,
         ),
         Outcome::Fails(failure) => (format!(in alloc; "Failed 0 {failure}")?, before),
     };
     Ok(format!(in alloc;
-        "Group 1 {{ Applied 1 {{ Origination 0x00000000000000000000000000000000000000000001 0x01000000000000000100000000000000000000000000 0 }} }}\nGroup 2 {{ {second} }}\nGroup 3 {{ Failed 0 OutOfGas }}\nAccount 0x000000000000000000000000000000000000000001 1000 {{}}\nContract 0x01000000000000000100000000000000000000000000 0 {after}\nFees 0\nSupply 1000\n"
+        "Group 1 {{ Applied 1 {{ Origination 0x00000000000000000000000000000000000000000001 0x01000000000000000100000000000000000000000000 \
+            0 }} }}\nGroup 2 {{ {second} }}\nGroup 3 {{ Failed 0 OutOfGas }}\n\
+            Account 0x000000000000000000000000000000000000000001 1000 {{}}\n\
+            Contract 0x01000000000000000100000000000000000000000000 0 {after}\nFees 0\nSupply 1000\n"
     )?)
 }
 
-// The code of the first run that isn't answered so.
+// Whether a run has its outcome.
+fn is_run(alloc: Global, run: &Run) -> Result<bool, Memory> {
+    let (file, lines) = (file(alloc, run)?, lines(alloc, run)?);
+    is_answered(alloc, "replay", file.as_str(), 0, lines.as_str())
+}
+
+// The code of the first run that has another.
 fn unlike(alloc: Global, runs: &[Run]) -> Result<Option<&'static str>, Memory> {
     for run in runs {
-        let (file, lines) = (file(alloc, run)?, lines(alloc, run)?);
-        if !is_answered(alloc, "replay", file.as_str(), 0, lines.as_str())? {
+        if !is_run(alloc, run)? {
             return Ok(Some(run.2));
         }
     }
@@ -210,7 +225,8 @@ const STACKS: [Run; 19] = [
     (
         "nat",
         "nat",
-        "CAR ; LAMBDA_REC nat nat { INT ; PUSH int 1 ; SWAP ; SUB ; ISNAT ; IF_NONE { DROP ; PUSH nat 7 } { EXEC } } ; SWAP ; EXEC ; NIL operation ; PAIR",
+        "CAR ; LAMBDA_REC nat nat { INT ; PUSH int 1 ; SWAP ; SUB ; ISNAT ; IF_NONE { DROP ; PUSH nat 7 } { EXEC } } ; SWAP ; EXEC ; NIL \
+            operation ; PAIR",
         "2",
         "0",
         34,
@@ -339,7 +355,8 @@ const BODIES: [Run; 21] = [
     (
         "(or int string)",
         "string",
-        "CAR ; LOOP_LEFT { DUP ; GT ; IF { PUSH int 1 ; SWAP ; SUB ; LEFT string } { DROP ; PUSH string \"end\" ; RIGHT int } } ; NIL operation ; PAIR",
+        "CAR ; LOOP_LEFT { DUP ; GT ; IF { PUSH int 1 ; SWAP ; SUB ; LEFT string } { DROP ; PUSH string \"end\" ; RIGHT int } } ; NIL \
+            operation ; PAIR",
         "(Left 1)",
         "\"a\"",
         25,
@@ -1222,7 +1239,7 @@ fn signs_and_bits(rt: HostRuntime) -> Result<(), Fail> {
 }
 
 // Comparisons.
-const COMPARISONS: [Run; 21] = [
+const COMPARISONS: [Run; 3] = [
     (
         "(pair nat nat)",
         "int",
@@ -1250,173 +1267,33 @@ const COMPARISONS: [Run; 21] = [
         6,
         Outcome::Leaves("0"),
     ),
-    (
-        "int",
-        "bool",
-        "CAR ; EQ ; NIL operation ; PAIR",
-        "-1",
-        "True",
-        5,
-        Outcome::Leaves("False"),
-    ),
-    (
-        "int",
-        "bool",
-        "CAR ; EQ ; NIL operation ; PAIR",
-        "0",
-        "False",
-        5,
-        Outcome::Leaves("True"),
-    ),
-    (
-        "int",
-        "bool",
-        "CAR ; EQ ; NIL operation ; PAIR",
-        "1",
-        "True",
-        5,
-        Outcome::Leaves("False"),
-    ),
-    (
-        "int",
-        "bool",
-        "CAR ; NEQ ; NIL operation ; PAIR",
-        "-1",
-        "False",
-        5,
-        Outcome::Leaves("True"),
-    ),
-    (
-        "int",
-        "bool",
-        "CAR ; NEQ ; NIL operation ; PAIR",
-        "0",
-        "True",
-        5,
-        Outcome::Leaves("False"),
-    ),
-    (
-        "int",
-        "bool",
-        "CAR ; NEQ ; NIL operation ; PAIR",
-        "1",
-        "False",
-        5,
-        Outcome::Leaves("True"),
-    ),
-    (
-        "int",
-        "bool",
-        "CAR ; LT ; NIL operation ; PAIR",
-        "-1",
-        "False",
-        5,
-        Outcome::Leaves("True"),
-    ),
-    (
-        "int",
-        "bool",
-        "CAR ; LT ; NIL operation ; PAIR",
-        "0",
-        "True",
-        5,
-        Outcome::Leaves("False"),
-    ),
-    (
-        "int",
-        "bool",
-        "CAR ; LT ; NIL operation ; PAIR",
-        "1",
-        "True",
-        5,
-        Outcome::Leaves("False"),
-    ),
-    (
-        "int",
-        "bool",
-        "CAR ; GT ; NIL operation ; PAIR",
-        "-1",
-        "True",
-        5,
-        Outcome::Leaves("False"),
-    ),
-    (
-        "int",
-        "bool",
-        "CAR ; GT ; NIL operation ; PAIR",
-        "0",
-        "True",
-        5,
-        Outcome::Leaves("False"),
-    ),
-    (
-        "int",
-        "bool",
-        "CAR ; GT ; NIL operation ; PAIR",
-        "1",
-        "False",
-        5,
-        Outcome::Leaves("True"),
-    ),
-    (
-        "int",
-        "bool",
-        "CAR ; LE ; NIL operation ; PAIR",
-        "-1",
-        "False",
-        5,
-        Outcome::Leaves("True"),
-    ),
-    (
-        "int",
-        "bool",
-        "CAR ; LE ; NIL operation ; PAIR",
-        "0",
-        "False",
-        5,
-        Outcome::Leaves("True"),
-    ),
-    (
-        "int",
-        "bool",
-        "CAR ; LE ; NIL operation ; PAIR",
-        "1",
-        "True",
-        5,
-        Outcome::Leaves("False"),
-    ),
-    (
-        "int",
-        "bool",
-        "CAR ; GE ; NIL operation ; PAIR",
-        "-1",
-        "True",
-        5,
-        Outcome::Leaves("False"),
-    ),
-    (
-        "int",
-        "bool",
-        "CAR ; GE ; NIL operation ; PAIR",
-        "0",
-        "False",
-        5,
-        Outcome::Leaves("True"),
-    ),
-    (
-        "int",
-        "bool",
-        "CAR ; GE ; NIL operation ; PAIR",
-        "1",
-        "False",
-        5,
-        Outcome::Leaves("True"),
-    ),
 ];
+
+// Code that compares a number with zero, and whether it holds of -1, 0 and 1.
+const SIGNS: [(&str, bool, bool, bool); 6] = [
+    ("CAR ; EQ ; NIL operation ; PAIR", false, true, false),
+    ("CAR ; NEQ ; NIL operation ; PAIR", true, false, true),
+    ("CAR ; LT ; NIL operation ; PAIR", true, false, false),
+    ("CAR ; GT ; NIL operation ; PAIR", false, false, true),
+    ("CAR ; LE ; NIL operation ; PAIR", true, true, false),
+    ("CAR ; GE ; NIL operation ; PAIR", false, true, true),
+];
+
+// A truth value as it is written.
+fn written(truth: bool) -> &'static str {
+    if truth { "True" } else { "False" }
+}
 
 #[test]
 fn comparisons(rt: HostRuntime) -> Result<(), Fail> {
     assert_eq!(rt; unlike(rt.alloc(), &COMPARISONS)?, None);
+    for (code, below, none, above) in SIGNS {
+        for (number, holds) in [("-1", below), ("0", none), ("1", above)] {
+            let after = Outcome::Leaves(written(holds));
+            let run = ("int", "bool", code, number, written(!holds), 5, after);
+            assert!(rt; is_run(rt.alloc(), &run)?, "{code}, {number}");
+        }
+    }
     Ok(())
 }
 
@@ -1547,7 +1424,8 @@ const BYTES: [Run; 16] = [
         "0x",
         8,
         Outcome::Leaves(
-            "0xddaf35a193617abacc417349ae20413112e6fa4e89a97ea20a9eeee64b55d39a2192992a274fc1a836ba3c23a3feebbd454d4423643ce80e2a9ac94fa54ca49f",
+            "0xddaf35a193617abacc417349ae20413112e6fa4e89a97ea20a9eeee64b55d39a\
+            2192992a274fc1a836ba3c23a3feebbd454d4423643ce80e2a9ac94fa54ca49f",
         ),
     ),
     (
@@ -1562,7 +1440,8 @@ const BYTES: [Run; 16] = [
     (
         "unit",
         "string",
-        "DROP ; PUSH string \"aaaaaaaa\" ; PUSH nat 17 ; DUP ; PUSH nat 0 ; COMPARE ; LT ; LOOP { DIP { DUP ; CONCAT } ; PUSH nat 1 ; SWAP ; SUB ; ABS ; DUP ; PUSH nat 0 ; COMPARE ; LT } ; DROP ; DUP ; CONCAT ; NIL operation ; PAIR",
+        "DROP ; PUSH string \"aaaaaaaa\" ; PUSH nat 17 ; DUP ; PUSH nat 0 ; COMPARE ; LT ; LOOP { DIP { DUP ; CONCAT } ; PUSH nat 1 ; SWAP \
+            ; SUB ; ABS ; DUP ; PUSH nat 0 ; COMPARE ; LT } ; DROP ; DUP ; CONCAT ; NIL operation ; PAIR",
         "Unit",
         "\"a\"",
         4194581,
@@ -1715,68 +1594,240 @@ fn surroundings(rt: HostRuntime) -> Result<(), Fail> {
 // The same of instructions whose calls have more effects, amounts or tickets: whole files, and what is written of them.
 const FILES: [(&str, &str); 16] = [
     (
-        "Chain 0x7a06a770 9 1700;Account 0x000000000000000000000000000000000000000001 1000;Group 0x000000000000000000000000000000000000000001 { Originate 0 1 0 { parameter unit; storage mutez; code { DROP ; AMOUNT ; NIL operation ; PAIR } } 0 };Group 0x000000000000000000000000000000000000000001 { Call 0 8 7 0x01000000000000000100000000000000000000000000 \"default\" Unit };Group 0x000000000000000000000000000000000000000001 { Call 0 7 7 0x01000000000000000100000000000000000000000000 \"default\" Unit }",
-        "Group 1 { Applied 1 { Origination 0x00000000000000000000000000000000000000000001 0x01000000000000000100000000000000000000000000 0 } }\nGroup 2 { Applied 8 { Transfer 0x00000000000000000000000000000000000000000001 0x01000000000000000100000000000000000000000000 7 Unit {} } }\nGroup 3 { Failed 0 OutOfGas }\nAccount 0x000000000000000000000000000000000000000001 993 {}\nContract 0x01000000000000000100000000000000000000000000 7 7\nFees 0\nSupply 1000\n",
+        "Chain 0x7a06a770 9 1700;Account 0x000000000000000000000000000000000000000001 1000;Group \
+            0x000000000000000000000000000000000000000001 { Originate 0 1 0 { parameter unit; storage mutez; code { DROP ; AMOUNT ; NIL \
+            operation ; PAIR } } 0 };Group 0x000000000000000000000000000000000000000001 { Call 0 8 7 \
+            0x01000000000000000100000000000000000000000000 \"default\" Unit };\
+            Group 0x000000000000000000000000000000000000000001 { Call 0 7 7 0x01000000000000000100000000000000000000000000 \"default\" \
+            Unit }",
+        "Group 1 { Applied 1 { Origination 0x00000000000000000000000000000000000000000001 0x01000000000000000100000000000000000000000000 0 \
+            } }\n\
+            Group 2 { Applied 8 { Transfer 0x00000000000000000000000000000000000000000001 0x01000000000000000100000000000000000000000000 7 \
+            Unit {} } }\nGroup 3 { Failed 0 OutOfGas }\nAccount 0x000000000000000000000000000000000000000001 993 {}\n\
+            Contract 0x01000000000000000100000000000000000000000000 7 7\nFees 0\nSupply 1000\n",
     ),
     (
-        "Chain 0x7a06a770 9 1700;Account 0x000000000000000000000000000000000000000001 1000;Group 0x000000000000000000000000000000000000000001 { Originate 0 1 0 { parameter unit; storage mutez; code { DROP ; BALANCE ; NIL operation ; PAIR } } 0 };Group 0x000000000000000000000000000000000000000001 { Call 0 8 7 0x01000000000000000100000000000000000000000000 \"default\" Unit };Group 0x000000000000000000000000000000000000000001 { Call 0 7 7 0x01000000000000000100000000000000000000000000 \"default\" Unit }",
-        "Group 1 { Applied 1 { Origination 0x00000000000000000000000000000000000000000001 0x01000000000000000100000000000000000000000000 0 } }\nGroup 2 { Applied 8 { Transfer 0x00000000000000000000000000000000000000000001 0x01000000000000000100000000000000000000000000 7 Unit {} } }\nGroup 3 { Failed 0 OutOfGas }\nAccount 0x000000000000000000000000000000000000000001 993 {}\nContract 0x01000000000000000100000000000000000000000000 7 7\nFees 0\nSupply 1000\n",
+        "Chain 0x7a06a770 9 1700;Account 0x000000000000000000000000000000000000000001 1000;Group \
+            0x000000000000000000000000000000000000000001 { Originate 0 1 0 { parameter unit; storage mutez; code { DROP ; BALANCE ; NIL \
+            operation ; PAIR } } 0 };Group 0x000000000000000000000000000000000000000001 { Call 0 8 7 \
+            0x01000000000000000100000000000000000000000000 \"default\" Unit };\
+            Group 0x000000000000000000000000000000000000000001 { Call 0 7 7 0x01000000000000000100000000000000000000000000 \"default\" \
+            Unit }",
+        "Group 1 { Applied 1 { Origination 0x00000000000000000000000000000000000000000001 0x01000000000000000100000000000000000000000000 0 \
+            } }\n\
+            Group 2 { Applied 8 { Transfer 0x00000000000000000000000000000000000000000001 0x01000000000000000100000000000000000000000000 7 \
+            Unit {} } }\nGroup 3 { Failed 0 OutOfGas }\nAccount 0x000000000000000000000000000000000000000001 993 {}\n\
+            Contract 0x01000000000000000100000000000000000000000000 7 7\nFees 0\nSupply 1000\n",
     ),
     (
-        "Chain 0x7a06a770 9 1700;Account 0x000000000000000000000000000000000000000001 1000;Group 0x000000000000000000000000000000000000000001 { Originate 0 1 0 { parameter key_hash; storage mutez; code { CAR ; IMPLICIT_ACCOUNT ; PUSH mutez 5 ; UNIT ; TRANSFER_TOKENS ; NIL operation ; SWAP ; CONS ; PUSH mutez 9 ; SWAP ; PAIR } } 0 };Group 0x000000000000000000000000000000000000000001 { Call 0 15 7 0x01000000000000000100000000000000000000000000 \"default\" 0x000000000000000000000000000000000000000002 };Group 0x000000000000000000000000000000000000000001 { Call 0 14 7 0x01000000000000000100000000000000000000000000 \"default\" 0x000000000000000000000000000000000000000002 }",
-        "Group 1 { Applied 1 { Origination 0x00000000000000000000000000000000000000000001 0x01000000000000000100000000000000000000000000 0 } }\nGroup 2 { Applied 15 { Transfer 0x00000000000000000000000000000000000000000001 0x01000000000000000100000000000000000000000000 7 0x000000000000000000000000000000000000000002 {} ; Transfer 0x01000000000000000100000000000000000000000000 0x00000000000000000000000000000000000000000002 5 Unit {} } }\nGroup 3 { Failed 1 OutOfGas }\nAccount 0x000000000000000000000000000000000000000001 993 {}\nAccount 0x000000000000000000000000000000000000000002 5 {}\nContract 0x01000000000000000100000000000000000000000000 2 9\nFees 0\nSupply 1000\n",
+        "Chain 0x7a06a770 9 1700;Account 0x000000000000000000000000000000000000000001 1000;Group \
+            0x000000000000000000000000000000000000000001 { Originate 0 1 0 { parameter key_hash; storage mutez; code { CAR ; \
+            IMPLICIT_ACCOUNT ; PUSH mutez 5 ; UNIT ; TRANSFER_TOKENS ; NIL operation ; SWAP ; CONS ; PUSH mutez 9 ; SWAP ; PAIR } } 0 };\
+            Group 0x000000000000000000000000000000000000000001 { Call 0 15 7 0x01000000000000000100000000000000000000000000 \"default\" \
+            0x000000000000000000000000000000000000000002 };\
+            Group 0x000000000000000000000000000000000000000001 { Call 0 14 7 0x01000000000000000100000000000000000000000000 \"default\" \
+            0x000000000000000000000000000000000000000002 }",
+        "Group 1 { Applied 1 { Origination 0x00000000000000000000000000000000000000000001 0x01000000000000000100000000000000000000000000 0 \
+            } }\n\
+            Group 2 { Applied 15 { Transfer 0x00000000000000000000000000000000000000000001 0x01000000000000000100000000000000000000000000 \
+            7 0x000000000000000000000000000000000000000002 {} ; Transfer 0x01000000000000000100000000000000000000000000 \
+            0x00000000000000000000000000000000000000000002 5 Unit {} } }\nGroup 3 { Failed 1 OutOfGas }\n\
+            Account 0x000000000000000000000000000000000000000001 993 {}\nAccount 0x000000000000000000000000000000000000000002 5 {}\n\
+            Contract 0x01000000000000000100000000000000000000000000 2 9\nFees 0\nSupply 1000\n",
     ),
     (
-        "Chain 0x7a06a770 9 1700;Account 0x000000000000000000000000000000000000000001 1000;Group 0x000000000000000000000000000000000000000001 { Originate 0 1 0 { parameter nat; storage nat; code { CAR ; DUP ; EMIT %sum ; NIL operation ; SWAP ; CONS ; PAIR } } 0 };Group 0x000000000000000000000000000000000000000001 { Call 0 10 0 0x01000000000000000100000000000000000000000000 \"default\" 4 };Group 0x000000000000000000000000000000000000000001 { Call 0 9 0 0x01000000000000000100000000000000000000000000 \"default\" 4 }",
-        "Group 1 { Applied 1 { Origination 0x00000000000000000000000000000000000000000001 0x01000000000000000100000000000000000000000000 0 } }\nGroup 2 { Applied 10 { Transfer 0x00000000000000000000000000000000000000000001 0x01000000000000000100000000000000000000000000 0 4 {} ; Event 0x01000000000000000100000000000000000000000000 \"sum\" nat 4 } }\nGroup 3 { Failed 1 OutOfGas }\nAccount 0x000000000000000000000000000000000000000001 1000 {}\nContract 0x01000000000000000100000000000000000000000000 0 4\nFees 0\nSupply 1000\n",
+        "Chain 0x7a06a770 9 1700;Account 0x000000000000000000000000000000000000000001 1000;Group \
+            0x000000000000000000000000000000000000000001 { Originate 0 1 0 { parameter nat; storage nat; code { CAR ; DUP ; EMIT %sum ; \
+            NIL operation ; SWAP ; CONS ; PAIR } } 0 };\
+            Group 0x000000000000000000000000000000000000000001 { Call 0 10 0 0x01000000000000000100000000000000000000000000 \"default\" 4 \
+            };Group 0x000000000000000000000000000000000000000001 { Call 0 9 0 0x01000000000000000100000000000000000000000000 \"default\" 4 \
+            }",
+        "Group 1 { Applied 1 { Origination 0x00000000000000000000000000000000000000000001 0x01000000000000000100000000000000000000000000 0 \
+            } }\n\
+            Group 2 { Applied 10 { Transfer 0x00000000000000000000000000000000000000000001 0x01000000000000000100000000000000000000000000 \
+            0 4 {} ; Event 0x01000000000000000100000000000000000000000000 \"sum\" nat 4 } }\nGroup 3 { Failed 1 OutOfGas }\n\
+            Account 0x000000000000000000000000000000000000000001 1000 {}\nContract 0x01000000000000000100000000000000000000000000 0 4\n\
+            Fees 0\nSupply 1000\n",
     ),
     (
-        "Chain 0x7a06a770 9 1700;Account 0x000000000000000000000000000000000000000001 1000;Group 0x000000000000000000000000000000000000000001 { Originate 0 1 0 { parameter nat; storage nat; code { CAR ; DUP ; EMIT nat ; NIL operation ; SWAP ; CONS ; PAIR } } 0 };Group 0x000000000000000000000000000000000000000001 { Call 0 10 0 0x01000000000000000100000000000000000000000000 \"default\" 4 };Group 0x000000000000000000000000000000000000000001 { Call 0 9 0 0x01000000000000000100000000000000000000000000 \"default\" 4 }",
-        "Group 1 { Applied 1 { Origination 0x00000000000000000000000000000000000000000001 0x01000000000000000100000000000000000000000000 0 } }\nGroup 2 { Applied 10 { Transfer 0x00000000000000000000000000000000000000000001 0x01000000000000000100000000000000000000000000 0 4 {} ; Event 0x01000000000000000100000000000000000000000000 \"\" nat 4 } }\nGroup 3 { Failed 1 OutOfGas }\nAccount 0x000000000000000000000000000000000000000001 1000 {}\nContract 0x01000000000000000100000000000000000000000000 0 4\nFees 0\nSupply 1000\n",
+        "Chain 0x7a06a770 9 1700;Account 0x000000000000000000000000000000000000000001 1000;Group \
+            0x000000000000000000000000000000000000000001 { Originate 0 1 0 { parameter nat; storage nat; code { CAR ; DUP ; EMIT nat ; NIL \
+            operation ; SWAP ; CONS ; PAIR } } 0 };\
+            Group 0x000000000000000000000000000000000000000001 { Call 0 10 0 0x01000000000000000100000000000000000000000000 \"default\" 4 \
+            };Group 0x000000000000000000000000000000000000000001 { Call 0 9 0 0x01000000000000000100000000000000000000000000 \"default\" 4 \
+            }",
+        "Group 1 { Applied 1 { Origination 0x00000000000000000000000000000000000000000001 0x01000000000000000100000000000000000000000000 0 \
+            } }\n\
+            Group 2 { Applied 10 { Transfer 0x00000000000000000000000000000000000000000001 0x01000000000000000100000000000000000000000000 \
+            0 4 {} ; Event 0x01000000000000000100000000000000000000000000 \"\" nat 4 } }\nGroup 3 { Failed 1 OutOfGas }\n\
+            Account 0x000000000000000000000000000000000000000001 1000 {}\nContract 0x01000000000000000100000000000000000000000000 0 4\n\
+            Fees 0\nSupply 1000\n",
     ),
     (
-        "Chain 0x7a06a770 9 1700;Account 0x000000000000000000000000000000000000000001 1000;Group 0x000000000000000000000000000000000000000001 { Originate 0 1 0 { parameter nat; storage address; code { CAR ; PUSH mutez 3 ; NONE key_hash ; CREATE_CONTRACT { parameter unit ; storage nat ; code { CDR ; NIL operation ; PAIR } } ; NIL operation ; SWAP ; CONS ; PAIR } } 0x00000000000000000000000000000000000000000001 };Group 0x000000000000000000000000000000000000000001 { Call 0 11 5 0x01000000000000000100000000000000000000000000 \"default\" 4 };Group 0x000000000000000000000000000000000000000001 { Call 0 10 5 0x01000000000000000100000000000000000000000000 \"default\" 4 }",
-        "Group 1 { Applied 1 { Origination 0x00000000000000000000000000000000000000000001 0x01000000000000000100000000000000000000000000 0 } }\nGroup 2 { Applied 11 { Transfer 0x00000000000000000000000000000000000000000001 0x01000000000000000100000000000000000000000000 5 4 {} ; Origination 0x01000000000000000100000000000000000000000000 0x01000000000000000200000000000000000000000000 3 } }\nGroup 3 { Failed 1 OutOfGas }\nAccount 0x000000000000000000000000000000000000000001 995 {}\nContract 0x01000000000000000100000000000000000000000000 2 0x01000000000000000200000000000000000000000000\nContract 0x01000000000000000200000000000000000000000000 3 4\nFees 0\nSupply 1000\n",
+        "Chain 0x7a06a770 9 1700;Account 0x000000000000000000000000000000000000000001 1000;Group \
+            0x000000000000000000000000000000000000000001 { Originate 0 1 0 { parameter nat; storage address; code { CAR ; PUSH mutez 3 ; \
+            NONE key_hash ; CREATE_CONTRACT { parameter unit ; storage nat ; code { CDR ; NIL operation ; PAIR } } ; NIL operation ; SWAP \
+            ; CONS ; PAIR } } 0x00000000000000000000000000000000000000000001 };\
+            Group 0x000000000000000000000000000000000000000001 { Call 0 11 5 0x01000000000000000100000000000000000000000000 \"default\" 4 \
+            };Group 0x000000000000000000000000000000000000000001 { Call 0 10 5 0x01000000000000000100000000000000000000000000 \"default\" \
+            4 }",
+        "Group 1 { Applied 1 { Origination 0x00000000000000000000000000000000000000000001 0x01000000000000000100000000000000000000000000 0 \
+            } }\n\
+            Group 2 { Applied 11 { Transfer 0x00000000000000000000000000000000000000000001 0x01000000000000000100000000000000000000000000 \
+            5 4 {} ; Origination 0x01000000000000000100000000000000000000000000 0x01000000000000000200000000000000000000000000 3 } }\n\
+            Group 3 { Failed 1 OutOfGas }\nAccount 0x000000000000000000000000000000000000000001 995 {}\n\
+            Contract 0x01000000000000000100000000000000000000000000 2 0x01000000000000000200000000000000000000000000\n\
+            Contract 0x01000000000000000200000000000000000000000000 3 4\nFees 0\nSupply 1000\n",
     ),
     (
-        "Chain 0x7a06a770 9 1700;Account 0x000000000000000000000000000000000000000001 1000;Group 0x000000000000000000000000000000000000000001 { Originate 0 1 0 { parameter nat; storage address; code { CAR ; PUSH mutez 0 ; PUSH key_hash 0x000000000000000000000000000000000000000001 ; SOME ; CREATE_CONTRACT { parameter unit ; storage nat ; code { CDR ; NIL operation ; PAIR } } ; NIL operation ; SWAP ; CONS ; PAIR } } 0x00000000000000000000000000000000000000000001 };Group 0x000000000000000000000000000000000000000001 { Call 0 13 0 0x01000000000000000100000000000000000000000000 \"default\" 4 };Group 0x000000000000000000000000000000000000000001 { Call 0 12 0 0x01000000000000000100000000000000000000000000 \"default\" 4 }",
-        "Group 1 { Applied 1 { Origination 0x00000000000000000000000000000000000000000001 0x01000000000000000100000000000000000000000000 0 } }\nGroup 2 { Failed 1 UnregisteredDelegate }\nGroup 3 { Failed 1 OutOfGas }\nAccount 0x000000000000000000000000000000000000000001 1000 {}\nContract 0x01000000000000000100000000000000000000000000 0 0x00000000000000000000000000000000000000000001\nFees 0\nSupply 1000\n",
+        "Chain 0x7a06a770 9 1700;Account 0x000000000000000000000000000000000000000001 1000;Group \
+            0x000000000000000000000000000000000000000001 { Originate 0 1 0 { parameter nat; storage address; code { CAR ; PUSH mutez 0 ; \
+            PUSH key_hash 0x000000000000000000000000000000000000000001 ; SOME ; CREATE_CONTRACT { parameter unit ; storage nat ; code { \
+            CDR ; NIL operation ; PAIR } } ; NIL operation ; SWAP ; CONS ; PAIR } } 0x00000000000000000000000000000000000000000001 };\
+            Group 0x000000000000000000000000000000000000000001 { Call 0 13 0 0x01000000000000000100000000000000000000000000 \"default\" 4 \
+            };Group 0x000000000000000000000000000000000000000001 { Call 0 12 0 0x01000000000000000100000000000000000000000000 \"default\" \
+            4 }",
+        "Group 1 { Applied 1 { Origination 0x00000000000000000000000000000000000000000001 0x01000000000000000100000000000000000000000000 0 \
+            } }\nGroup 2 { Failed 1 UnregisteredDelegate }\nGroup 3 { Failed 1 OutOfGas }\n\
+            Account 0x000000000000000000000000000000000000000001 1000 {}\n\
+            Contract 0x01000000000000000100000000000000000000000000 0 0x00000000000000000000000000000000000000000001\nFees 0\n\
+            Supply 1000\n",
     ),
     (
-        "Chain 0x7a06a770 9 1700;Account 0x000000000000000000000000000000000000000001 1000;Group 0x000000000000000000000000000000000000000001 { Originate 0 1 0 { parameter nat; storage (option nat); code { CAR ; SELF_ADDRESS ; SWAP ; VIEW \"twice\" nat ; NIL operation ; PAIR } ; view \"twice\" nat nat { CAR ; PUSH nat 2 ; MUL } } None };Group 0x000000000000000000000000000000000000000001 { Call 0 11 0 0x01000000000000000100000000000000000000000000 \"default\" 4 };Group 0x000000000000000000000000000000000000000001 { Call 0 10 0 0x01000000000000000100000000000000000000000000 \"default\" 4 }",
-        "Group 1 { Applied 1 { Origination 0x00000000000000000000000000000000000000000001 0x01000000000000000100000000000000000000000000 0 } }\nGroup 2 { Applied 11 { Transfer 0x00000000000000000000000000000000000000000001 0x01000000000000000100000000000000000000000000 0 4 {} } }\nGroup 3 { Failed 0 OutOfGas }\nAccount 0x000000000000000000000000000000000000000001 1000 {}\nContract 0x01000000000000000100000000000000000000000000 0 (Some 8)\nFees 0\nSupply 1000\n",
+        "Chain 0x7a06a770 9 1700;Account 0x000000000000000000000000000000000000000001 1000;Group \
+            0x000000000000000000000000000000000000000001 { Originate 0 1 0 { parameter nat; storage (option nat); code { CAR ; \
+            SELF_ADDRESS ; SWAP ; VIEW \"twice\" nat ; NIL operation ; PAIR } ; view \"twice\" nat nat { CAR ; PUSH nat 2 ; MUL } } None };\
+            Group 0x000000000000000000000000000000000000000001 { Call 0 11 0 0x01000000000000000100000000000000000000000000 \"default\" 4 \
+            };Group 0x000000000000000000000000000000000000000001 { Call 0 10 0 0x01000000000000000100000000000000000000000000 \"default\" \
+            4 }",
+        "Group 1 { Applied 1 { Origination 0x00000000000000000000000000000000000000000001 0x01000000000000000100000000000000000000000000 0 \
+            } }\n\
+            Group 2 { Applied 11 { Transfer 0x00000000000000000000000000000000000000000001 0x01000000000000000100000000000000000000000000 \
+            0 4 {} } }\nGroup 3 { Failed 0 OutOfGas }\nAccount 0x000000000000000000000000000000000000000001 1000 {}\n\
+            Contract 0x01000000000000000100000000000000000000000000 0 (Some 8)\nFees 0\nSupply 1000\n",
     ),
     (
-        "Chain 0x7a06a770 9 1700;Account 0x000000000000000000000000000000000000000001 1000;Group 0x000000000000000000000000000000000000000001 { Originate 0 1 0 { parameter nat; storage (option nat); code { CAR ; SELF_ADDRESS ; SWAP ; VIEW \"thrice\" nat ; NIL operation ; PAIR } ; view \"twice\" nat nat { CAR ; PUSH nat 2 ; MUL } } (Some 1) };Group 0x000000000000000000000000000000000000000001 { Call 0 7 0 0x01000000000000000100000000000000000000000000 \"default\" 4 };Group 0x000000000000000000000000000000000000000001 { Call 0 6 0 0x01000000000000000100000000000000000000000000 \"default\" 4 }",
-        "Group 1 { Applied 1 { Origination 0x00000000000000000000000000000000000000000001 0x01000000000000000100000000000000000000000000 0 } }\nGroup 2 { Applied 7 { Transfer 0x00000000000000000000000000000000000000000001 0x01000000000000000100000000000000000000000000 0 4 {} } }\nGroup 3 { Failed 0 OutOfGas }\nAccount 0x000000000000000000000000000000000000000001 1000 {}\nContract 0x01000000000000000100000000000000000000000000 0 None\nFees 0\nSupply 1000\n",
+        "Chain 0x7a06a770 9 1700;Account 0x000000000000000000000000000000000000000001 1000;Group \
+            0x000000000000000000000000000000000000000001 { Originate 0 1 0 { parameter nat; storage (option nat); code { CAR ; \
+            SELF_ADDRESS ; SWAP ; VIEW \"thrice\" nat ; NIL operation ; PAIR } ; view \"twice\" nat nat { CAR ; PUSH nat 2 ; MUL } } (Some \
+            1) };Group 0x000000000000000000000000000000000000000001 { Call 0 7 0 0x01000000000000000100000000000000000000000000 \
+            \"default\" 4 };Group 0x000000000000000000000000000000000000000001 { Call 0 6 0 0x01000000000000000100000000000000000000000000 \
+            \"default\" 4 }",
+        "Group 1 { Applied 1 { Origination 0x00000000000000000000000000000000000000000001 0x01000000000000000100000000000000000000000000 0 \
+            } }\n\
+            Group 2 { Applied 7 { Transfer 0x00000000000000000000000000000000000000000001 0x01000000000000000100000000000000000000000000 0 \
+            4 {} } }\nGroup 3 { Failed 0 OutOfGas }\nAccount 0x000000000000000000000000000000000000000001 1000 {}\n\
+            Contract 0x01000000000000000100000000000000000000000000 0 None\nFees 0\nSupply 1000\n",
     ),
     (
-        "Chain 0x7a06a770 9 1700;Account 0x000000000000000000000000000000000000000001 1000;Group 0x000000000000000000000000000000000000000001 { Originate 0 1 0 { parameter nat; storage (option nat); code { CAR ; SELF_ADDRESS ; SWAP ; VIEW \"twice\" nat ; NIL operation ; PAIR } ; view \"twice\" nat nat { CAR ; FAILWITH } } None };Group 0x000000000000000000000000000000000000000001 { Call 0 7 0 0x01000000000000000100000000000000000000000000 \"default\" 4 };Group 0x000000000000000000000000000000000000000001 { Call 0 6 0 0x01000000000000000100000000000000000000000000 \"default\" 4 }",
-        "Group 1 { Applied 1 { Origination 0x00000000000000000000000000000000000000000001 0x01000000000000000100000000000000000000000000 0 } }\nGroup 2 { Failed 0 (FailedWith nat 4) }\nGroup 3 { Failed 0 OutOfGas }\nAccount 0x000000000000000000000000000000000000000001 1000 {}\nContract 0x01000000000000000100000000000000000000000000 0 None\nFees 0\nSupply 1000\n",
+        "Chain 0x7a06a770 9 1700;Account 0x000000000000000000000000000000000000000001 1000;Group \
+            0x000000000000000000000000000000000000000001 { Originate 0 1 0 { parameter nat; storage (option nat); code { CAR ; \
+            SELF_ADDRESS ; SWAP ; VIEW \"twice\" nat ; NIL operation ; PAIR } ; view \"twice\" nat nat { CAR ; FAILWITH } } None };\
+            Group 0x000000000000000000000000000000000000000001 { Call 0 7 0 0x01000000000000000100000000000000000000000000 \"default\" 4 };\
+            Group 0x000000000000000000000000000000000000000001 { Call 0 6 0 0x01000000000000000100000000000000000000000000 \"default\" 4 }",
+        "Group 1 { Applied 1 { Origination 0x00000000000000000000000000000000000000000001 0x01000000000000000100000000000000000000000000 0 \
+            } }\nGroup 2 { Failed 0 (FailedWith nat 4) }\nGroup 3 { Failed 0 OutOfGas }\n\
+            Account 0x000000000000000000000000000000000000000001 1000 {}\nContract 0x01000000000000000100000000000000000000000000 0 None\n\
+            Fees 0\nSupply 1000\n",
     ),
     (
-        "Chain 0x7a06a770 9 1700;Account 0x000000000000000000000000000000000000000001 1000;Group 0x000000000000000000000000000000000000000001 { Originate 0 1 0 { parameter nat; storage (option (ticket string)); code { CAR ; PUSH string \"a\" ; TICKET ; NIL operation ; PAIR } } None };Group 0x000000000000000000000000000000000000000001 { Call 0 7 0 0x01000000000000000100000000000000000000000000 \"default\" 5 };Group 0x000000000000000000000000000000000000000001 { Call 0 6 0 0x01000000000000000100000000000000000000000000 \"default\" 5 }",
-        "Group 1 { Applied 1 { Origination 0x00000000000000000000000000000000000000000001 0x01000000000000000100000000000000000000000000 0 } }\nGroup 2 { Applied 7 { Transfer 0x00000000000000000000000000000000000000000001 0x01000000000000000100000000000000000000000000 0 5 { Minted 0x01000000000000000100000000000000000000000000 string \"a\" 5 } } }\nGroup 3 { Failed 0 OutOfGas }\nAccount 0x000000000000000000000000000000000000000001 1000 {}\nContract 0x01000000000000000100000000000000000000000000 0 (Some (Ticket 0x01000000000000000100000000000000000000000000 string \"a\" 5))\nTickets 0x01000000000000000100000000000000000000000000 string \"a\" 5 0 5\nFees 0\nSupply 1000\n",
+        "Chain 0x7a06a770 9 1700;Account 0x000000000000000000000000000000000000000001 1000;Group \
+            0x000000000000000000000000000000000000000001 { Originate 0 1 0 { parameter nat; storage (option (ticket string)); code { CAR ; \
+            PUSH string \"a\" ; TICKET ; NIL operation ; PAIR } } None };\
+            Group 0x000000000000000000000000000000000000000001 { Call 0 7 0 0x01000000000000000100000000000000000000000000 \"default\" 5 };\
+            Group 0x000000000000000000000000000000000000000001 { Call 0 6 0 0x01000000000000000100000000000000000000000000 \"default\" 5 }",
+        "Group 1 { Applied 1 { Origination 0x00000000000000000000000000000000000000000001 0x01000000000000000100000000000000000000000000 0 \
+            } }\n\
+            Group 2 { Applied 7 { Transfer 0x00000000000000000000000000000000000000000001 0x01000000000000000100000000000000000000000000 0 \
+            5 { Minted 0x01000000000000000100000000000000000000000000 string \"a\" 5 } } }\nGroup 3 { Failed 0 OutOfGas }\n\
+            Account 0x000000000000000000000000000000000000000001 1000 {}\n\
+            Contract 0x01000000000000000100000000000000000000000000 0 (Some (Ticket 0x01000000000000000100000000000000000000000000 string \
+            \"a\" 5))\nTickets 0x01000000000000000100000000000000000000000000 string \"a\" 5 0 5\nFees 0\nSupply 1000\n",
     ),
     (
-        "Chain 0x7a06a770 9 1700;Account 0x000000000000000000000000000000000000000001 1000;Group 0x000000000000000000000000000000000000000001 { Originate 0 1 0 { parameter nat; storage (pair (pair address string nat) (option (ticket string))); code { CAR ; PUSH string \"a\" ; TICKET ; IF_NONE { UNIT ; FAILWITH } {} ; READ_TICKET ; DIP { SOME } ; PAIR ; NIL operation ; PAIR } } (Pair (Pair 0x01000000000000000100000000000000000000000000 \"\" 0) None) };Group 0x000000000000000000000000000000000000000001 { Call 0 12 0 0x01000000000000000100000000000000000000000000 \"default\" 5 };Group 0x000000000000000000000000000000000000000001 { Call 0 11 0 0x01000000000000000100000000000000000000000000 \"default\" 5 }",
-        "Group 1 { Applied 1 { Origination 0x00000000000000000000000000000000000000000001 0x01000000000000000100000000000000000000000000 0 } }\nGroup 2 { Applied 12 { Transfer 0x00000000000000000000000000000000000000000001 0x01000000000000000100000000000000000000000000 0 5 { Minted 0x01000000000000000100000000000000000000000000 string \"a\" 5 } } }\nGroup 3 { Failed 0 OutOfGas }\nAccount 0x000000000000000000000000000000000000000001 1000 {}\nContract 0x01000000000000000100000000000000000000000000 0 (Pair (Pair 0x01000000000000000100000000000000000000000000 (Pair \"a\" 5)) (Some (Ticket 0x01000000000000000100000000000000000000000000 string \"a\" 5)))\nTickets 0x01000000000000000100000000000000000000000000 string \"a\" 5 0 5\nFees 0\nSupply 1000\n",
+        "Chain 0x7a06a770 9 1700;Account 0x000000000000000000000000000000000000000001 1000;Group \
+            0x000000000000000000000000000000000000000001 { Originate 0 1 0 { parameter nat; storage (pair (pair address string nat) \
+            (option (ticket string))); code { CAR ; PUSH string \"a\" ; TICKET ; IF_NONE { UNIT ; FAILWITH } {} ; READ_TICKET ; DIP { SOME \
+            } ; PAIR ; NIL operation ; PAIR } } (Pair (Pair 0x01000000000000000100000000000000000000000000 \"\" 0) None) };\
+            Group 0x000000000000000000000000000000000000000001 { Call 0 12 0 0x01000000000000000100000000000000000000000000 \"default\" 5 \
+            };Group 0x000000000000000000000000000000000000000001 { Call 0 11 0 0x01000000000000000100000000000000000000000000 \"default\" \
+            5 }",
+        "Group 1 { Applied 1 { Origination 0x00000000000000000000000000000000000000000001 0x01000000000000000100000000000000000000000000 0 \
+            } }\n\
+            Group 2 { Applied 12 { Transfer 0x00000000000000000000000000000000000000000001 0x01000000000000000100000000000000000000000000 \
+            0 5 { Minted 0x01000000000000000100000000000000000000000000 string \"a\" 5 } } }\nGroup 3 { Failed 0 OutOfGas }\n\
+            Account 0x000000000000000000000000000000000000000001 1000 {}\n\
+            Contract 0x01000000000000000100000000000000000000000000 0 (Pair (Pair 0x01000000000000000100000000000000000000000000 (Pair \
+            \"a\" 5)) (Some (Ticket 0x01000000000000000100000000000000000000000000 string \"a\" 5)))\n\
+            Tickets 0x01000000000000000100000000000000000000000000 string \"a\" 5 0 5\nFees 0\nSupply 1000\n",
     ),
     (
-        "Chain 0x7a06a770 9 1700;Account 0x000000000000000000000000000000000000000001 1000;Group 0x000000000000000000000000000000000000000001 { Originate 0 1 0 { parameter nat; storage (option (pair (ticket string) (ticket string))); code { CAR ; PUSH string \"a\" ; TICKET ; IF_NONE { UNIT ; FAILWITH } {} ; PUSH (pair nat nat) (Pair 2 3) ; SWAP ; SPLIT_TICKET ; NIL operation ; PAIR } } None };Group 0x000000000000000000000000000000000000000001 { Call 0 14 0 0x01000000000000000100000000000000000000000000 \"default\" 5 };Group 0x000000000000000000000000000000000000000001 { Call 0 13 0 0x01000000000000000100000000000000000000000000 \"default\" 5 }",
-        "Group 1 { Applied 1 { Origination 0x00000000000000000000000000000000000000000001 0x01000000000000000100000000000000000000000000 0 } }\nGroup 2 { Applied 14 { Transfer 0x00000000000000000000000000000000000000000001 0x01000000000000000100000000000000000000000000 0 5 { Minted 0x01000000000000000100000000000000000000000000 string \"a\" 5 } } }\nGroup 3 { Failed 0 OutOfGas }\nAccount 0x000000000000000000000000000000000000000001 1000 {}\nContract 0x01000000000000000100000000000000000000000000 0 (Some (Pair (Ticket 0x01000000000000000100000000000000000000000000 string \"a\" 2) (Ticket 0x01000000000000000100000000000000000000000000 string \"a\" 3)))\nTickets 0x01000000000000000100000000000000000000000000 string \"a\" 5 0 5\nFees 0\nSupply 1000\n",
+        "Chain 0x7a06a770 9 1700;Account 0x000000000000000000000000000000000000000001 1000;Group \
+            0x000000000000000000000000000000000000000001 { Originate 0 1 0 { parameter nat; storage (option (pair (ticket string) (ticket \
+            string))); code { CAR ; PUSH string \"a\" ; TICKET ; IF_NONE { UNIT ; FAILWITH } {} ; PUSH (pair nat nat) (Pair 2 3) ; SWAP ; \
+            SPLIT_TICKET ; NIL operation ; PAIR } } None };\
+            Group 0x000000000000000000000000000000000000000001 { Call 0 14 0 0x01000000000000000100000000000000000000000000 \"default\" 5 \
+            };Group 0x000000000000000000000000000000000000000001 { Call 0 13 0 0x01000000000000000100000000000000000000000000 \"default\" \
+            5 }",
+        "Group 1 { Applied 1 { Origination 0x00000000000000000000000000000000000000000001 0x01000000000000000100000000000000000000000000 0 \
+            } }\n\
+            Group 2 { Applied 14 { Transfer 0x00000000000000000000000000000000000000000001 0x01000000000000000100000000000000000000000000 \
+            0 5 { Minted 0x01000000000000000100000000000000000000000000 string \"a\" 5 } } }\nGroup 3 { Failed 0 OutOfGas }\n\
+            Account 0x000000000000000000000000000000000000000001 1000 {}\n\
+            Contract 0x01000000000000000100000000000000000000000000 0 (Some (Pair (Ticket 0x01000000000000000100000000000000000000000000 \
+            string \"a\" 2) (Ticket 0x01000000000000000100000000000000000000000000 string \"a\" 3)))\n\
+            Tickets 0x01000000000000000100000000000000000000000000 string \"a\" 5 0 5\nFees 0\nSupply 1000\n",
     ),
     (
-        "Chain 0x7a06a770 9 1700;Account 0x000000000000000000000000000000000000000001 1000;Group 0x000000000000000000000000000000000000000001 { Originate 0 1 0 { parameter nat; storage (option (pair (ticket string) (ticket string))); code { CAR ; PUSH string \"a\" ; TICKET ; IF_NONE { UNIT ; FAILWITH } {} ; PUSH (pair nat nat) (Pair 2 4) ; SWAP ; SPLIT_TICKET ; NIL operation ; PAIR } } None };Group 0x000000000000000000000000000000000000000001 { Call 0 14 0 0x01000000000000000100000000000000000000000000 \"default\" 5 };Group 0x000000000000000000000000000000000000000001 { Call 0 13 0 0x01000000000000000100000000000000000000000000 \"default\" 5 }",
-        "Group 1 { Applied 1 { Origination 0x00000000000000000000000000000000000000000001 0x01000000000000000100000000000000000000000000 0 } }\nGroup 2 { Applied 14 { Transfer 0x00000000000000000000000000000000000000000001 0x01000000000000000100000000000000000000000000 0 5 { Minted 0x01000000000000000100000000000000000000000000 string \"a\" 5 ; Burnt 0x01000000000000000100000000000000000000000000 string \"a\" 5 } } }\nGroup 3 { Failed 0 OutOfGas }\nAccount 0x000000000000000000000000000000000000000001 1000 {}\nContract 0x01000000000000000100000000000000000000000000 0 None\nTickets 0x01000000000000000100000000000000000000000000 string \"a\" 5 5 0\nFees 0\nSupply 1000\n",
+        "Chain 0x7a06a770 9 1700;Account 0x000000000000000000000000000000000000000001 1000;Group \
+            0x000000000000000000000000000000000000000001 { Originate 0 1 0 { parameter nat; storage (option (pair (ticket string) (ticket \
+            string))); code { CAR ; PUSH string \"a\" ; TICKET ; IF_NONE { UNIT ; FAILWITH } {} ; PUSH (pair nat nat) (Pair 2 4) ; SWAP ; \
+            SPLIT_TICKET ; NIL operation ; PAIR } } None };\
+            Group 0x000000000000000000000000000000000000000001 { Call 0 14 0 0x01000000000000000100000000000000000000000000 \"default\" 5 \
+            };Group 0x000000000000000000000000000000000000000001 { Call 0 13 0 0x01000000000000000100000000000000000000000000 \"default\" \
+            5 }",
+        "Group 1 { Applied 1 { Origination 0x00000000000000000000000000000000000000000001 0x01000000000000000100000000000000000000000000 0 \
+            } }\n\
+            Group 2 { Applied 14 { Transfer 0x00000000000000000000000000000000000000000001 0x01000000000000000100000000000000000000000000 \
+            0 5 { Minted 0x01000000000000000100000000000000000000000000 string \"a\" 5 ; Burnt \
+            0x01000000000000000100000000000000000000000000 string \"a\" 5 } } }\nGroup 3 { Failed 0 OutOfGas }\n\
+            Account 0x000000000000000000000000000000000000000001 1000 {}\nContract 0x01000000000000000100000000000000000000000000 0 None\n\
+            Tickets 0x01000000000000000100000000000000000000000000 string \"a\" 5 5 0\nFees 0\nSupply 1000\n",
     ),
     (
-        "Chain 0x7a06a770 9 1700;Account 0x000000000000000000000000000000000000000001 1000;Group 0x000000000000000000000000000000000000000001 { Originate 0 1 0 { parameter nat; storage (option (ticket string)); code { CAR ; DUP ; PUSH string \"a\" ; TICKET ; IF_NONE { UNIT ; FAILWITH } {} ; SWAP ; PUSH string \"a\" ; TICKET ; IF_NONE { UNIT ; FAILWITH } {} ; PAIR ; JOIN_TICKETS ; NIL operation ; PAIR } } None };Group 0x000000000000000000000000000000000000000001 { Call 0 17 0 0x01000000000000000100000000000000000000000000 \"default\" 5 };Group 0x000000000000000000000000000000000000000001 { Call 0 16 0 0x01000000000000000100000000000000000000000000 \"default\" 5 }",
-        "Group 1 { Applied 1 { Origination 0x00000000000000000000000000000000000000000001 0x01000000000000000100000000000000000000000000 0 } }\nGroup 2 { Applied 17 { Transfer 0x00000000000000000000000000000000000000000001 0x01000000000000000100000000000000000000000000 0 5 { Minted 0x01000000000000000100000000000000000000000000 string \"a\" 5 ; Minted 0x01000000000000000100000000000000000000000000 string \"a\" 5 } } }\nGroup 3 { Failed 0 OutOfGas }\nAccount 0x000000000000000000000000000000000000000001 1000 {}\nContract 0x01000000000000000100000000000000000000000000 0 (Some (Ticket 0x01000000000000000100000000000000000000000000 string \"a\" 10))\nTickets 0x01000000000000000100000000000000000000000000 string \"a\" 10 0 10\nFees 0\nSupply 1000\n",
+        "Chain 0x7a06a770 9 1700;Account 0x000000000000000000000000000000000000000001 1000;Group \
+            0x000000000000000000000000000000000000000001 { Originate 0 1 0 { parameter nat; storage (option (ticket string)); code { CAR ; \
+            DUP ; PUSH string \"a\" ; TICKET ; IF_NONE { UNIT ; FAILWITH } {} ; SWAP ; PUSH string \"a\" ; TICKET ; IF_NONE { UNIT ; \
+            FAILWITH } {} ; PAIR ; JOIN_TICKETS ; NIL operation ; PAIR } } None };\
+            Group 0x000000000000000000000000000000000000000001 { Call 0 17 0 0x01000000000000000100000000000000000000000000 \"default\" 5 \
+            };Group 0x000000000000000000000000000000000000000001 { Call 0 16 0 0x01000000000000000100000000000000000000000000 \"default\" \
+            5 }",
+        "Group 1 { Applied 1 { Origination 0x00000000000000000000000000000000000000000001 0x01000000000000000100000000000000000000000000 0 \
+            } }\n\
+            Group 2 { Applied 17 { Transfer 0x00000000000000000000000000000000000000000001 0x01000000000000000100000000000000000000000000 \
+            0 5 { Minted 0x01000000000000000100000000000000000000000000 string \"a\" 5 ; Minted \
+            0x01000000000000000100000000000000000000000000 string \"a\" 5 } } }\nGroup 3 { Failed 0 OutOfGas }\n\
+            Account 0x000000000000000000000000000000000000000001 1000 {}\n\
+            Contract 0x01000000000000000100000000000000000000000000 0 (Some (Ticket 0x01000000000000000100000000000000000000000000 string \
+            \"a\" 10))\nTickets 0x01000000000000000100000000000000000000000000 string \"a\" 10 0 10\nFees 0\nSupply 1000\n",
     ),
     (
-        "Chain 0x7a06a770 9 1700;Account 0x000000000000000000000000000000000000000001 1000;Group 0x000000000000000000000000000000000000000001 { Originate 0 1 0 { parameter nat; storage (option (ticket string)); code { CAR ; DUP ; PUSH string \"a\" ; TICKET ; IF_NONE { UNIT ; FAILWITH } {} ; SWAP ; PUSH string \"b\" ; TICKET ; IF_NONE { UNIT ; FAILWITH } {} ; PAIR ; JOIN_TICKETS ; NIL operation ; PAIR } } None };Group 0x000000000000000000000000000000000000000001 { Call 0 17 0 0x01000000000000000100000000000000000000000000 \"default\" 5 };Group 0x000000000000000000000000000000000000000001 { Call 0 16 0 0x01000000000000000100000000000000000000000000 \"default\" 5 }",
-        "Group 1 { Applied 1 { Origination 0x00000000000000000000000000000000000000000001 0x01000000000000000100000000000000000000000000 0 } }\nGroup 2 { Applied 17 { Transfer 0x00000000000000000000000000000000000000000001 0x01000000000000000100000000000000000000000000 0 5 { Minted 0x01000000000000000100000000000000000000000000 string \"a\" 5 ; Minted 0x01000000000000000100000000000000000000000000 string \"b\" 5 ; Burnt 0x01000000000000000100000000000000000000000000 string \"b\" 5 ; Burnt 0x01000000000000000100000000000000000000000000 string \"a\" 5 } } }\nGroup 3 { Failed 0 OutOfGas }\nAccount 0x000000000000000000000000000000000000000001 1000 {}\nContract 0x01000000000000000100000000000000000000000000 0 None\nTickets 0x01000000000000000100000000000000000000000000 string \"a\" 5 5 0\nTickets 0x01000000000000000100000000000000000000000000 string \"b\" 5 5 0\nFees 0\nSupply 1000\n",
+        "Chain 0x7a06a770 9 1700;Account 0x000000000000000000000000000000000000000001 1000;Group \
+            0x000000000000000000000000000000000000000001 { Originate 0 1 0 { parameter nat; storage (option (ticket string)); code { CAR ; \
+            DUP ; PUSH string \"a\" ; TICKET ; IF_NONE { UNIT ; FAILWITH } {} ; SWAP ; PUSH string \"b\" ; TICKET ; IF_NONE { UNIT ; \
+            FAILWITH } {} ; PAIR ; JOIN_TICKETS ; NIL operation ; PAIR } } None };\
+            Group 0x000000000000000000000000000000000000000001 { Call 0 17 0 0x01000000000000000100000000000000000000000000 \"default\" 5 \
+            };Group 0x000000000000000000000000000000000000000001 { Call 0 16 0 0x01000000000000000100000000000000000000000000 \"default\" \
+            5 }",
+        "Group 1 { Applied 1 { Origination 0x00000000000000000000000000000000000000000001 0x01000000000000000100000000000000000000000000 0 \
+            } }\n\
+            Group 2 { Applied 17 { Transfer 0x00000000000000000000000000000000000000000001 0x01000000000000000100000000000000000000000000 \
+            0 5 { Minted 0x01000000000000000100000000000000000000000000 string \"a\" 5 ; Minted \
+            0x01000000000000000100000000000000000000000000 string \"b\" 5 ; Burnt 0x01000000000000000100000000000000000000000000 string \
+            \"b\" 5 ; Burnt 0x01000000000000000100000000000000000000000000 string \"a\" 5 } } }\nGroup 3 { Failed 0 OutOfGas }\n\
+            Account 0x000000000000000000000000000000000000000001 1000 {}\nContract 0x01000000000000000100000000000000000000000000 0 None\n\
+            Tickets 0x01000000000000000100000000000000000000000000 string \"a\" 5 5 0\n\
+            Tickets 0x01000000000000000100000000000000000000000000 string \"b\" 5 5 0\nFees 0\nSupply 1000\n",
     ),
 ];
 

@@ -1,0 +1,305 @@
+// Calls that come just to a limit, and calls that go one past it (Michelson reference, "Instructions"; the limits are the
+// host's own): bytes of what is packed and joined, nodes and levels of lambdas that capture a value, open blocks, and
+// operations of a group.
+use crate::tests::is_answered;
+use mich_base::Memory;
+use std::alloc::Global;
+use std::test::Fail;
+
+// A contract that leaves a number: the type of its parameter, and its code. It begins with the storage 9.
+type Contract<'a> = (&'a str, &'a str);
+
+// The argument of a call, its gas, and its failure, if it has one.
+type Call<'a> = (&'a str, u64, Option<&'a str>);
+
+// A file in which a contract is made, and called so often.
+fn file(alloc: Global, contract: &Contract<'_>, calls: &[Call<'_>]) -> Result<String, Memory> {
+    let (parameter, code) = contract;
+    let mut file = format!(in alloc;
+        "Chain 0x7a06a770 1 0; Account 0x000000000000000000000000000000000000000001 1000; \
+        Group 0x000000000000000000000000000000000000000001 {{ \
+        Originate 0 1 0 {{ parameter {parameter} ; storage int ; code {{ {code} }} }} 9 }};"
+    )?;
+    for (argument, gas, _) in calls {
+        let group = format!(in alloc;
+            "Group 0x000000000000000000000000000000000000000001 {{ \
+            Call 0 {gas} 0 0x01000000000000000100000000000000000000000000 \"default\" {argument} }};"
+        )?;
+        file.push_str(group.as_str())?;
+    }
+    Ok(file)
+}
+
+// What is to be written of it, where this is left in the end.
+fn lines(alloc: Global, calls: &[Call<'_>], after: &str) -> Result<String, Memory> {
+    let mut lines = String::new(alloc);
+    lines.push_str(
+        "Group 1 { Applied 1 { Origination 0x00000000000000000000000000000000000000000001 \
+        0x01000000000000000100000000000000000000000000 0 } }\n",
+    )?;
+    let mut number: u64 = 1;
+    for (argument, gas, failure) in calls {
+        number = number.saturating_add(1);
+        let line = match failure {
+            None => format!(in alloc;
+                "Group {number} {{ Applied {gas} {{ Transfer 0x00000000000000000000000000000000000000000001 \
+                0x01000000000000000100000000000000000000000000 0 {argument} {{}} }} }}\n"
+            )?,
+            Some(failure) => format!(in alloc; "Group {number} {{ Failed 0 {failure} }}\n")?,
+        };
+        lines.push_str(line.as_str())?;
+    }
+    let end = format!(in alloc;
+        "Account 0x000000000000000000000000000000000000000001 1000 {{}}\n\
+        Contract 0x01000000000000000100000000000000000000000000 0 {after}\nFees 0\nSupply 1000\n"
+    )?;
+    lines.push_str(end.as_str())?;
+    Ok(lines)
+}
+
+// Whether the calls of a contract come to this.
+fn are_answered(
+    alloc: Global,
+    contract: &Contract<'_>,
+    calls: &[Call<'_>],
+    after: &str,
+) -> Result<bool, Memory> {
+    let (file, lines) = (file(alloc, contract, calls)?, lines(alloc, calls, after)?);
+    is_answered(alloc, "replay", file.as_str(), 0, lines.as_str())
+}
+
+// A piece so many times, between a beginning and an end.
+fn repeated(
+    alloc: Global,
+    begin: &str,
+    piece: &str,
+    count: u32,
+    end: &str,
+) -> Result<String, Memory> {
+    let mut text = String::new(alloc);
+    text.push_str(begin)?;
+    for _ in 0..count {
+        text.push_str(piece)?;
+    }
+    text.push_str(end)?;
+    Ok(text)
+}
+
+// Code in so many sequences, each in the one before.
+fn nested(alloc: Global, count: u32, code: &str) -> Result<String, Memory> {
+    let opened = repeated(alloc, "", "{ ", count, code)?;
+    repeated(alloc, opened.as_str(), " }", count, "")
+}
+
+// Code that leaves a string of as many letters as its argument says, at most 1,048,576. With the call it takes 2,097,428
+// units of gas, and one for each letter.
+const LETTERS: &str =
+    "CAR ; PUSH string \"aaaaaaaa\" ; PUSH nat 17 ; DUP ; PUSH nat 0 ; COMPARE ; LT ; \
+    LOOP { DIP { DUP ; CONCAT } ; PUSH nat 1 ; SWAP ; SUB ; ABS ; DUP ; PUSH nat 0 ; COMPARE ; LT } ; DROP ; SWAP ; \
+    PUSH nat 0 ; SLICE ; IF_NONE { UNIT ; FAILWITH } {} ; ";
+
+// What is done with the string, the most letters with which it can be done, one more, and the gas of both calls. Six bytes
+// stand before those of a string that is packed: the byte 5, the tag of a string, and its length in four bytes.
+const LONGEST: [(&str, &str, &str, u64, u64); 3] = [
+    ("PACK", "1048570", "1048571", 4_194_579, 4_194_577),
+    (
+        "PUSH string \"a\" ; CONCAT",
+        "1048575",
+        "1048576",
+        4_194_586,
+        4_194_584,
+    ),
+    (
+        "NIL string ; SWAP ; CONS ; PUSH string \"a\" ; CONS ; CONCAT",
+        "1048575",
+        "1048576",
+        4_194_592,
+        4_194_590,
+    ),
+];
+
+#[test]
+fn bytes_at_their_limit(rt: HostRuntime) -> Result<(), Fail> {
+    let alloc = rt.alloc();
+    for (end, most, more, gas, gas_of_more) in LONGEST {
+        let code = format!(in alloc; "{LETTERS}{end} ; SIZE ; INT ; NIL operation ; PAIR")?;
+        let calls = [
+            (most, gas, None),
+            (most, gas.saturating_sub(1), Some("OutOfGas")),
+            (more, gas_of_more, Some("SizeLimit")),
+            (more, gas_of_more.saturating_sub(1), Some("OutOfGas")),
+        ];
+        assert!(rt;
+            are_answered(alloc, &("nat", code.as_str()), &calls, "1048576")?,
+            "{end}"
+        );
+    }
+    Ok(())
+}
+
+// A lambda, its body, and the empty sequences behind it with which what APPLY makes of it and of the empty list has 100,000
+// nodes. Beside these there are eight nodes, and one for each unit of the list: the sequence, PUSH, the two of its type, the
+// list, PAIR, and the two of the old body. Of the lambda that gets itself there are 19.
+const CAPTURING: [(&str, &str, u32); 2] = [
+    ("LAMBDA", "CDR", 99_992),
+    ("LAMBDA_REC", "CDR ; DIP { DROP }", 99_981),
+];
+
+#[test]
+fn nodes_of_lambdas_at_their_limit(rt: HostRuntime) -> Result<(), Fail> {
+    let alloc = rt.alloc();
+    let calls = [
+        ("{}", 12, None),
+        ("{}", 11, Some("OutOfGas")),
+        ("{ Unit }", 7, Some("SizeLimit")),
+        ("{ Unit }", 6, Some("OutOfGas")),
+    ];
+    for (name, body, count) in CAPTURING {
+        let begin = format!(in alloc; "CAR ; {name} (pair (list unit) unit) unit {{ {body}")?;
+        let end = " } ; SWAP ; APPLY ; DROP ; PUSH int 1 ; NIL operation ; PAIR";
+        let code = repeated(alloc, begin.as_str(), " ; {}", count, end)?;
+        assert!(rt;
+            are_answered(alloc, &("(list unit)", code.as_str()), &calls, "1")?,
+            "{name}"
+        );
+    }
+    Ok(())
+}
+
+// A lambda that drops its argument, with an empty sequence in so many others: it has two levels more than these.
+fn deep(alloc: Global, count: u32) -> Result<String, Memory> {
+    let inner = nested(alloc, count, "{}")?;
+    Ok(format!(in alloc; "{{ DROP ; UNIT ; {inner} }}")?)
+}
+
+// Lambdas of 996 and 997 levels capture four units one after another, each of which puts the body one level deeper.
+#[test]
+fn levels_of_lambdas_at_their_limit(rt: HostRuntime) -> Result<(), Fail> {
+    let alloc = rt.alloc();
+    let contract = (
+        "(lambda (pair unit (pair unit (pair unit (pair unit unit)))) unit)",
+        "CAR ; UNIT ; APPLY ; UNIT ; APPLY ; UNIT ; APPLY ; UNIT ; APPLY ; DROP ; PUSH int 1 ; NIL operation ; PAIR",
+    );
+    let (most, more) = (deep(alloc, 994)?, deep(alloc, 995)?);
+    let calls = [
+        (most.as_str(), 20, None),
+        (most.as_str(), 19, Some("OutOfGas")),
+        (more.as_str(), 14, Some("DepthLimit")),
+        (more.as_str(), 13, Some("OutOfGas")),
+    ];
+    assert!(rt; are_answered(alloc, &contract, &calls, "1")?);
+    Ok(())
+}
+
+// Code that counts down from its argument by a lambda that calls itself within 99 more blocks, itself in so many sequences.
+fn counting(alloc: Global, outer: u32) -> Result<String, Memory> {
+    let step = "PUSH int -1 ; ADD ; ISNAT ; IF_NONE { DROP ; PUSH int 7 } { INT ; EXEC }";
+    let body = nested(alloc, 98, step)?;
+    let call = format!(in alloc; "LAMBDA_REC int int {{ {body} }} ; SWAP ; EXEC")?;
+    let code = nested(alloc, outer, call.as_str())?;
+    Ok(format!(in alloc; "CAR ; {code} ; NIL operation ; PAIR")?)
+}
+
+// The code, 99 sequences, and 999 calls of 100 blocks each are 100,000 blocks; with one sequence more the last branch has no
+// room.
+#[test]
+fn open_blocks_at_their_limit(rt: HostRuntime) -> Result<(), Fail> {
+    let alloc = rt.alloc();
+    let (most, more) = (counting(alloc, 99)?, counting(alloc, 100)?);
+    let calls = [("998", 7_002, None)];
+    assert!(rt; are_answered(alloc, &("int", most.as_str()), &calls, "7")?);
+    let calls = [
+        ("998", 6_996, Some("DepthLimit")),
+        ("998", 6_995, Some("OutOfGas")),
+    ];
+    assert!(rt; are_answered(alloc, &("int", more.as_str()), &calls, "9")?);
+    Ok(())
+}
+
+// A view that asks itself within 99 more blocks, without end: the 1,000th has no room for its last block.
+#[test]
+fn open_blocks_of_views_at_their_limit(rt: HostRuntime) -> Result<(), Fail> {
+    let alloc = rt.alloc();
+    let asks = "SELF_ADDRESS ; UNIT ; VIEW \"v\" int ; IF_NONE { PUSH int 1 } {}";
+    let viewed = nested(alloc, 99, asks)?;
+    let code = format!(in alloc;
+        "DROP ; {asks} ; NIL operation ; PAIR }} ; view \"v\" unit int {{ DROP ; {viewed}"
+    )?;
+    let calls = [
+        ("Unit", 7_005, Some("DepthLimit")),
+        ("Unit", 7_004, Some("OutOfGas")),
+    ];
+    assert!(rt; are_answered(alloc, &("unit", code.as_str()), &calls, "9")?);
+    Ok(())
+}
+
+// Code that issues 255 operations in each of so many turns, and returns none.
+fn issuing(alloc: Global) -> Result<String, Memory> {
+    repeated(
+        alloc,
+        "CAR ; DUP ; GT ; LOOP { ",
+        "UNIT ; EMIT ; DROP ; ",
+        255,
+        "PUSH int -1 ; ADD ; DUP ; GT } ; NIL operation ; PAIR",
+    )
+}
+
+#[test]
+fn operations_of_a_run_at_their_limit(rt: HostRuntime) -> Result<(), Fail> {
+    let code = issuing(rt.alloc())?;
+    let calls = [("257", 263_947, None), ("257", 263_946, Some("OutOfGas"))];
+    assert!(rt; are_answered(rt.alloc(), &("int", code.as_str()), &calls, "0")?);
+    Ok(())
+}
+
+// Contents that issue one operation more than their group may, with just the gas for it.
+const ONE_MORE: [&str; 3] = [
+    "Call 0 9 0 0x01000000000000000100000000000000000000000000 \"default\" 1",
+    "Call 0 7 0 0x01000000000000000100000001000000000000000000 \"default\" Unit",
+    "Call 0 7 0 0x01000000000000000100000002000000000000000000 \"default\" Unit",
+];
+
+// The operations of all contents of a group count together, whatever issues them, and those of the next group from none.
+#[test]
+fn operations_of_a_group_at_their_limit(rt: HostRuntime) -> Result<(), Fail> {
+    let alloc = rt.alloc();
+    let code = issuing(alloc)?;
+    for more in ONE_MORE {
+        let file = format!(in alloc;
+            "Chain 0x7a06a770 1 0; Account 0x000000000000000000000000000000000000000001 1000; \
+            Group 0x000000000000000000000000000000000000000001 {{ \
+            Originate 0 1 0 {{ parameter int ; storage int ; code {{ {code} }} }} 9 ; \
+            Originate 0 1 0 {{ parameter unit ; storage unit ; \
+            code {{ CDR ; SELF ; PUSH mutez 0 ; UNIT ; TRANSFER_TOKENS ; DROP ; NIL operation ; PAIR }} }} Unit ; \
+            Originate 0 1 0 {{ parameter unit ; storage unit ; code {{ CDR ; UNIT ; PUSH mutez 0 ; NONE key_hash ; \
+            CREATE_CONTRACT {{ parameter unit ; storage unit ; code {{ CDR ; NIL operation ; PAIR }} }} ; DROP 2 ; \
+            NIL operation ; PAIR }} }} Unit }}; \
+            Group 0x000000000000000000000000000000000000000001 {{ \
+            Call 0 263947 0 0x01000000000000000100000000000000000000000000 \"default\" 257 ; {more} }}; \
+            Group 0x000000000000000000000000000000000000000001 {{ \
+            Call 0 1035 0 0x01000000000000000100000000000000000000000000 \"default\" 1 }}"
+        )?;
+        let lines = format!(in alloc;
+            "Group 1 {{ \
+            Applied 1 {{ Origination 0x00000000000000000000000000000000000000000001 \
+            0x01000000000000000100000000000000000000000000 0 }} ; \
+            Applied 1 {{ Origination 0x00000000000000000000000000000000000000000001 \
+            0x01000000000000000100000001000000000000000000 0 }} ; \
+            Applied 1 {{ Origination 0x00000000000000000000000000000000000000000001 \
+            0x01000000000000000100000002000000000000000000 0 }} }}\n\
+            Group 2 {{ Backtracked ; Failed 0 TooManyOperations }}\n\
+            Group 3 {{ Applied 1035 {{ Transfer 0x00000000000000000000000000000000000000000001 \
+            0x01000000000000000100000000000000000000000000 0 1 {{}} }} }}\n\
+            Account 0x000000000000000000000000000000000000000001 1000 {{}}\n\
+            Contract 0x01000000000000000100000000000000000000000000 0 0\n\
+            Contract 0x01000000000000000100000001000000000000000000 0 Unit\n\
+            Contract 0x01000000000000000100000002000000000000000000 0 Unit\n\
+            Fees 0\nSupply 1000\n"
+        )?;
+        assert!(rt;
+            is_answered(alloc, "replay", file.as_str(), 0, lines.as_str())?,
+            "{more}"
+        );
+    }
+    Ok(())
+}
