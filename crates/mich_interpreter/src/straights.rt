@@ -74,7 +74,7 @@ pub(crate) fn act_straight(
     }
     match instr {
         Simple::Operations(row) => Ok(act_operation(alloc, m, costs, world, bodies, row)?),
-        Simple::Hashes(row) => Ok(act_packing(alloc, m, costs, row)?),
+        Simple::Hashes(row) => Ok(act_packing(alloc, m, costs, bodies, row)?),
         Simple::Collections(row) => Ok(act_big_map(alloc, m, costs, world, row)?),
         _ => unreachable!(),
     }

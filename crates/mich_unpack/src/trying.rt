@@ -36,6 +36,7 @@ fn is_body(
 }
 
 // Whether what is still to be tried has no fault, where it is a body.
+#[tactic(auto, using(crate::proofs::Items::body_alone))]
 fn passes(alloc: Global, bodies: &mut Bodies, item: Pending) -> Result<bool, Memory>
     requires { AreBodies (pending item ∷ []) }
     ensures { IfOk result (λ b. b ≡ is_none (fault_of_bodies (pending item ∷ []))) }
@@ -47,7 +48,7 @@ fn passes(alloc: Global, bodies: &mut Bodies, item: Pending) -> Result<bool, Mem
             recursive,
             node,
             ..
-        } => is_body(alloc, bodies, &arg, &ret, recursive, node),
+        } => Ok(is_body(alloc, bodies, &arg, &ret, recursive, node)?),
         Pending::Claim { .. } => Ok(true),
     }
 }
@@ -62,7 +63,8 @@ pub(crate) fn all_pass(
     ensures { IfOk result (λ b. b ≡ is_none (fault_of_bodies (all_pending pending))) }
 {
     for item in pending.into_vec() {
-        if !passes(alloc, bodies, item)? {
+        let passed = passes(alloc, bodies, item)?;
+        if !passed {
             return Ok(false);
         }
     }

@@ -20,6 +20,7 @@ use mich_term::Value;
 use std::alloc::Global;
 
 // The value that was read, where the bodies of its lambdas are typed.
+#[tactic(auto, using(crate::proofs::Tried::some_unless, crate::proofs::Tried::none_unless))]
 fn value_of(alloc: Global, bodies: &mut Bodies, read: Read) -> Result<Option<Value>, Memory>
     requires { AreBodies (all_pending read.pending) }
     ensures { IfOk result (λ o. o ≡ unless (fault_of_bodies (all_pending read.pending)) read.value) }
@@ -44,7 +45,7 @@ fn read_node(
     ensures whole { IfOk result (λ o. IfSome o (λ v. IsWhole (kind ty.now) v)) }
 {
     match read_value(alloc, ty, node) {
-        Ok(read) => value_of(alloc, bodies, read),
+        Ok(read) => Ok(value_of(alloc, bodies, read)?),
         Err(ValueError::NotOfType(_)) => Ok(None),
         Err(ValueError::Memory) => Err(Memory),
     }
