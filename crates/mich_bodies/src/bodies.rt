@@ -1,14 +1,10 @@
 // The bodies that are kept.
-ghost use Rattle.std.specs.Prelude.{◌≡◌, ◌∷◌, ◌<◌, ◌^◌, [], None, IfOk, IfSome};
+ghost use Rattle.std.specs.Prelude.{◌≡◌, ◌<◌, ◌^◌, None, IfOk, IfSome};
 ghost use Rattle.rules_base.specs.Tree.{seq, size};
-ghost use Rattle.rules_instructions.specs.Context as place;
-ghost use Rattle.rules_instructions.specs.Control.{call_kinds};
 ghost use Rattle.rules_typing.specs.Literals.{lambda_fault};
 ghost use Rattle.mich_base.specs.TypeView.{kind};
 ghost use Rattle.mich_base.specs.View.{tree};
 ghost use Rattle.mich_control.specs.Answers.{IsLambda, inside};
-ghost use Rattle.mich_instr.specs.Typed.{AreCode};
-ghost use Rattle.mich_instr.specs.View.{codes};
 ghost use Rattle.mich_bodies.specs.Body.{IsBody};
 ghost use Rattle.mich_bodies.specs.Unused.{unused};
 
@@ -143,7 +139,7 @@ impl Bodies {
         requires sequence { tree body.now ≡ seq (inside (tree body.now)) }
         requires fits { size (tree body.now) < 2 ^ 32 }
         requires typed { lambda_fault (kind arg.now) (kind ret.now) recursive (tree body.now) ≡ None }
-        ensures { IfOk result (λ code. AreCode place.lambda (inside (tree body.now)) (codes code) (call_kinds (kind arg.now) (kind ret.now) recursive) (kind ret.now ∷ [])) }
+        ensures { IfOk result (λ code. IsBody arg.now ret.now recursive body.now code) }
     {
         match self.checked(alloc, arg, ret, recursive, body) {
             Ok(code) => Ok(code),

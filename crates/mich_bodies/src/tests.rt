@@ -78,11 +78,26 @@ fn a_body_is_found_again(rt: HostRuntime) -> Result<(), Fail> {
 fn another_body_is_typed(rt: HostRuntime) -> Result<(), Fail> {
     let alloc = rt.alloc();
     let mut bodies = Bodies::new(alloc)?;
-    assert_eq!(rt; fault(alloc, &mut bodies, ("nat", "int", false, "{ FAILWITH }"))?, None);
-    assert_eq!(rt; fault(alloc, &mut bodies, ("int", "int", false, "{ FAILWITH }"))?, None);
-    assert_eq!(rt; fault(alloc, &mut bodies, ("int", "nat", false, "{ FAILWITH }"))?, None);
-    assert_eq!(rt; fault(alloc, &mut bodies, ("int", "nat", true, "{ FAILWITH }"))?, None);
-    assert_eq!(rt; fault(alloc, &mut bodies, ("int", "nat", true, "{ { FAILWITH } }"))?, None);
+    assert_eq!(rt;
+        fault(alloc, &mut bodies, ("nat", "int", false, "{ FAILWITH }"))?,
+        None
+    );
+    assert_eq!(rt;
+        fault(alloc, &mut bodies, ("int", "int", false, "{ FAILWITH }"))?,
+        None
+    );
+    assert_eq!(rt;
+        fault(alloc, &mut bodies, ("int", "nat", false, "{ FAILWITH }"))?,
+        None
+    );
+    assert_eq!(rt;
+        fault(alloc, &mut bodies, ("int", "nat", true, "{ FAILWITH }"))?,
+        None
+    );
+    assert_eq!(rt;
+        fault(alloc, &mut bodies, ("int", "nat", true, "{ { FAILWITH } }"))?,
+        None
+    );
     assert_eq!(rt; bodies.uses(), Uses { hits: 5, misses: 5 });
     Ok(())
 }
@@ -91,8 +106,14 @@ fn another_body_is_typed(rt: HostRuntime) -> Result<(), Fail> {
 fn a_body_with_a_fault_is_not_kept(rt: HostRuntime) -> Result<(), Fail> {
     let alloc = rt.alloc();
     let mut bodies = Bodies::new(alloc)?;
-    assert_eq!(rt; fault(alloc, &mut bodies, ("int", "int", false, "{ CAR }"))?, Some(1));
-    assert_eq!(rt; fault(alloc, &mut bodies, ("int", "int", false, "{ CAR }"))?, Some(1));
+    assert_eq!(rt;
+        fault(alloc, &mut bodies, ("int", "int", false, "{ CAR }"))?,
+        Some(1)
+    );
+    assert_eq!(rt;
+        fault(alloc, &mut bodies, ("int", "int", false, "{ CAR }"))?,
+        Some(1)
+    );
     assert_eq!(rt; bodies.uses(), Uses { hits: 0, misses: 2 });
     Ok(())
 }
@@ -106,12 +127,40 @@ fn the_body_that_was_used_first_goes(rt: HostRuntime) -> Result<(), Fail> {
     for n in 0..257 {
         let text = format!(in alloc; "{{ PUSH int {n} ; ADD }}")?;
         let body = Shared::new(alloc, node(alloc, &text)?)?;
-        assert_eq!(rt; look_up(alloc, &mut bodies, &int, &int, false, &body)?, None);
+        assert_eq!(rt;
+            look_up(alloc, &mut bodies, &int, &int, false, &body)?,
+            None
+        );
     }
-    assert_eq!(rt; bodies.uses(), Uses { hits: 257, misses: 257 });
+    assert_eq!(rt;
+        bodies.uses(),
+        Uses {
+            hits: 257,
+            misses: 257
+        }
+    );
     assert_eq!(rt; fault(alloc, &mut bodies, ONE_MORE)?, None);
-    assert_eq!(rt; bodies.uses(), Uses { hits: 259, misses: 257 });
-    assert_eq!(rt; fault(alloc, &mut bodies, ("int", "int", false, "{ PUSH int 0 ; ADD }"))?, None);
-    assert_eq!(rt; bodies.uses(), Uses { hits: 260, misses: 258 });
+    assert_eq!(rt;
+        bodies.uses(),
+        Uses {
+            hits: 259,
+            misses: 257
+        }
+    );
+    assert_eq!(rt;
+        fault(
+            alloc,
+            &mut bodies,
+            ("int", "int", false, "{ PUSH int 0 ; ADD }")
+        )?,
+        None
+    );
+    assert_eq!(rt;
+        bodies.uses(),
+        Uses {
+            hits: 260,
+            misses: 258
+        }
+    );
     Ok(())
 }

@@ -34,7 +34,12 @@ fn a_lambda_is_unpacked_where_its_body_is_typed(rt: HostRuntime) -> Result<(), F
     let mut bodies = Bodies::new(rt.alloc())?;
     let typed = unpack_value(rt.alloc(), &mut bodies, &ty, b"\x05\x02\x00\x00\x00\x00")?;
     assert!(rt; matches!(typed, Some(Value::Lambda(_, false))));
-    let untyped = unpack_value(rt.alloc(), &mut bodies, &ty, b"\x05\x02\x00\x00\x00\x02\x03\x16")?;
+    let untyped = unpack_value(
+        rt.alloc(),
+        &mut bodies,
+        &ty,
+        b"\x05\x02\x00\x00\x00\x02\x03\x16",
+    )?;
     assert!(rt; untyped.is_none());
     Ok(())
 }
