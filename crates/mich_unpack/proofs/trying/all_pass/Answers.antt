@@ -17,8 +17,8 @@ loop-item-init c =
       same = ap (λ (l : List Pending). is_none (fault_of_bodies (all_pending l))) all;
     }
 
-pub passes-passed-requires : goal.passes-passed-requires
-passes-passed-requires c =
+pub passes-requires : goal.passes-requires
+passes-requires c =
     let iter = into_iter_items c.loop-item.item-iterator in
     let rest = into_iter_items c.next.new.self in
     let first : iter ≡ c.in-Some.item ∷ rest = search rules in
