@@ -6,7 +6,7 @@ use Rattle.rules_base.specs.Tree.{Tree}
 use Rattle.rules_types.specs.Kind.{Kind}
 use Rattle.rules_types.specs.Attributes.{pushable}
 use Rattle.rules_values.specs.Val.{Val}
-use Rattle.rules_values.specs.Literals.{Pending, body, claim, Literal, good, bad, read, bodies, claims}
+use Rattle.rules_values.specs.Literals.{Pending, body, claim, good, bad, read, bodies, claims}
 use Rattle.rules_instructions.specs.Context as place
 use Rattle.rules_instructions.specs.Control.{call_kinds}
 use Rattle.rules_instructions.specs.Same.{same_kinds}
