@@ -7,10 +7,10 @@ ghost use Rattle.mich_interpreter.specs.Begins.{Opens};
 ghost use Rattle.mich_interpreter.specs.Runs.{IsEnd, KeepsEnd};
 ghost use Rattle.mich_interpreter.specs.Sees.{Sees};
 
-use crate::bodies::Bodies;
 use crate::machine::{Ended, Machine, work};
 use crate::state::State;
 use mich_base::{Memory, Rows};
+use mich_bodies::Bodies;
 use mich_gas::Costs;
 use mich_instr::Block;
 use mich_world::World;

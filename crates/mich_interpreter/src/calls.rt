@@ -1,16 +1,9 @@
 // EXEC, FAILWITH and NEVER.
-ghost use Rattle.std.specs.Prelude.{◌≡◌, ◌∷◌, ◌<◌, ◌^◌, [], None, IfOk};
-ghost use Rattle.rules_base.specs.Tree.{seq, size};
-ghost use Rattle.rules_instructions.specs.Context as place;
-ghost use Rattle.rules_instructions.specs.Control.{call_kinds};
-ghost use Rattle.rules_typing.specs.Literals.{lambda_fault};
+ghost use Rattle.std.specs.Prelude.{◌≡◌, ◌∷◌, IfOk};
 ghost use Rattle.rules_values.specs.Val.{lambda};
 ghost use Rattle.mich_base.specs.TypeView.{kind};
 ghost use Rattle.mich_base.specs.View.{tree};
-ghost use Rattle.mich_control.specs.Answers.{inside};
 ghost use Rattle.mich_instr.specs.Code as made;
-ghost use Rattle.mich_instr.specs.Typed.{AreCode};
-ghost use Rattle.mich_instr.specs.View.{codes};
 ghost use Rattle.mich_stack.specs.Views.{Sight, seen};
 ghost use Rattle.mich_interpreter.specs.View.{tops};
 ghost use Rattle.mich_interpreter.specs.Calls.{HasLambda, called};
@@ -22,9 +15,8 @@ use crate::paying::pay;
 use crate::stack::{pop, push};
 use crate::state::State;
 use mich_base::{Memory, Node, Rows, Shared, Ty, copy_type};
-use mich_check::{CheckError, check_body};
+use mich_bodies::Bodies;
 use mich_gas::{Costs, Kind};
-use mich_instr::Block;
 use mich_term::Value;
 use std::alloc::Global;
 use std::mem;
@@ -37,26 +29,6 @@ pub(crate) fn pop_lambda(stack: &mut Rows<Value>) -> (Shared<Node>, bool)
     match stack.pop() {
         Some(Value::Lambda(body, recursive)) => (body, recursive),
         _ => unreachable!(),
-    }
-}
-
-// The typed code of a body, which is of these types.
-fn body_code(
-    alloc: Global,
-    arg: &Ty,
-    ret: &Ty,
-    recursive: bool,
-    body: &Node,
-) -> Result<Block, Memory>
-    requires sequence { tree body.now ≡ seq (inside (tree body.now)) }
-    requires fits { size (tree body.now) < 2 ^ 32 }
-    requires typed { lambda_fault (kind arg.now) (kind ret.now) recursive (tree body.now) ≡ None }
-    ensures { IfOk result (λ code. AreCode place.lambda (inside (tree body.now)) (codes code) (call_kinds (kind arg.now) (kind ret.now) recursive) (kind ret.now ∷ [])) }
-{
-    match check_body(alloc, arg, ret, recursive, body) {
-        Ok(code) => Ok(code),
-        Err(CheckError::IllTyped(_)) => unreachable!(),
-        Err(CheckError::Memory) => Err(Memory),
     }
 }
 
@@ -83,6 +55,7 @@ pub(crate) fn act_exec(
     alloc: Global,
     m: &mut State,
     costs: &Costs,
+    bodies: &mut Bodies,
     arg: &Ty,
     ret: &Ty,
 ) -> Result<Act, Memory>
@@ -98,7 +71,7 @@ pub(crate) fn act_exec(
     }
     let argument = pop(&mut m.stack);
     let (body, recursive) = pop_lambda(&mut m.stack);
-    let code = body_code(alloc, arg, ret, recursive, body.get())?;
+    let code = bodies.code(alloc, arg, ret, recursive, &body)?;
     let stack = call_stack(alloc, argument, body, recursive)?;
     let below = mem::replace(&mut m.stack, stack);
     Ok(Act::Open(Some(Frame::Call(below)), code))

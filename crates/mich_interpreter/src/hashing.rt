@@ -13,6 +13,7 @@ use crate::state::State;
 use crate::straights::failed;
 use crate::unpacking::act_unpack;
 use mich_base::Memory;
+use mich_bodies::Bodies;
 use mich_gas::Costs;
 use mich_hashes::{hash_step, hash_weight};
 use mich_overload::HashRow;
@@ -44,6 +45,7 @@ pub(crate) fn act_packing(
     alloc: Global,
     m: &mut State,
     costs: &Costs,
+    bodies: &mut Bodies,
     row: &HashRow,
 ) -> Result<Act, Memory>
     requires { (app : Tree) × Comes (made.straight (on_hashes (hash_row row.now)) app) costs.now m.old }
@@ -52,7 +54,7 @@ pub(crate) fn act_packing(
     ensures keeps { IfOk result (λ a. KeepsAct a m.old m.new) }
 {
     match row {
-        HashRow::Unpack(ty) => Ok(act_unpack(alloc, m, costs, ty)?),
+        HashRow::Unpack(ty) => Ok(act_unpack(alloc, m, costs, bodies, ty)?),
         _ => Ok(act_hash(alloc, m, costs, row)?),
     }
 }

@@ -18,13 +18,13 @@ ghost use Rattle.mich_interpreter.specs.Parts.{HasAmount};
 ghost use Rattle.mich_interpreter.specs.Ends.{Comes, Carries, ComesIn, CarriesIn, Spends, KeepsAct};
 
 use crate::act::{Act, Failed};
-use crate::bodies::Bodies;
 use crate::lookups::contract_of;
 use crate::paying::pay;
 use crate::stack::{pop, pop_address, push};
 use crate::state::{Counts, State};
 use crate::viewing::act_view;
 use mich_base::{Bytes, Link, Memory, Rows, Text, Ty, copy_type};
+use mich_bodies::Bodies;
 use mich_forms::{Address, Entrypoint};
 use mich_gas::{Costs, Kind};
 use mich_instr::Issued;

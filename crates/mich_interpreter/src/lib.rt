@@ -5,7 +5,6 @@ mod act;
 mod applying;
 mod beginning;
 mod big_maps;
-mod bodies;
 mod branches;
 mod burning;
 mod callers;
@@ -34,7 +33,7 @@ mod visits;
 
 pub use act::Failed;
 pub use beginning::run_code;
-pub use bodies::Bodies;
 pub use contracts::new_contract;
 pub use machine::Ended;
+pub use mich_bodies::{Bodies, Uses};
 pub use state::{Counts, State};

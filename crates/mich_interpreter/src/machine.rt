@@ -14,7 +14,6 @@ ghost use Rattle.mich_interpreter.specs.Runs.{InBlock, Behind, HasActedIn, IsSte
 
 use crate::act::{Act, Failed, View};
 use crate::applying::act_apply;
-use crate::bodies::Bodies;
 use crate::branches::{act_if, act_if_cons, act_if_left, act_if_none};
 use crate::callers::{enter, go_back, go_home};
 use crate::calls::{act_exec, act_failwith, act_never};
@@ -29,6 +28,7 @@ use crate::stack::{put_all, put_below};
 use crate::state::State;
 use crate::straights::act_straight;
 use mich_base::{Memory, Rows};
+use mich_bodies::Bodies;
 use mich_gas::Costs;
 use mich_instr::{Block, Instr};
 use mich_world::World;
@@ -93,7 +93,7 @@ fn perform(
         Instr::Iter(body) => Ok(act_iter(alloc, m, costs, body)?),
         Instr::Map(body) => Ok(act_map(alloc, m, costs, body)?),
         Instr::Dip { count, body, .. } => Ok(act_dip(alloc, m, costs, *count, body)?),
-        Instr::Exec { arg, ret } => Ok(act_exec(alloc, m, costs, arg, ret)?),
+        Instr::Exec { arg, ret } => Ok(act_exec(alloc, m, costs, bodies, arg, ret)?),
         Instr::Apply {
             captured,
             rest,

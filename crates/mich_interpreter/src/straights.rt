@@ -9,12 +9,12 @@ ghost use Rattle.mich_interpreter.specs.Ends.{Comes, Carries, ComesIn, CarriesIn
 
 use crate::act::{Act, Failed};
 use crate::big_maps::act_big_map;
-use crate::bodies::Bodies;
 use crate::hashing::act_packing;
 use crate::issuing::act_operation;
 use crate::paying::pay_capped;
 use crate::state::State;
 use mich_base::Memory;
+use mich_bodies::Bodies;
 use mich_gas::Costs;
 use mich_overload::Simple;
 use mich_prices::{price, weigh};
@@ -74,7 +74,7 @@ pub(crate) fn act_straight(
     }
     match instr {
         Simple::Operations(row) => Ok(act_operation(alloc, m, costs, world, bodies, row)?),
-        Simple::Hashes(row) => Ok(act_packing(alloc, m, costs, row)?),
+        Simple::Hashes(row) => Ok(act_packing(alloc, m, costs, bodies, row)?),
         Simple::Collections(row) => Ok(act_big_map(alloc, m, costs, world, row)?),
         _ => unreachable!(),
     }

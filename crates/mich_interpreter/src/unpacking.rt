@@ -21,6 +21,7 @@ use crate::paying::pay;
 use crate::stack::push;
 use crate::state::State;
 use mich_base::{Bytes, Link, Memory, Rows, Ty};
+use mich_bodies::Bodies;
 use mich_gas::{Costs, Kind};
 use mich_term::Value;
 use mich_unpack::unpack_value;
@@ -49,12 +50,17 @@ fn optional_of(alloc: Global, found: Option<Value>) -> Result<Value, Memory>
 }
 
 // The value that bytes pack, or none, as a value. No literal of a pushable type names a contract, so it is the same anywhere.
-fn optional_value(alloc: Global, ty: &Ty, packed: &[u8]) -> Result<Value, Memory>
+fn optional_value(
+    alloc: Global,
+    bodies: &mut Bodies,
+    ty: &Ty,
+    packed: &[u8],
+) -> Result<Value, Memory>
     requires pushable { pushable (kind ty.now) ≡ true }
     requires short { length packed.now < 2 ^ 32 }
     ensures { IfOk result (λ v. (big : Sight) (e : Surroundings) → seen big v ≡ optional (unpacked (trial e) (kind ty.now) packed.now)) }
 {
-    let found = unpack_value(alloc, ty, packed)?;
+    let found = unpack_value(alloc, bodies, ty, packed)?;
     let value = optional_of(alloc, found)?;
     Ok(value)
 }
@@ -63,6 +69,7 @@ pub(crate) fn act_unpack(
     alloc: Global,
     m: &mut State,
     costs: &Costs,
+    bodies: &mut Bodies,
     ty: &Ty,
 ) -> Result<Act, Memory>
     requires { (app : Tree) × Comes (made.straight (on_hashes (i.unpack (kind ty.now))) app) costs.now m.old }
@@ -76,7 +83,7 @@ pub(crate) fn act_unpack(
     if !pay(&mut m.meter, costs, Kind::Unpack, packed.len() as u64) {
         return Ok(Act::Failed(Failed::OutOfGas));
     }
-    let value = optional_value(alloc, ty, packed.as_slice())?;
+    let value = optional_value(alloc, bodies, ty, packed.as_slice())?;
     push(&mut m.stack, value)?;
     Ok(Act::On)
 }

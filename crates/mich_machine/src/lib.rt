@@ -9,5 +9,5 @@ mod returning;
 mod running;
 mod telling;
 
-pub use mich_interpreter::{Bodies, Counts, new_contract};
+pub use mich_interpreter::{Bodies, Counts, Uses, new_contract};
 pub use running::{Finished, RunError, run};

@@ -1,1 +1,3 @@
+mod Items
+mod Sequences
 mod Tried

@@ -1,13 +1,12 @@
 -- A literal whose bodies are tried.
 use Rattle.std.proofs.Common.{◌≡◌, ℕ, Bool, true, false, List, [], ◌∷◌, Option, Some, None, refl, ap, ◌∙◌}
-use Rattle.std.specs.Prelude.{◌&&◌, if◌then◌else◌, is_none}
+use Rattle.std.specs.Prelude.{◌&&◌, if◌then◌else◌, is_none, option_map, IfSome}
 use Rattle.std.specs.List.{list_all}
 use Rattle.rules_base.specs.Tree.{Tree}
 use Rattle.rules_types.specs.Kind.{Kind}
 use Rattle.rules_types.specs.Attributes.{pushable}
 use Rattle.rules_values.specs.Val.{Val}
-use Rattle.rules_values.specs.Literals.{Pending, body, claim, Literal, good, bad, read, bodies, claims}
-use Rattle.rules_instructions.specs.Arguments.{found, fault}
+use Rattle.rules_values.specs.Literals.{Pending, body, claim, good, bad, read, bodies, claims}
 use Rattle.rules_instructions.specs.Context as place
 use Rattle.rules_instructions.specs.Control.{call_kinds}
 use Rattle.rules_instructions.specs.Same.{same_kinds}
@@ -15,11 +14,14 @@ use Rattle.rules_typing.specs.Typing.{Typing, goes, fails, shift}
 use Rattle.rules_typing.specs.Typing as typing
 use Rattle.rules_typing.specs.Bodies.{body_fault, first_fault}
 use Rattle.rules_typing.specs.Fits.{Known}
-use Rattle.rules_typing.specs.Literals.{Checked, fault_of_bodies, checked, of_reading}
+use Rattle.rules_typing.specs.Literals.{fault_of_bodies}
 use Rattle.rules_typing.specs.Nodes.{tree_type}
 use Rattle.rules_steps.specs.Packing.{Trial, tried}
 use Rattle.laws_typing.specs.Laws.{AllClaimed}
 use Rattle.laws_literals.proofs.Claims.{pushed_claims}
+use Rattle.mich_term.specs.ValueView.{val}
+use Rattle.mich_term.specs.declared.value.Value.{Value}
+use Rattle.mich_unpack.specs.Pending.{unless}
 use Rattle.mich_unpack.specs.Unpacked.{TriesBodies}
 
 -- ---- the bodies
@@ -29,7 +31,7 @@ one_fault true m l = refl
 one_fault false m l = refl
 
 -- whether a body has a fault doesn't depend on where it stands
-fault_anywhere : (l : ℕ) (t : Typing) (r : Kind) → is_none (body_fault 0 t r) ≡ is_none (body_fault l (shift l t) r)
+pub fault_anywhere : (l : ℕ) (t : Typing) (r : Kind) → is_none (body_fault 0 t r) ≡ is_none (body_fault l (shift l t) r)
 fault_anywhere l (goes B) r = one_fault (same_kinds B (r ∷ [])) 0 l
 fault_anywhere l fails r = refl
 fault_anywhere l (typing.bad m) r = refl
@@ -64,11 +66,6 @@ module _ (passes : Trial) (tries : TriesBodies passes) where
   both true c h = h
   both false c h = refl
 
-  -- a value, unless there is a fault
-  abbrev unless : Option ℕ → Val → Option Val
-  unless None x = Some x
-  unless (Some l) x = None
-
   by_fault : (x : Val) (o : Option ℕ) → (if is_none o then Some x else None) ≡ unless o x
   by_fault x None = refl
   by_fault x (Some l) = refl
@@ -78,25 +75,27 @@ module _ (passes : Trial) (tries : TriesBodies passes) where
       ap (λ b. if b then Some x else None) (both (list_all passes (bodies ps)) (list_all passes (claims ps)) (no_claims ps h) ∙ bodies_pass ps)
       ∙ by_fault x (fault_of_bodies ps)
 
-  checked_value : (x : Val) (ps : List Pending) (o : Option ℕ) (c : Checked) → checked x ps o ≡ found c → unless o x ≡ Some c.value
-  checked_value x ps None c e = let same : record { value = x; claims = claims ps } ≡ c = cc in ap (λ (d : Checked). Some d.value) same
-  checked_value x ps (Some l) c e = absurd cc
-
-  checked_none : (x : Val) (ps : List Pending) (o : Option ℕ) (l : ℕ) → checked x ps o ≡ fault l → unless o x ≡ None
-  checked_none x ps None l e = absurd cc
-  checked_none x ps (Some m) l e = refl
-
   module _ (a : Kind) (pushes : pushable a ≡ true) (t : Tree) where
-    pub value_tried : (c : Checked) → of_reading (read a 0 t) ≡ found c → tried passes (read a 0 t) ≡ Some c.value
-    value_tried c e = by (read a 0 t) refl e
-      where
-        by : (x : Literal Val) → read a 0 t ≡ x → of_reading x ≡ found c → tried passes x ≡ Some c.value
-        by (good x ps) r f = good_tried x ps (pushed_claims nothing a 0 t x ps pushes r) ∙ checked_value x ps (fault_of_bodies ps) c f
-        by (bad l) r f = absurd cc
+    pub value_tried : (x : Val) (ps : List Pending) → read a 0 t ≡ good x ps → tried passes (read a 0 t) ≡ unless (fault_of_bodies ps) x
+    value_tried x ps e = ap (tried passes) e ∙ good_tried x ps (pushed_claims nothing a 0 t x ps pushes e)
 
-    pub none_tried : (l : ℕ) → of_reading (read a 0 t) ≡ fault l → tried passes (read a 0 t) ≡ None
-    none_tried l e = by (read a 0 t) refl e
-      where
-        by : (x : Literal Val) → read a 0 t ≡ x → of_reading x ≡ fault l → tried passes x ≡ None
-        by (good x ps) r f = good_tried x ps (pushed_claims nothing a 0 t x ps pushes r) ∙ checked_none x ps (fault_of_bodies ps) l f
-        by (bad m) r f = refl
+    pub none_tried : (l : ℕ) → read a 0 t ≡ bad l → tried passes (read a 0 t) ≡ None
+    none_tried l e = ap (tried passes) e
+
+-- ---- a value, unless there is a fault
+
+pub some_unless : {A : Type 0} (o : Option ℕ) (x : A) → true ≡ is_none o → Some x ≡ unless o x
+some_unless None x h = refl
+some_unless (Some l) x h = absurd cc
+
+pub none_unless : {A : Type 0} (o : Option ℕ) (x : A) → false ≡ is_none o → None ≡ unless o x
+none_unless None x h = absurd cc
+none_unless (Some l) x h = refl
+
+pub seen_unless : (o : Option ℕ) (x : Value) → unless o (val x) ≡ option_map val (unless o x)
+seen_unless None x = refl
+seen_unless (Some l) x = refl
+
+pub whole_unless : (P : Value → Type 0) (o : Option ℕ) (x : Value) → P x → IfSome (unless o x) P
+whole_unless P None x h = h
+whole_unless P (Some l) x h = tt

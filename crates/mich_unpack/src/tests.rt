@@ -5,6 +5,7 @@ ghost use Rattle.mich_base.specs.TypeView.{kind};
 
 use crate::unpack_value;
 use mich_base::{Link, Memory, Ty};
+use mich_bodies::Bodies;
 use mich_term::Value;
 use std::alloc::Global;
 use std::test::Fail;
@@ -20,7 +21,8 @@ fn lambda(alloc: Global) -> Result<Ty, Memory>
 
 #[test]
 fn a_number_is_unpacked(rt: HostRuntime) -> Result<(), Fail> {
-    let found = unpack_value(rt.alloc(), &Ty::Nat, b"\x05\x00\x80\x01")?;
+    let mut bodies = Bodies::new(rt.alloc())?;
+    let found = unpack_value(rt.alloc(), &mut bodies, &Ty::Nat, b"\x05\x00\x80\x01")?;
     assert!(rt; matches!(found, Some(Value::Number(64))));
     Ok(())
 }
@@ -29,9 +31,28 @@ fn a_number_is_unpacked(rt: HostRuntime) -> Result<(), Fail> {
 #[test]
 fn a_lambda_is_unpacked_where_its_body_is_typed(rt: HostRuntime) -> Result<(), Fail> {
     let ty = lambda(rt.alloc())?;
-    let typed = unpack_value(rt.alloc(), &ty, b"\x05\x02\x00\x00\x00\x00")?;
+    let mut bodies = Bodies::new(rt.alloc())?;
+    let typed = unpack_value(rt.alloc(), &mut bodies, &ty, b"\x05\x02\x00\x00\x00\x00")?;
     assert!(rt; matches!(typed, Some(Value::Lambda(_, false))));
-    let untyped = unpack_value(rt.alloc(), &ty, b"\x05\x02\x00\x00\x00\x02\x03\x16")?;
+    let untyped = unpack_value(
+        rt.alloc(),
+        &mut bodies,
+        &ty,
+        b"\x05\x02\x00\x00\x00\x02\x03\x16",
+    )?;
     assert!(rt; untyped.is_none());
+    Ok(())
+}
+
+#[test]
+fn a_body_is_typed_once(rt: HostRuntime) -> Result<(), Fail> {
+    let ty = lambda(rt.alloc())?;
+    let mut bodies = Bodies::new(rt.alloc())?;
+    let first = unpack_value(rt.alloc(), &mut bodies, &ty, b"\x05\x02\x00\x00\x00\x00")?;
+    assert!(rt; first.is_some());
+    let again = unpack_value(rt.alloc(), &mut bodies, &ty, b"\x05\x02\x00\x00\x00\x00")?;
+    assert!(rt; again.is_some());
+    let uses = bodies.uses();
+    assert!(rt; uses.hits == 1 && uses.misses == 1);
     Ok(())
 }

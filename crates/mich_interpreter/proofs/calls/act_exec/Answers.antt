@@ -25,17 +25,17 @@ pop_lambda-body-requires c =
     let x = c.requires.0 in
     (x.sight, call_below (seen x.sight c.pop-argument.result) _ (rw (c.pop-argument.ensures x.sight) at (exec_top c.requires.5)))
 
-pub body_code-requires : goal.body_code-requires
-body_code-requires c =
+pub code-requires : goal.code-requires
+code-requires c =
     let x = c.requires.0 in
     let y = seen x.sight c.pop-argument.result in
     let r = c.pop_lambda-body.result in
     let W = tops x.sight c.pop_lambda-body.new.stack in
     let meets = rw (c.pop-argument.ensures x.sight, c.pop_lambda-body.ensures x.sight) at c.requires.5 in
     record {
-      sequence = rw c.get.ensures (call_seq y (tree r.0) r.1 W (exec_top meets));
-      fits = rw c.get.ensures (exec_fits y (tree r.0) r.1 W meets);
-      typed = rw c.get.ensures (exec_faultless y (tree r.0) r.1 W meets);
+      sequence = call_seq y (tree r.0) r.1 W (exec_top meets);
+      fits = exec_fits y (tree r.0) r.1 W meets;
+      typed = exec_faultless y (tree r.0) r.1 W meets;
     }
 
 pub returns-clause-acts : goal.returns-clause-acts
@@ -43,9 +43,8 @@ returns-clause-acts c = λ x fs d Z o h.
     let p = rw c.if-not-pay.false at c.pay.ensures in
     let r = c.pop_lambda-body.result in
     let meets = rw (c.pop-argument.ensures x.sight, c.pop_lambda-body.ensures x.sight) at h in
-    let fine = rw c.get.ensures at c.in_ok-code.ensures in
     rw (c.replace-below.ensures.after, c.replace-below.ensures.value, c.in_ok-stack.ensures x.sight)
-    (opens_paid g.Exec 0 _ c.pay.new.meter p.1 (exec_any_opens (seen x.sight c.pop-argument.result) (tree r.0) r.1 (tops x.sight c.pop_lambda-body.new.stack) p.0 fine meets))
+    (opens_paid g.Exec 0 _ c.pay.new.meter p.1 (exec_any_opens (seen x.sight c.pop-argument.result) (tree r.0) r.1 (tops x.sight c.pop_lambda-body.new.stack) p.0 c.in_ok-code.ensures.1 meets))
 
 pub returns-clause-less : goal.returns-clause-less
 returns-clause-less c =
