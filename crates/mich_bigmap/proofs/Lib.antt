@@ -8,6 +8,7 @@ pub mod Keys
 pub mod Meaning
 pub mod Named
 pub mod Noted
+pub mod Overwriting
 pub mod Places
 pub mod Plain
 pub mod Putting

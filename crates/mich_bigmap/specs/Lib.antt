@@ -4,6 +4,7 @@ pub mod Formed
 pub mod Kept
 pub mod Laws
 pub mod Marked
+pub mod Merged
 pub mod Notes
 pub mod Places
 pub mod Puts

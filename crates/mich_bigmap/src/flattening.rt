@@ -1,11 +1,10 @@
-// All entries of a base with changes over it, as one list.
+// All entries of a base, and changes over them.
 ghost use Rattle.std.specs.Prelude.{◌≡◌, IfOk, OnOk, option_map};
 ghost use Rattle.std.specs.Map.{keys_of};
-ghost use Rattle.rules_values.specs.Val.{no_pair};
 ghost use Rattle.rules_bigmap.specs.Changes.{changed, written};
 ghost use Rattle.mich_term.specs.Keyed.{IsIncreasing};
 ghost use Rattle.mich_term.specs.View.{datum};
-ghost use Rattle.mich_term.specs.ValueView.{pairs, put_pairs, val};
+ghost use Rattle.mich_term.specs.ValueView.{pairs, val};
 ghost use Rattle.mich_bigmap.specs.Bases.{entries_in, seen};
 ghost use Rattle.mich_bigmap.specs.Puts.{puts_for};
 ghost use Rattle.mich_bigmap.specs.Stacked.{AreLayers, bases_of};
@@ -17,7 +16,7 @@ use mich_term::{Datum, Table, Value, copy_datum, maps, shadow};
 use std::alloc::Global;
 
 // Equal changes. Memory where there is no room for them.
-fn copy_changes(alloc: Global, changes: &Rows<Change>) -> Result<Rows<Change>, Memory>
+pub(crate) fn copy_changes(alloc: Global, changes: &Rows<Change>) -> Result<Rows<Change>, Memory>
     ensures { IfOk result (λ cs. cs ≡ changes.now) }
 {
     let mut copies = Rows::new(alloc);
@@ -95,21 +94,4 @@ pub(crate) fn puts_of(alloc: Global, entries: Table<Value>) -> Result<Rows<Chang
         changes.push((key, Some(value)))?;
     }
     Ok(changes)
-}
-
-// A base and the changes over it as changes over nothing. Memory where there is no room for them.
-pub(crate) fn flattened(
-    alloc: Global,
-    layers: &[Layer],
-    base: Option<u64>,
-    changes: Rows<Change>,
-) -> Result<Rows<Change>, Memory>
-    requires { AreLayers layers.now }
-    ensures entries { IfOk result (λ cs. changed (seen cs) no_pair ≡ changed (seen changes) (entries_in (bases_of layers.now) base)) }
-    ensures increasing { IfOk result (λ cs. IsIncreasing (keys_of cs)) }
-    ensures puts { IfOk result (λ cs. put_pairs cs ≡ changed (seen changes) (entries_in (bases_of layers.now) base)) }
-{
-    let mut entries = collect(alloc, layers, base)?;
-    apply(&mut entries, changes)?;
-    puts_of(alloc, entries)
 }

@@ -6,6 +6,7 @@ mod flattening;
 mod keeping;
 mod laws;
 mod layers;
+mod merging;
 mod noting;
 mod overlay;
 mod printed;

@@ -13,18 +13,14 @@ ghost use Rattle.mich_bigmap.specs.Ticketless.{HoldNoTickets};
 ghost use Rattle.rules_values.specs.Tickets.{pair_tickets};
 ghost use Rattle.mich_term.specs.ValueView.{put_pairs};
 
-use crate::flattening::flattened;
-use crate::layers::is_deep;
+use crate::merging::merged;
 use crate::overlay::Change;
 use crate::store::Store;
 use mich_base::{Memory, Rows};
 use mich_term::BigMap;
 use std::alloc::Global;
 
-// How many bases may be read for the entries of one.
-const DEEPEST: u32 = 16;
-
-// Puts changes into the store as a base over another; where that would be the seventeenth, as one list of all entries.
+// Puts changes into the store as a base over another, merged with those that it would be over and that don't hold at least twice as many.
 #[tactic(auto, using(mich_undo::proofs::Histories::keeps_same, crate::proofs::Extending::extends_same))]
 fn lay(
     alloc: Global,
@@ -40,12 +36,8 @@ fn lay(
     ensures ticketless { HoldNoTickets store.old.bases.present → pair_tickets (put_pairs changes) ≡ [] → HoldNoTickets store.new.bases.present }
     ensures noted { store.new.noted ≡ store.old.noted }
 {
-    if is_deep(store.layers(), over, DEEPEST) {
-        let all = flattened(alloc, store.layers(), over, changes)?;
-        store.extend(None, all)
-    } else {
-        store.extend(over, changes)
-    }
+    let (under, all) = merged(alloc, store.layers(), over, changes)?;
+    store.extend(under, all)
 }
 
 /// A big map of the same entries. Where it shares, they are all kept in the store: it has a base and an empty overlay. After Memory

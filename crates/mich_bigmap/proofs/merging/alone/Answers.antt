@@ -1,0 +1,18 @@
+use Rattle.std.proofs.Common.{List, ap, ◌∙◌}
+use Rattle.rules_bigmap.specs.Changes.{changed}
+use Rattle.mich_term.specs.ValueView.{pairs}
+use Rattle.mich_term.specs.declared.datum.Datum.{Datum}
+use Rattle.mich_term.specs.declared.value.Value.{Value}
+use Rattle.mich_bigmap.specs.Bases.{seen}
+use Rattle.mich_bigmap.proofs.Overwriting.{put_entries, put_increasing, put_puts}
+use Rattle.mich_bigmap.proofs.merging.alone.Goals as goal
+
+pub returns : goal.returns
+returns c =
+    let made = c.puts_of.ensures in
+    let all = c.in_ok-apply.ensures ∙ ap (λ (es : List (Datum × Value)). changed (seen c.args.changes) (pairs es)) c.new.ensures in
+    record {
+      entries = put_entries c.puts_of.result c.apply.new.entries _ made.changes made.increasing all;
+      increasing = put_increasing c.puts_of.result c.apply.new.entries made.changes made.increasing;
+      puts = put_puts c.puts_of.result c.apply.new.entries _ made.changes all;
+    }
