@@ -24,7 +24,8 @@ returns t c =
     record {
       same = handed_same answer rest bs _ _ extends there c.merged.ensures.same
           (c.in_ok-all.ensures.merged rest layer.over
-          ∙ ap (changed (seen c.args.changes)) (sym (ap (entries_in bs) c.in-Some.is ∙ entries_at bs c.in-Some.number (base_of layer) rest at)));
+          ∙ ap (changed (seen c.args.changes)) (sym (ap (entries_in bs) c.in-Some.is
+          ∙ entries_at bs c.in-Some.number (base_of layer) rest at)));
       there = handed_there answer rest bs extends there;
       increasing = c.merged.ensures.increasing;
       ticketless = λ h t.
@@ -40,13 +41,16 @@ returns-in_default-clause-same t c =
     ∙ ap (changed (seen c.args.changes)) (sym (ap (entries_in bs) c.in_default.is ∙ none_in bs))
 
 pub returns-in_default-clause-ticketless : goal.returns-in_default-clause-ticketless
-returns-in_default-clause-ticketless t c = λ h none. ap pair_tickets c.in_ok-alone.ensures.puts ∙ none_changed c.args.changes no_pair none refl
+returns-in_default-clause-ticketless t c = λ h none.
+    ap pair_tickets c.in_ok-alone.ensures.puts ∙ none_changed c.args.changes no_pair none refl
 
 pub returns-in_default-below-clause-same : goal.returns-in_default-below-clause-same
 returns-in_default-below-clause-same t c =
     let bs = bases_of c.args.layers.now in
     ap (changed (seen c.in_ok-alone-2.field-0)) (none_in bs) ∙ c.in_ok-alone-2.ensures.entries
-    ∙ ap (changed (seen c.args.changes)) (sym (ap (entries_in bs) c.in-Some.is ∙ entries_missed bs c.in-Some.number (sym c.in_default-below.ensures.base)))
+    ∙ ap (changed (seen c.args.changes)) (sym (ap (entries_in bs) c.in-Some.is
+    ∙ entries_missed bs c.in-Some.number (sym c.in_default-below.ensures.base)))
 
 pub returns-in_default-below-clause-ticketless : goal.returns-in_default-below-clause-ticketless
-returns-in_default-below-clause-ticketless t c = λ h none. ap pair_tickets c.in_ok-alone-2.ensures.puts ∙ none_changed c.args.changes no_pair none refl
+returns-in_default-below-clause-ticketless t c = λ h none.
+    ap pair_tickets c.in_ok-alone-2.ensures.puts ∙ none_changed c.args.changes no_pair none refl
