@@ -1,5 +1,4 @@
 use Rattle.std.proofs.Common.{◌∙◌, subst, sym}
-use Rattle.mich_bigmap.specs.Bases.{Changes}
 use Rattle.mich_bigmap.specs.Merged.{Bare}
 use Rattle.mich_bigmap.proofs.Overwriting.{merged_last, bare_last, bare_with}
 use Rattle.mich_bigmap.proofs.merging.overwrite.Goals as goal

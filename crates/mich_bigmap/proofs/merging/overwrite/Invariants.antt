@@ -1,4 +1,4 @@
-use Rattle.std.proofs.Common.{◌≡◌, ℕ, [], length}
+use Rattle.std.proofs.Common.{◌≡◌, ℕ, length}
 use Rattle.std.specs.declared.option.Option.{Option}
 use Rattle.rules_bigmap.specs.Changes.{changed}
 use Rattle.mich_bigmap.specs.Bases.{Bases, entries_in, seen}

@@ -1,4 +1,3 @@
-use Rattle.std.proofs.Common.{◌∙◌}
 use Rattle.mich_bigmap.proofs.Overwriting.{merged_twice, bare_twice, made_merged, made_increasing, made_bare}
 use Rattle.mich_bigmap.proofs.merging.overwritten.Goals as goal
 
