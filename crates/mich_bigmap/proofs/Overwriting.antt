@@ -16,7 +16,7 @@ use Rattle.mich_term.specs.declared.value.Value.{Value}
 use Rattle.mich_bigmap.specs.Bases.{Base, Bases, Changes, seen, entries_in, base_at}
 use Rattle.mich_bigmap.specs.Extended.{Extends}
 use Rattle.mich_bigmap.specs.Formed.{is_there}
-use Rattle.mich_bigmap.specs.Merged.{AreMerged}
+use Rattle.mich_bigmap.specs.Merged.{AreMerged, Bare}
 use Rattle.mich_bigmap.specs.Puts.{puts_for}
 use Rattle.mich_bigmap.specs.Reached.{AreDistinct}
 use Rattle.mich_bigmap.specs.Ticketless.{PutsNoTickets, HoldNoTickets}
@@ -27,15 +27,13 @@ use Rattle.mich_bigmap.proofs.Settled.{extends_trans}
 
 -- the last change is written first, into the changes below
 pub merged_last : (all cs under more : Changes) (k : Datum) (c : Option Value) → all ≡ cs ++ (k, c) ∷ [] → more ≡ with k c under
-    → (bs : Bases) (o : Option ℕ) → changed (seen cs) (changed (seen more) (entries_in bs o)) ≡ changed (seen all) (changed (seen under) (entries_in bs o))
+    → (bs : Bases) (o : Option ℕ) → changed (seen cs) (changed (seen more) (entries_in bs o))
+    ≡ changed (seen all) (changed (seen under) (entries_in bs o))
 merged_last all cs under more k c e n bs o =
     written_last all cs k c (changed (seen under) (entries_in bs o)) (changed (seen more) (entries_in bs o)) e
     (ap (λ (ds : Changes). changed (seen ds) (entries_in bs o)) n ∙ changed_with bs o k c under)
 
 -- ---- tickets
-
-abbrev pub Bare : Changes → Type 0
-Bare cs = pair_tickets (put_pairs cs) ≡ []
 
 none_of : (xs ys : List Held) → xs ++ ys ≡ [] → (xs ≡ []) × (ys ≡ [])
 none_of [] ys h = (refl, h)
@@ -88,12 +86,14 @@ below_extends (c ∷ bs) k b rest d h =
       | false ↦ λ q. extends_trans rest bs (c ∷ bs) (below_extends bs k b rest d.1 q) more
     ]) h
 
-pub below_ticketless : (bs : Bases) (k : ℕ) (b : Base) (rest : Bases) → base_at bs k ≡ Some (b, rest) → HoldNoTickets bs → PutsNoTickets b × HoldNoTickets rest
+pub below_ticketless : (bs : Bases) (k : ℕ) (b : Base) (rest : Bases) → base_at bs k ≡ Some (b, rest)
+    → HoldNoTickets bs → PutsNoTickets b × HoldNoTickets rest
 below_ticketless [] k b rest h t = cc
-below_ticketless (c ∷ bs) k b rest h t = (elim (c.number == k) as (λ a. (if a then Some (c, bs) else base_at bs k) ≡ Some (b, rest) → PutsNoTickets b × HoldNoTickets rest) [
-  | true ↦ λ q. let e : Place (c, bs) (b, rest) = cc in subst (λ (p : Base × Bases). PutsNoTickets p.0 × HoldNoTickets p.1) e t
-  | false ↦ λ q. below_ticketless bs k b rest q t.1
-]) h
+below_ticketless (c ∷ bs) k b rest h t = (elim (c.number == k) as (λ a. (if a then Some (c, bs) else base_at bs k) ≡ Some (b, rest)
+    → PutsNoTickets b × HoldNoTickets rest) [
+      | true ↦ λ q. let e : Place (c, bs) (b, rest) = cc in subst (λ (p : Base × Bases). PutsNoTickets p.0 × HoldNoTickets p.1) e t
+      | false ↦ λ q. below_ticketless bs k b rest q t.1
+    ]) h
 
 -- ---- what is handed on from the bases below
 
@@ -105,42 +105,51 @@ pub handed_same : (r : Answer) (rest bs : Bases) (ps qs : Pairs) → Extends res
 handed_same (Ok a) rest bs ps qs x t h e = ap (changed (seen a.1)) (x.same a.0 t) ∙ h ∙ e
 handed_same (Err m) rest bs ps qs x t h e = tt
 
-pub handed_there : (r : Answer) (rest bs : Bases) → Extends rest bs → IfOk r (λ a. is_there rest a.0 ≡ true) → IfOk r (λ a. is_there bs a.0 ≡ true)
+pub handed_there : (r : Answer) (rest bs : Bases) → Extends rest bs → IfOk r (λ a. is_there rest a.0 ≡ true)
+    → IfOk r (λ a. is_there bs a.0 ≡ true)
 handed_there (Ok a) rest bs x t = x.there a.0 t
 handed_there (Err m) rest bs x t = tt
 
 -- ---- changes that are written over nothing, and others over them
 
-pub merged_twice : (start copies lower upper one two : Changes) → start ≡ [] → copies ≡ lower → AreMerged start copies one → AreMerged one upper two → AreMerged lower upper two
+pub merged_twice : (start copies lower upper one two : Changes) → start ≡ [] → copies ≡ lower
+    → AreMerged start copies one → AreMerged one upper two → AreMerged lower upper two
 merged_twice start copies lower upper one two s c p q bs o =
     q bs o ∙ ap (changed (seen upper)) (p bs o ∙ (λ i. changed (seen (c i)) (changed (seen (s i)) (entries_in bs o))))
 
-pub bare_twice : (start copies lower upper one two : Changes) → start ≡ [] → copies ≡ lower → (Bare start → Bare copies → Bare one) → (Bare one → Bare upper → Bare two) → Bare lower → Bare upper → Bare two
+pub bare_twice : (start copies lower upper one two : Changes) → start ≡ [] → copies ≡ lower
+    → (Bare start → Bare copies → Bare one) → (Bare one → Bare upper → Bare two) → Bare lower → Bare upper → Bare two
 bare_twice start copies lower upper one two s c p q h t = q (p (subst Bare (sym s) refl) (subst Bare (sym c) h)) t
 
-pub made_merged : (r : Result Changes Memory) (lower upper all : Changes) → IfOk r (λ cs. cs ≡ all) → AreMerged lower upper all → IfOk r (λ cs. AreMerged lower upper cs)
+pub made_merged : (r : Result Changes Memory) (lower upper all : Changes) → IfOk r (λ cs. cs ≡ all)
+    → AreMerged lower upper all → IfOk r (λ cs. AreMerged lower upper cs)
 made_merged (Ok cs) lower upper all e h = subst (AreMerged lower upper) (sym e) h
 made_merged (Err m) lower upper all e h = tt
 
-pub made_increasing : (r : Result Changes Memory) (all : Changes) → IfOk r (λ cs. cs ≡ all) → IsIncreasing (keys_of all) → IfOk r (λ cs. IsIncreasing (keys_of cs))
+pub made_increasing : (r : Result Changes Memory) (all : Changes) → IfOk r (λ cs. cs ≡ all)
+    → IsIncreasing (keys_of all) → IfOk r (λ cs. IsIncreasing (keys_of cs))
 made_increasing (Ok cs) all e h = subst (λ (ds : Changes). IsIncreasing (keys_of ds)) (sym e) h
 made_increasing (Err m) all e h = tt
 
-pub made_bare : (r : Result Changes Memory) (lower upper all : Changes) → IfOk r (λ cs. cs ≡ all) → (Bare lower → Bare upper → Bare all) → IfOk r (λ cs. Bare lower → Bare upper → Bare cs)
+pub made_bare : (r : Result Changes Memory) (lower upper all : Changes) → IfOk r (λ cs. cs ≡ all)
+    → (Bare lower → Bare upper → Bare all) → IfOk r (λ cs. Bare lower → Bare upper → Bare cs)
 made_bare (Ok cs) lower upper all e h = λ a b. subst Bare (sym e) (h a b)
 made_bare (Err m) lower upper all e h = tt
 
 -- ---- changes that only put
 
-pub put_entries : (r : Result Changes Memory) (es : List (Datum × Value)) (ps : Pairs) → IfOk r (λ cs. cs ≡ puts_for es) → IsIncreasing (keys_of es) → pairs es ≡ ps
+pub put_entries : (r : Result Changes Memory) (es : List (Datum × Value)) (ps : Pairs) → IfOk r (λ cs. cs ≡ puts_for es)
+    → IsIncreasing (keys_of es) → pairs es ≡ ps
     → IfOk r (λ cs. changed (seen cs) no_pair ≡ ps)
 put_entries (Ok cs) es ps e s h = ap (λ (ds : Changes). changed (seen ds) no_pair) e ∙ puts_make es s ∙ h
 put_entries (Err m) es ps e s h = tt
 
-pub put_increasing : (r : Result Changes Memory) (es : List (Datum × Value)) → IfOk r (λ cs. cs ≡ puts_for es) → IsIncreasing (keys_of es) → IfOk r (λ cs. IsIncreasing (keys_of cs))
+pub put_increasing : (r : Result Changes Memory) (es : List (Datum × Value)) → IfOk r (λ cs. cs ≡ puts_for es)
+    → IsIncreasing (keys_of es) → IfOk r (λ cs. IsIncreasing (keys_of cs))
 put_increasing (Ok cs) es e s = subst IsIncreasing (sym (ap keys_of e ∙ put_keys es)) s
 put_increasing (Err m) es e s = tt
 
-pub put_puts : (r : Result Changes Memory) (es : List (Datum × Value)) (ps : Pairs) → IfOk r (λ cs. cs ≡ puts_for es) → pairs es ≡ ps → IfOk r (λ cs. put_pairs cs ≡ ps)
+pub put_puts : (r : Result Changes Memory) (es : List (Datum × Value)) (ps : Pairs) → IfOk r (λ cs. cs ≡ puts_for es)
+    → pairs es ≡ ps → IfOk r (λ cs. put_pairs cs ≡ ps)
 put_puts (Ok cs) es ps e h = ap put_pairs e ∙ put_pairs_for es ∙ h
 put_puts (Err m) es ps e h = tt

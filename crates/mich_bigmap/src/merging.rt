@@ -1,14 +1,13 @@
 // Changes that are merged with those of the bases below them.
-ghost use Rattle.std.specs.Prelude.{◌≡◌, ℕ, true, [], Option, IfOk, OnOk};
+ghost use Rattle.std.specs.Prelude.{◌≡◌, true, IfOk, OnOk};
 ghost use Rattle.std.specs.Map.{keys_of};
 ghost use Rattle.rules_values.specs.Val.{no_pair};
-ghost use Rattle.rules_values.specs.Tickets.{pair_tickets};
 ghost use Rattle.rules_bigmap.specs.Changes.{changed};
 ghost use Rattle.mich_term.specs.Keyed.{IsIncreasing};
 ghost use Rattle.mich_term.specs.ValueView.{put_pairs};
-ghost use Rattle.mich_bigmap.specs.Bases.{Bases, entries_in, seen};
+ghost use Rattle.mich_bigmap.specs.Bases.{seen};
 ghost use Rattle.mich_bigmap.specs.Formed.{is_there};
-ghost use Rattle.mich_bigmap.specs.Merged.{AreMerged};
+ghost use Rattle.mich_bigmap.specs.Merged.{AreMerged, Bare, entries_over};
 ghost use Rattle.mich_bigmap.specs.Stacked.{AreLayers, bases_of};
 ghost use Rattle.mich_bigmap.specs.Ticketless.{HoldNoTickets};
 
@@ -22,7 +21,7 @@ use std::alloc::Global;
 // Writes changes over others. Memory where there is no room for them.
 fn overwrite(under: &mut Table<Option<Value>>, changes: Rows<Change>) -> Result<(), Memory>
     ensures merged { OnOk result (AreMerged under.old changes under.new) }
-    ensures ticketless { OnOk result (pair_tickets (put_pairs under.old) ≡ [] → pair_tickets (put_pairs changes) ≡ [] → pair_tickets (put_pairs under.new) ≡ []) }
+    ensures ticketless { OnOk result (Bare under.old → Bare changes → Bare under.new) }
 {
     let mut left = changes;
     'over: while let Some((key, change)) = left.pop() {
@@ -53,7 +52,7 @@ fn overwritten(
 ) -> Result<Rows<Change>, Memory>
     ensures merged { IfOk result (λ cs. AreMerged lower.now changes cs) }
     ensures increasing { IfOk result (λ cs. IsIncreasing (keys_of cs)) }
-    ensures ticketless { IfOk result (λ cs. pair_tickets (put_pairs lower.now) ≡ [] → pair_tickets (put_pairs changes) ≡ [] → pair_tickets (put_pairs cs) ≡ []) }
+    ensures ticketless { IfOk result (λ cs. Bare lower.now → Bare changes → Bare cs) }
 {
     let copies = copy_changes(alloc, lower)?;
     let mut all = Table::new(alloc);
@@ -83,10 +82,10 @@ pub(crate) fn merged(
 ) -> Result<(Option<u64>, Rows<Change>), Memory>
     requires layers { AreLayers layers.now }
     requires increasing { IsIncreasing (keys_of changes) }
-    ensures same { IfOk result (λ r. changed (seen r.1) (entries_in (bases_of layers.now) r.0) ≡ changed (seen changes) (entries_in (bases_of layers.now) base)) }
+    ensures same { IfOk result (λ r. entries_over (bases_of layers.now) r ≡ entries_over (bases_of layers.now) (base, changes)) }
     ensures there { IfOk result (λ r. is_there (bases_of layers.now) r.0 ≡ true) }
     ensures increasing { IfOk result (λ r. IsIncreasing (keys_of r.1)) }
-    ensures ticketless { HoldNoTickets (bases_of layers.now) → pair_tickets (put_pairs changes) ≡ [] → IfOk result (λ r. pair_tickets (put_pairs r.1) ≡ []) }
+    ensures ticketless { HoldNoTickets (bases_of layers.now) → Bare changes → IfOk result (λ r. Bare r.1) }
 {
     let Some(number) = base else {
         return Ok((None, alone(alloc, changes)?));

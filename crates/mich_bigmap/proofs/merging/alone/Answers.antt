@@ -10,7 +10,7 @@ use Rattle.mich_bigmap.proofs.merging.alone.Goals as goal
 pub returns : goal.returns
 returns c =
     let made = c.puts_of.ensures in
-    let all = c.in_ok-apply.ensures ∙ ap (λ (es : List (Datum × Value)). changed (seen c.args.changes) (pairs es)) c.new.ensures in
+    let all = c.in_ok-apply.ensures ∙ ap (λ (es : List (Datum × Value)). changed (seen c.args.changes) (pairs es)) c.new-entries.ensures in
     record {
       entries = put_entries c.puts_of.result c.apply.new.entries _ made.changes made.increasing all;
       increasing = put_increasing c.puts_of.result c.apply.new.entries made.changes made.increasing;

@@ -1,6 +1,6 @@
 use Rattle.std.proofs.Common.{◌∙◌, subst, sym}
-use Rattle.mich_bigmap.specs.Bases.{Changes}
-use Rattle.mich_bigmap.proofs.Overwriting.{Bare, merged_last, bare_last, bare_with}
+use Rattle.mich_bigmap.specs.Merged.{Bare}
+use Rattle.mich_bigmap.proofs.Overwriting.{merged_last, bare_last, bare_with}
 use Rattle.mich_bigmap.proofs.merging.overwrite.Goals as goal
 
 pub over-preserved : goal.over-preserved
@@ -9,7 +9,8 @@ over-preserved c =
     let d = c.in-Some.change in
     let cs = c.pop.new.self in
     record {
-      merged = λ bs o. merged_last c.over.left cs c.over.under c.insert.new.self k d c.in-Some.ensures c.in_ok-old.ensures.new bs o ∙ c.over.invariant.merged bs o;
+      merged = λ bs o. merged_last c.over.left cs c.over.under c.insert.new.self k d c.in-Some.ensures c.in_ok-old.ensures.new bs o
+          ∙ c.over.invariant.merged bs o;
       ticketless = λ h t.
           let p = c.over.invariant.ticketless h t in
           let q = bare_last cs k d (subst Bare c.in-Some.ensures p.0) in

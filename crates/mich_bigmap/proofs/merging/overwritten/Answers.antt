@@ -1,4 +1,3 @@
-use Rattle.std.proofs.Common.{◌∙◌}
 use Rattle.mich_bigmap.proofs.Overwriting.{merged_twice, bare_twice, made_merged, made_increasing, made_bare}
 use Rattle.mich_bigmap.proofs.merging.overwritten.Goals as goal
 
@@ -12,7 +11,9 @@ returns c =
     let first = c.in_ok-overwrite.ensures in
     let second = c.in_ok-overwrite-2.ensures in
     record {
-      merged = made_merged c.rows_of.result lower upper two made.same (merged_twice _ _ lower upper one two c.new.ensures c.in_ok-copies.ensures first.merged second.merged);
+      merged = made_merged c.rows_of.result lower upper two made.same
+          (merged_twice _ _ lower upper one two c.new-all.ensures c.in_ok-copies.ensures first.merged second.merged);
       increasing = made_increasing c.rows_of.result two made.same made.increasing;
-      ticketless = made_bare c.rows_of.result lower upper two made.same (bare_twice _ _ lower upper one two c.new.ensures c.in_ok-copies.ensures first.ticketless second.ticketless);
+      ticketless = made_bare c.rows_of.result lower upper two made.same
+          (bare_twice _ _ lower upper one two c.new-all.ensures c.in_ok-copies.ensures first.ticketless second.ticketless);
     }

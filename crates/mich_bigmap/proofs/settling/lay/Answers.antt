@@ -15,9 +15,11 @@ pub returns-clause-same : goal.returns-clause-same
 returns-clause-same c =
     let new = c.extend.new.self.bases.present in
     then c.extend.result (λ k. entries_in new (Some k)) _ _ c.extend.ensures.same
-    (subst (λ (bs : Bases). changed (seen c.in_ok-under.all) (entries_in bs c.in_ok-under.under) ≡ changed (seen c.args.changes) (entries_in bs c.args.over)) c.layers.ensures.bases
+    (subst (λ (bs : Bases). changed (seen c.in_ok-under.all) (entries_in bs c.in_ok-under.under)
+    ≡ changed (seen c.args.changes) (entries_in bs c.args.over)) c.layers.ensures.bases
     c.in_ok-under.ensures.same)
 
 -- they put no ticket where neither the changes nor the store do
 pub returns-clause-ticketless : goal.returns-clause-ticketless
-returns-clause-ticketless c = λ h t. c.extend.ensures.ticketless h (c.in_ok-under.ensures.ticketless (subst HoldNoTickets (sym c.layers.ensures.bases) h) t)
+returns-clause-ticketless c = λ h t.
+    c.extend.ensures.ticketless h (c.in_ok-under.ensures.ticketless (subst HoldNoTickets (sym c.layers.ensures.bases) h) t)
