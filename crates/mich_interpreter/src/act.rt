@@ -1,6 +1,6 @@
 // What an instruction came to.
 use crate::frame::Frame;
-use mich_base::Ty;
+use mich_base::{Link, Ty};
 use mich_instr::Block;
 use mich_step::Env;
 use mich_term::Value;
@@ -9,7 +9,7 @@ use mich_term::Value;
 #[derive(Debug, Drop)]
 pub enum Failed {
     /// FAILWITH, with the type of the value and the value.
-    With(Ty, Value),
+    With(Link<Ty>, Link<Value>),
     OutOfGas,
     IntegerLimit,
     MutezOverflow,
@@ -34,6 +34,6 @@ pub(crate) enum Act {
     // A block opens, over a frame or none.
     Open(Option<Frame>, Block),
     // A view opens.
-    View(View),
+    View(Link<View>),
     Failed(Failed),
 }

@@ -35,13 +35,14 @@ pub(crate) fn enter(
     alloc: Global,
     m: &mut Machine,
     callers: &mut Rows<Caller>,
-    view: View,
+    view: Link<View>,
 ) -> Result<bool, Memory>
     ensures { IfOk result (λ b. IsEntered b view m.old callers.old m.new callers.new) }
 {
     if m.depth >= MOST_OPEN {
         return Ok(false);
     }
+    let view = view.into_value();
     let ledger = m.state.ledger.for_view(alloc)?;
     let mut stack = Rows::new(alloc);
     stack.push(view.value)?;

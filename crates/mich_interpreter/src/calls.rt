@@ -14,7 +14,7 @@ use crate::frame::Frame;
 use crate::paying::pay;
 use crate::stack::{pop, push};
 use crate::state::State;
-use mich_base::{Memory, Node, Rows, Shared, Ty, copy_type};
+use mich_base::{Link, Memory, Node, Rows, Shared, Ty, copy_type};
 use mich_bodies::Bodies;
 use mich_gas::{Costs, Kind};
 use mich_term::Value;
@@ -94,7 +94,9 @@ pub(crate) fn act_failwith(
         return Ok(Act::Failed(Failed::OutOfGas));
     }
     let value = pop(&mut m.stack);
-    let ty = copy_type(alloc, ty)?;
+    let shown = copy_type(alloc, ty)?;
+    let ty = Link::new(alloc, shown)?;
+    let value = Link::new(alloc, value)?;
     Ok(Act::Failed(Failed::With(ty, value)))
 }
 

@@ -27,7 +27,7 @@ use crate::mapping::{act_map, next_made};
 use crate::stack::{put_all, put_below};
 use crate::state::State;
 use crate::straights::act_straight;
-use mich_base::{Memory, Rows};
+use mich_base::{Link, Memory, Rows};
 use mich_bodies::Bodies;
 use mich_gas::Costs;
 use mich_instr::{Block, Instr};
@@ -55,7 +55,7 @@ pub(crate) enum Step {
     // Something that was paid for.
     Paid,
     // A view opens, which was paid for.
-    View(View),
+    View(Link<View>),
     Done,
     Failed(Failed),
 }
@@ -127,7 +127,7 @@ fn unwind(alloc: Global, m: &mut State, costs: &Costs, frame: Frame) -> Result<A
         Frame::Turns(body) => Ok(next_turn(m, costs, body)?),
         Frame::LeftTurns(body) => Ok(next_left_turn(m, costs, body)?),
         Frame::Each(body, items) => Ok(next_each(alloc, m, costs, body, items)?),
-        Frame::Making(body, making) => Ok(next_made(alloc, m, costs, body, making)?),
+        Frame::Making(body, making) => Ok(next_made(alloc, m, costs, body, making.into_value())?),
         Frame::Under(above) => {
             put_all(&mut m.stack, above)?;
             Ok(Act::On)

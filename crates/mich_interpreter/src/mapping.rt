@@ -50,6 +50,7 @@ fn put_last(table: &mut Table<Value>, key: Datum, value: Value) -> Result<(), Me
 
 // MAP's turn for a value of a list.
 fn open_value(
+    alloc: Global,
     m: &mut State,
     costs: &Costs,
     body: Block,
@@ -68,11 +69,18 @@ fn open_value(
     }
     push(&mut m.stack, item)?;
     let code = body.share()?;
-    Ok(Act::Open(Some(Frame::Making(body, Making::Value(work))), code))
+    let making = Link::new(alloc, Making::Value(work))?;
+    Ok(Act::Open(Some(Frame::Making(body, making)), code))
 }
 
 // The turn of a MAP over a list for its next value, or its end.
-fn next_value(m: &mut State, costs: &Costs, body: Block, work: OverList) -> Result<Act, Memory>
+fn next_value(
+    alloc: Global,
+    m: &mut State,
+    costs: &Costs,
+    body: Block,
+    work: OverList,
+) -> Result<Act, Memory>
     requires { WaitsOn (λ big. list_mapping big (codes body) work) costs.now m.old }
     ensures acts { ResumesOn (λ big. list_mapping big (codes body) work) costs.now m.old m.new result }
     ensures gas { IfOk result (λ a. Turns a m.old.meter m.new.meter) }
@@ -82,7 +90,7 @@ fn next_value(m: &mut State, costs: &Costs, body: Block, work: OverList) -> Resu
 {
     let mut work = work;
     match work.left.pop() {
-        Some(item) => Ok(open_value(m, costs, body, work, item)?),
+        Some(item) => Ok(open_value(alloc, m, costs, body, work, item)?),
         None => {
             push(&mut m.stack, Value::List(Chain::from_rows(work.made)))?;
             Ok(Act::On)
@@ -113,7 +121,8 @@ fn open_entry(
     let item = pair_of(alloc, &key, value)?;
     push(&mut m.stack, item)?;
     let code = body.share()?;
-    Ok(Act::Open(Some(Frame::Making(body, Making::Entry(work, key))), code))
+    let making = Link::new(alloc, Making::Entry(work, key))?;
+    Ok(Act::Open(Some(Frame::Making(body, making)), code))
 }
 
 // The turn of a MAP over a map for its next entry, or its end.
@@ -161,7 +170,7 @@ pub(crate) fn next_made(
         Making::Value(work) => {
             let mut work = work;
             work.made.push(result)?;
-            Ok(next_value(m, costs, body, work)?)
+            Ok(next_value(alloc, m, costs, body, work)?)
         }
         Making::Entry(work, key) => {
             let mut work = work;
@@ -177,7 +186,13 @@ pub(crate) fn next_made(
 }
 
 // The turn of a MAP over an option for what it holds.
-fn next_part(m: &mut State, costs: &Costs, body: &Block, part: Value) -> Result<Act, Memory>
+fn next_part(
+    alloc: Global,
+    m: &mut State,
+    costs: &Costs,
+    body: &Block,
+    part: Value,
+) -> Result<Act, Memory>
     requires { WaitsOn (λ big. fr.mapping (codes body.now) (some unit) [] (seen big part ∷ [])) costs.now m.old }
     ensures acts { ResumesOn (λ big. fr.mapping (codes body.now) (some unit) [] (seen big part ∷ [])) costs.now m.old m.new result }
     ensures gas { IfOk result (λ a. Turns a m.old.meter m.new.meter) }
@@ -191,7 +206,8 @@ fn next_part(m: &mut State, costs: &Costs, body: &Block, part: Value) -> Result<
     push(&mut m.stack, part)?;
     let below = body.share()?;
     let code = body.share()?;
-    Ok(Act::Open(Some(Frame::Making(below, Making::Part)), code))
+    let making = Link::new(alloc, Making::Part)?;
+    Ok(Act::Open(Some(Frame::Making(below, making)), code))
 }
 
 // MAP on its collection.
@@ -215,7 +231,7 @@ fn begin_map(
             let body = body.share()?;
             let left = values_of(list);
             let made = Rows::new(alloc);
-            Ok(next_value(m, costs, body, OverList { left, made })?)
+            Ok(next_value(alloc, m, costs, body, OverList { left, made })?)
         }
         Value::Map(table) => {
             let body = body.share()?;
@@ -223,7 +239,7 @@ fn begin_map(
             let made = Table::new(alloc);
             Ok(next_entry(alloc, m, costs, body, OverTable { left, made })?)
         }
-        Value::Some(part) => Ok(next_part(m, costs, body, part.into_value())?),
+        Value::Some(part) => Ok(next_part(alloc, m, costs, body, part.into_value())?),
         Value::None => {
             push(&mut m.stack, Value::None)?;
             Ok(Act::On)

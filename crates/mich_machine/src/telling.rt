@@ -18,8 +18,8 @@ pub(crate) fn tell(alloc: Global, why: Failed) -> Result<Failure, Memory>
 {
     match why {
         Failed::With(ty, value) => {
-            let ty = type_node(alloc, &ty)?;
-            let value = value_node(alloc, &value)?;
+            let ty = type_node(alloc, ty.get())?;
+            let value = value_node(alloc, value.get())?;
             Ok(Failure::FailedWith(ty, value))
         }
         Failed::OutOfGas => Ok(Failure::OutOfGas),
