@@ -94,8 +94,8 @@ pub(crate) fn act_failwith(
         return Ok(Act::Failed(Failed::OutOfGas));
     }
     let value = pop(&mut m.stack);
-    let ty = copy_type(alloc, ty)?;
-    let ty = Link::new(alloc, ty)?;
+    let shown = copy_type(alloc, ty)?;
+    let ty = Link::new(alloc, shown)?;
     let value = Link::new(alloc, value)?;
     Ok(Act::Failed(Failed::With(ty, value)))
 }

@@ -74,7 +74,13 @@ fn open_value(
 }
 
 // The turn of a MAP over a list for its next value, or its end.
-fn next_value(alloc: Global, m: &mut State, costs: &Costs, body: Block, work: OverList) -> Result<Act, Memory>
+fn next_value(
+    alloc: Global,
+    m: &mut State,
+    costs: &Costs,
+    body: Block,
+    work: OverList,
+) -> Result<Act, Memory>
     requires { WaitsOn (λ big. list_mapping big (codes body) work) costs.now m.old }
     ensures acts { ResumesOn (λ big. list_mapping big (codes body) work) costs.now m.old m.new result }
     ensures gas { IfOk result (λ a. Turns a m.old.meter m.new.meter) }
@@ -180,7 +186,13 @@ pub(crate) fn next_made(
 }
 
 // The turn of a MAP over an option for what it holds.
-fn next_part(alloc: Global, m: &mut State, costs: &Costs, body: &Block, part: Value) -> Result<Act, Memory>
+fn next_part(
+    alloc: Global,
+    m: &mut State,
+    costs: &Costs,
+    body: &Block,
+    part: Value,
+) -> Result<Act, Memory>
     requires { WaitsOn (λ big. fr.mapping (codes body.now) (some unit) [] (seen big part ∷ [])) costs.now m.old }
     ensures acts { ResumesOn (λ big. fr.mapping (codes body.now) (some unit) [] (seen big part ∷ [])) costs.now m.old m.new result }
     ensures gas { IfOk result (λ a. Turns a m.old.meter m.new.meter) }

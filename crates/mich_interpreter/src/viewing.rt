@@ -40,7 +40,7 @@ fn env_at(env: &Env, hash: [u8; 20], balance: u64) -> Env
 }
 
 // The view that opens on an input.
-fn opening(alloc: Global, env: &Env, visit: Visit, input: Value) -> Result<View, Memory>
+fn opening(alloc: Global, env: &Env, visit: Visit, input: Value) -> Result<Link<View>, Memory>
     ensures code { IfOk result (λ w. w.code ≡ visit.code) }
     ensures value { IfOk result (λ w. (big : Sight) → seen big w.value ≡ both (seen big input) (seen big visit.storage)) }
     ensures env { IfOk result (λ w. w.env ≡ env_at env.entry.now visit.hash visit.balance) }
@@ -48,11 +48,13 @@ fn opening(alloc: Global, env: &Env, visit: Visit, input: Value) -> Result<View,
     let env = env_at(env, visit.hash, visit.balance);
     let first = Link::new(alloc, input)?;
     let second = Link::new(alloc, visit.storage)?;
-    Ok(View {
+    let view = View {
         code: visit.code,
         value: Value::Pair(first, second),
         env,
-    })
+    };
+    let view = Link::new(alloc, view)?;
+    Ok(view)
 }
 
 // Without a view the input is discarded, and its tickets are burnt.

@@ -19,4 +19,4 @@ pub returns-clause-acts : goal.returns-clause-acts
 returns-clause-acts c = λ x fs d Z o h.
     let p = rw c.if-not-pay.false at c.pay.ensures in
     let meets = rw (c.pop-value.ensures x.sight) at h in
-    rw c.in_ok-ty.ensures (subst (λ (w : Val). o ≡ failed (f.failed_with (kind c.args.ty.now) w)) (fail_seen x.sight c.pop-value.result meets) (fail_acts _ p.0 meets))
+    rw (c.in_ok-value.ensures, c.in_ok-ty.ensures, c.in_ok-shown.ensures) (subst (λ (w : Val). o ≡ failed (f.failed_with (kind c.args.ty.now) w)) (fail_seen x.sight c.pop-value.result meets) (fail_acts _ p.0 meets))

@@ -35,11 +35,11 @@ returns-in_ok-next_each-in-Each-clause-acts c = λ x fs d Z o h.
     c.in_ok-next_each-in-Each.ensures.acts x fs d Z o (subst (λ (f : Frame). Stands f x c.args.costs.now c.args.m.now fs d Z o) c.in-Each.is h)
 
 pub next_made-requires : goal.next_made-requires
-next_made-requires c = subst (λ (f : Frame). Waits f c.args.costs.now c.args.m.now) c.in-Making.is c.requires.waits
+next_made-requires c = rw c.into_value.ensures (subst (λ (f : Frame). Waits f c.args.costs.now c.args.m.now) c.in-Making.is c.requires.waits)
 
 pub returns-in_ok-next_made-in-Making-clause-acts : goal.returns-in_ok-next_made-in-Making-clause-acts
 returns-in_ok-next_made-in-Making-clause-acts c = λ x fs d Z o h.
-    c.in_ok-next_made-in-Making.ensures.acts x fs d Z o (subst (λ (f : Frame). Stands f x c.args.costs.now c.args.m.now fs d Z o) c.in-Making.is h)
+    c.in_ok-next_made-in-Making.ensures.acts x fs d Z o (rw c.into_value.ensures (subst (λ (f : Frame). Stands f x c.args.costs.now c.args.m.now fs d Z o) c.in-Making.is h))
 
 pub returns-in_ok-put_all-in-Under-clause-keeps : goal.returns-in_ok-put_all-in-Under-clause-keeps
 returns-in_ok-put_all-in-Under-clause-keeps c = same_keeps _ _ refl refl refl

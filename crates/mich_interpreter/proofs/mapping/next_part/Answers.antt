@@ -13,7 +13,7 @@ returns-then-not-pay-clause-acts c = λ x fs d Z o h.
 pub returns-clause-acts : goal.returns-clause-acts
 returns-clause-acts c = λ x fs d Z o h.
     let p = rw c.if-not-pay.false at c.pay.ensures in
-    rw (c.in_ok-code.ensures, c.in_ok-below.ensures, c.in_ok-push.ensures x.sight) (opens_paid g.Turn 0 _ c.pay.new.meter p.1 (mapping_opens (seen x.sight c.args.part) [] p.0 h))
+    rw (c.in_ok-making.ensures, c.in_ok-code.ensures, c.in_ok-below.ensures, c.in_ok-push.ensures x.sight) (opens_paid g.Turn 0 _ c.pay.new.meter p.1 (mapping_opens (seen x.sight c.args.part) [] p.0 h))
 
 pub returns-clause-gas : goal.returns-clause-gas
 returns-clause-gas c =

@@ -14,7 +14,7 @@ pub returns-clause-acts : goal.returns-clause-acts
 returns-clause-acts c = λ x fs d Z o h.
     let p = rw c.if-not-pay.false at c.pay.ensures in
     let opens = opens_paid g.Turn 0 _ c.pay.new.meter p.1 (table_opens x.sight (table_with c.args.work c.args.entry) c.args.work c.args.entry refl refl p.0 h) in
-    rw (c.in_ok-code.ensures, c.in_ok-push.ensures x.sight, c.in_ok-item.ensures x.sight) opens
+    rw (c.in_ok-making.ensures, c.in_ok-code.ensures, c.in_ok-push.ensures x.sight, c.in_ok-item.ensures x.sight) opens
 
 pub returns-clause-gas : goal.returns-clause-gas
 returns-clause-gas c =

@@ -14,7 +14,7 @@ pub returns-clause-acts : goal.returns-clause-acts
 returns-clause-acts c = λ x fs d Z o h.
     let p = rw c.if-not-pay.false at c.pay.ensures in
     let opens = opens_paid g.Turn 0 _ c.pay.new.meter p.1 (list_opens x.sight (list_with c.args.work c.args.item) c.args.work c.args.item refl refl p.0 h) in
-    rw (c.in_ok-code.ensures, c.in_ok-push.ensures x.sight) opens
+    rw (c.in_ok-making.ensures, c.in_ok-code.ensures, c.in_ok-push.ensures x.sight) opens
 
 pub returns-clause-gas : goal.returns-clause-gas
 returns-clause-gas c =
