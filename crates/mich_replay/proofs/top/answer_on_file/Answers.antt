@@ -1,0 +1,5 @@
+use Rattle.mich_replay.proofs.Pace.{whole_reads}
+use Rattle.mich_replay.proofs.top.answer_on_file.Goals as goal
+
+pub returns-in-Whole-clause-pace : goal.returns-in-Whole-clause-pace
+returns-in-Whole-clause-pace g c = λ e. absurd (whole_reads c.in-Whole.verb e)
