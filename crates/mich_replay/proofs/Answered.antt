@@ -1,13 +1,12 @@
 -- A file comes to an answer.
-use Rattle.std.proofs.Common.{◌≡◌, ℕ, zero, suc, ◌+◌, ◌-◌, ◌≤◌, ◌<◌, ◌⊎◌, inl, inr, List, [], ◌∷◌, length, drop, Option, Some, None, IsSome, Err, refl, sym, ap, ◌∙◌, subst, arith}
+use Rattle.std.proofs.Common.{◌≡◌, ℕ, zero, suc, ◌+◌, ◌-◌, ◌≤◌, ◌⊎◌, inl, inr, List, [], ◌∷◌, length, drop, Option, Some, None, IsSome, Err, refl, sym, subst, arith}
 use Rattle.std.proofs.lemmas.List.{length-drop}
 use Rattle.rules_base.specs.Tree.{Tree}
 use Rattle.rules_course.specs.Course.{Course}
-use Rattle.rules_text.specs.Text as within
 use Rattle.rules_text.specs.declared.TextKind.{TextKind}
 use Rattle.rules_replay.specs.Answers.{Answer, replay_answer, usage_answer}
 use Rattle.rules_replay.specs.Codec.{IsCodecAnswer, of_listing, of_text, encode_node, decode_node}
-use Rattle.rules_replay.specs.Commands.{Command, OnFile, Generating, NoCommand, Verb, Replaying, Checking, Encoding, Decoding, Packing, IsVerbAnswer, IsAnswer, IsTold}
+use Rattle.rules_replay.specs.Commands.{Command, OnFile, Generating, NoCommand, Verb, Replaying, Checking, Encoding, Decoding, Packing, IsVerbAnswer, IsAnswer}
 use Rattle.rules_replay.specs.Packs.{pack_node}
 use Rattle.rules_replay.specs.Places.{Placed, IsNodeAt, IsFaultAt, IsEndAt, AreStatements, Listing, EndsIn, IsListing}
 use Rattle.rules_replay.specs.Replay.{Replay, IsReplay, Closes, Run, going, stopped, stuck_run, run_all, RefusedAt, TextFault, ending_of}

@@ -3,7 +3,7 @@ use Rattle.std.proofs.Common.{ℕ, ◌-◌, ◌≤◌, ◌<◌, List, [], ◌∷
 use Rattle.std.proofs.lemmas.List.{drop-append-le, length-append}
 use Rattle.rules_base.specs.Tree.{Tree}
 use Rattle.rules_text.specs.Text.{IsNode, EndsAt}
-use Rattle.rules_replay.specs.Places.{Placed, IsNodeAt}
+use Rattle.rules_replay.specs.Places.{Placed}
 use Rattle.mich_answers.proofs.Shorter.{further}
 use Rattle.mich_reader.specs.Fronts.{IsClosed}
 use Rattle.mich_reader.proofs.Tried.{closed_cut}
@@ -22,8 +22,7 @@ module _ (bytes : List ℕ) (place : ℕ) (within : place ≤ length bytes) wher
       let one = h (0 ∷ []) in
       let some : 1 ≤ one.1 = omega (arith, none.4, one.4, length-append bytes [], length-append bytes (0 ∷ [])) in
       let node : IsNode place (drop place bytes ++ 0 ∷ []) s.node one.0 one.1 =
-      subst (λ (l : List ℕ). IsNode place l s.node one.0 one.1) (drop-append-le place bytes (0 ∷ []) within) one.2 in
-      (
+      subst (λ (l : List ℕ). IsNode place l s.node one.0 one.1) (drop-append-le place bytes (0 ∷ []) within) one.2 in (
         one.0 - 1,
         one.1 - 1,
         closed_cut place (drop place bytes) (0 ∷ []) s.node one.0 one.1 (record { node = node; sign = signed node.stands.rest one.1 some node.stands.ends }) some,

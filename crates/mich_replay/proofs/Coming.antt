@@ -92,9 +92,12 @@ module _ (bytes : List ℕ) (last : Bool) (r s : Held) (receipts : List Receipt)
 
   pub reads_more : IsNext r last s (Ok next.More) → (last ≡ false) × Reads bytes false s receipts plain × (length bytes ≤ file_limit) × NoneIsClosedAt bytes s.place
   reads_more n =
-      let size : length bytes ≡ r.place + length r.bytes = omega (arith, ap (λ (l : List ℕ). length l) h.bytes, length-drop r.place bytes, h.within) in
-      (n.0, subst (λ (x : Held). Reads bytes false x receipts plain) (sym n.2) (subst (λ (b : Bool). Reads bytes b r receipts plain) n.0 h), omega (arith, size, n.1.file),
-      subst (λ (x : Held). NoneIsClosedAt bytes x.place) (sym n.2) (none_closed bytes r.place h.within (λ tree start end q. n.1.none tree start end (subst (λ (l : List ℕ). IsClosed r.place l tree start end) h.bytes q))))
+      let size : length bytes ≡ r.place + length r.bytes = omega (arith, ap (λ (l : List ℕ). length l) h.bytes, length-drop r.place bytes, h.within) in (
+        n.0,
+        subst (λ (x : Held). Reads bytes false x receipts plain) (sym n.2) (subst (λ (b : Bool). Reads bytes b r receipts plain) n.0 h),
+        omega (arith, size, n.1.file),
+        subst (λ (x : Held). NoneIsClosedAt bytes x.place) (sym n.2) (none_closed bytes r.place h.within (λ tree start end q. n.1.none tree start end (subst (λ (l : List ℕ). IsClosed r.place l tree start end) h.bytes q))),
+      )
 
   pub reads_end : IsNext r last s (Ok next.End) → Reads bytes true s receipts plain × (last ≡ true) × IsEndAt bytes s.place
   reads_end n =

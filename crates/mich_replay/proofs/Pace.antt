@@ -1,5 +1,5 @@
 -- How what was written keeps step with what was taken.
-use Rattle.std.proofs.Common.{◌≡◌, ◌≤◌, ◌⊎◌, ℕ, false, true, List, [], ◌∷◌, ◌++◌, length, Result, Ok, Err, inl, inr, refl, sym, ap, ◌∙◌, subst, append-nil, arith}
+use Rattle.std.proofs.Common.{◌≡◌, ◌≤◌, ℕ, false, true, List, [], ◌++◌, length, Result, Ok, Err, inl, inr, refl, sym, ◌∙◌, subst, append-nil, arith}
 use Rattle.std.specs.declared.option.Option.{Option}
 use Rattle.std.specs.Io.KnownBytes.{Appends, Consumes}
 use Rattle.std.specs.Prelude.{OnOk, OnErr, IsErrOf}
@@ -12,7 +12,7 @@ use Rattle.rules_replay.specs.Replay.{Ending, State, RefusedAt}
 use Rattle.mich_course.specs.declared.course.Course.{Course}
 use Rattle.mich_reader.specs.Held.{Held}
 use Rattle.mich_replay.specs.Coming.{Closes, Grows, Told}
-use Rattle.mich_replay.specs.Pace.{Gives, KeepsStep, NoneIsClosedAt, WritesAsItReads, piece_limit}
+use Rattle.mich_replay.specs.Pace.{Gives, NoneIsClosedAt, WritesAsItReads, piece_limit}
 use Rattle.mich_replay.specs.View.{status_in, whole_seen}
 use Rattle.mich_replay.specs.declared.command.WholeVerb.{WholeVerb}
 use Rattle.mich_replay.specs.declared.command.WholeVerb.TheVariants as wholes
@@ -119,17 +119,17 @@ whole_reads wholes.Encode e = absurd cc
 whole_reads wholes.Decode e = absurd cc
 whole_reads wholes.Pack e = absurd cc
 
-pub same_verb : (verb : Verb) (path other : List ℕ) (command : Command) → OnFile verb path ≡ command → command ≡ OnFile Replaying other → (verb ≡ Replaying) × (path ≡ other)
-same_verb verb path other command e f = by (e ∙ f) where
+pub same_verb : (verb : Verb) (path other : List ℕ) (what : Command) → OnFile verb path ≡ what → what ≡ OnFile Replaying other → (verb ≡ Replaying) × (path ≡ other)
+same_verb verb path other what e f = by (e ∙ f) where
   by : OnFile verb path ≡ OnFile Replaying other → (verb ≡ Replaying) × (path ≡ other)
   by x = let v : verb ≡ Replaying = cc in let p : path ≡ other = cc in (v, p)
 
-pub no_workload : (calls : ℕ) (path : List ℕ) (command : Command) → Generating calls ≡ command → command ≡ OnFile Replaying path → ⊥
-no_workload calls path command e f = by (e ∙ f) where
+pub no_workload : (calls : ℕ) (path : List ℕ) (what : Command) → Generating calls ≡ what → what ≡ OnFile Replaying path → ⊥
+no_workload calls path what e f = by (e ∙ f) where
   by : Generating calls ≡ OnFile Replaying path → ⊥
   by x = absurd cc
 
-pub no_usage : (path : List ℕ) (command : Command) → NoCommand ≡ command → command ≡ OnFile Replaying path → ⊥
-no_usage path command e f = by (e ∙ f) where
+pub no_usage : (path : List ℕ) (what : Command) → NoCommand ≡ what → what ≡ OnFile Replaying path → ⊥
+no_usage path what e f = by (e ∙ f) where
   by : NoCommand ≡ OnFile Replaying path → ⊥
   by x = absurd cc

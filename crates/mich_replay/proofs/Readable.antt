@@ -1,12 +1,11 @@
 -- Each text is a statement, a fault, or nothing but white space and comments.
-use Rattle.std.proofs.Common.{◌≡◌, ℕ, zero, suc, ◌+◌, ◌-◌, ◌≤◌, ◌<◌, ◌⊎◌, inl, inr, max, pos, Bool, true, false, eqb, ltb, List, [], ◌∷◌, ◌++◌, length, take, drop, Option, Some, None, Result, Ok, Err, rules, refl, sym, ap, ◌∙◌, subst, arith}
+use Rattle.std.proofs.Common.{◌≡◌, ℕ, zero, suc, ◌+◌, ◌-◌, ◌≤◌, ◌<◌, ◌⊎◌, inl, inr, max, Bool, true, false, eqb, ltb, List, [], ◌∷◌, ◌++◌, length, take, drop, Option, Some, None, Result, Ok, Err, rules, refl, sym, ap, ◌∙◌, subst, arith}
 use Rattle.std.proofs.lemmas.Bool.{eqb-true, eqb-false, ltb-true, ltb-false}
-use Rattle.std.proofs.lemmas.List.{length-drop}
 use Rattle.std.specs.List.{prefix_len}
 use Rattle.std.specs.Char.{is_ascii_hexdigit}
 use Rattle.rules_base.specs.Tree.{Tree, Trees}
 use Rattle.rules_text.specs.Fault.{Flaw, depth_limit, statement_limit, file_limit}
-use Rattle.rules_text.specs.Lexical.{after_gap, token_at, first_shape, shape_of}
+use Rattle.rules_text.specs.Lexical.{after_gap, token_at, first_shape}
 use Rattle.rules_text.specs.Text.{IsStatementLimit, IsFileLimit}
 use Rattle.rules_text.specs.Text as within
 use Rattle.rules_text.specs.Token.{Token, token_shape}
@@ -21,9 +20,8 @@ use Rattle.mich_base.specs.declared.node.Node.TheVariants as node
 use Rattle.mich_text.specs.Limited.{IsOnly, IsUpTo}
 use Rattle.mich_text.specs.Machine.{Stack, Refusal, finish, has_statement, is_root, ready_for, refused, put, start, step}
 use Rattle.mich_text.specs.Plain.{IsFault, IsNode, IsEnd}
-use Rattle.mich_text.specs.Results.{EndsClosed, IsRead, IsLimitedRead, Refuses, first_flaw, kind_of}
+use Rattle.mich_text.specs.Results.{EndsClosed, IsRead, Refuses, first_flaw, kind_of}
 use Rattle.mich_text.specs.Shown.{IsOpenBytes}
-use Rattle.mich_text.specs.declared.fault.LexError.{LexError}
 use Rattle.mich_text.specs.declared.fault.LexError.TheVariants as errors
 use Rattle.mich_text.specs.declared.plain.Found.{Found}
 use Rattle.mich_text.proofs.Fronts.{step_ok}
@@ -204,8 +202,7 @@ file_left : (before : ℕ) (text : List ℕ) → (n : ℕ) × IsOnly (IsFileLimi
 file_left before text = by (ltb file_limit before) refl where
   by : (b : Bool) → ltb file_limit before ≡ b → (n : ℕ) × IsOnly (IsFileLimit before text) n × (n ≤ length text)
   by false e =
-      let low : before ≤ file_limit = ltb-false file_limit before e in
-      (
+      let low : before ≤ file_limit = ltb-false file_limit before e in (
         before + length text - file_limit,
         (
           (λ h. record { left_is = omega (arith, h); some = h; here = omega (arith, h, low) }),

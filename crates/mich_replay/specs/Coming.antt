@@ -55,7 +55,8 @@ pub record Came (fed : List ℕ) (last : Bool) (r : Held) (c : Option Course) (r
 abbrev pub Happens : List ℕ → Bool → List Receipt → ℕ → Held → Option Course → Result Event Memory → Type 0
 Happens fed last receipts place r c (Ok event.Taken) = Came fed last r c receipts × (place < r.place)
 Happens fed last receipts place r c (Ok (event.Group told)) = (found : Receipt) × Tells told found × Came fed last r c (receipts ++ found ∷ []) × (place < r.place)
-Happens fed last receipts place r c (Ok event.More) = (last ≡ false) × Came fed false r c receipts × (length fed ≤ file_limit) × NoneIsClosedAt fed r.place
+Happens fed last receipts place r c (Ok event.More) =
+    (last ≡ false) × Came fed false r c receipts × (length fed ≤ file_limit) × NoneIsClosedAt fed r.place
 Happens fed last receipts place r c (Ok event.End) = Came fed true r c receipts × (last ≡ true) × IsEndAt fed r.place
 Happens fed last receipts place r c (Ok (event.Refused fault at)) = IsRefused fed last receipts (file_fault_seen fault) at
 Happens fed last receipts place r c (Err e) = Unit {0}
@@ -82,7 +83,8 @@ pub record Cut (fed : List ℕ) (last : Bool) (before now : Option (List ℕ)) :
 
 -- what stands behind the groups that were told
 abbrev pub Pauses : List ℕ → Bool → Option (List ℕ) → Option (List ℕ) → Held → Option Course → Result Pause Stop → Type 0
-Pauses fed last before now r c (Ok pause.More) = (last ≡ false) × Told fed false before now r c × (length fed ≤ file_limit) × NoneIsClosedAt fed r.place
+Pauses fed last before now r c (Ok pause.More) =
+    (last ≡ false) × Told fed false before now r c × (length fed ≤ file_limit) × NoneIsClosedAt fed r.place
 Pauses fed last before now r c (Ok pause.End) = Told fed true before now r c × (last ≡ true) × IsEndAt fed r.place
 Pauses fed last before now r c (Ok (pause.Refused fault at)) =
     (receipts : List Receipt) × IsRefused fed last receipts (file_fault_seen fault) at × Appends before now (text_of (group_lines 1 receipts))

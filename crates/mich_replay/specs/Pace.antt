@@ -50,4 +50,5 @@ NotStarted left_before left_now before now status = (now ≡ before) × ((status
 -- sink is the last one, and any may be, what was written by then keeps step with what was taken of the file.
 abbrev pub WritesAsItReads : (content left_before left_now before now : Option (List ℕ)) → ℕ → Type 0
 WritesAsItReads content left_before left_now before now status =
-    NotStarted left_before left_now before now status ⊎ ((taken : List ℕ) × Consumes content left_now taken × KeepsStep taken before now status)
+    NotStarted left_before left_now before now status
+    ⊎ ((taken : List ℕ) × Consumes content left_now taken × KeepsStep taken before now status)

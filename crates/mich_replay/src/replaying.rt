@@ -124,7 +124,8 @@ pub(crate) fn replay_file<F: Files, K: Sink>(
 ) -> Result<u8, Stop>
     requires { Contains (F.lent files.old) path.now }
     ensures comes { Comes (OnFile Replaying path.now) (F.content files.old) (K.written out.old) (K.written out.new) result }
-    ensures pace { WritesAsItReads (F.content files.old path.now) (F.left files.old) (F.left files.new) (K.written out.old) (K.written out.new) (status_in result) }
+    ensures pace { WritesAsItReads (F.content files.old path.now) (F.left files.old) (F.left files.new)
+        (K.written out.old) (K.written out.new) (status_in result) }
     ensures end { IfOk result (λ status. status ≡ 0 → IsAtEnd (F.left files.new)) }
     ensures reads { HasCause Stop.Read (F.faults files.old) (F.faults files.new) result }
     ensures writes { HasCause Stop.Write (K.faults out.old) (K.faults out.new) result }

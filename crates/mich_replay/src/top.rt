@@ -27,7 +27,9 @@ fn answer_on_file<F: Files, K: Sink>(
 ) -> Result<u8, Stop>
     requires { Contains (F.lent files.old) path.now }
     ensures comes { Comes (OnFile (verb_seen verb) path.now) (F.content files.old) (K.written out.old) (K.written out.new) result }
-    ensures pace { verb_seen verb ≡ Replaying → WritesAsItReads (F.content files.old path.now) (F.left files.old) (F.left files.new) (K.written out.old) (K.written out.new) (status_in result) }
+    ensures pace { verb_seen verb ≡ Replaying
+        → WritesAsItReads (F.content files.old path.now) (F.left files.old) (F.left files.new)
+        (K.written out.old) (K.written out.new) (status_in result) }
     ensures end { IfOk result (λ status. status ≡ 0 → IsAtEnd (F.left files.new)) }
     ensures reads { HasCause Stop.Read (F.faults files.old) (F.faults files.new) result }
     ensures writes { HasCause Stop.Write (K.faults out.old) (K.faults out.new) result }
@@ -48,7 +50,8 @@ fn answer_words<F: Files, K: Sink>(
     requires { F.lent files.old ≡ drop 1 words.now }
     ensures comes { Comes (command_of words.now) (F.content files.old) (K.written out.old) (K.written out.new) result }
     ensures pace { (path : List ℕ) → command_of words.now ≡ OnFile Replaying path
-        → WritesAsItReads (F.content files.old path) (F.left files.old) (F.left files.new) (K.written out.old) (K.written out.new) (status_in result) }
+        → WritesAsItReads (F.content files.old path) (F.left files.old) (F.left files.new)
+        (K.written out.old) (K.written out.new) (status_in result) }
     ensures end { IfOk result (λ status. status ≡ 0 → IsSome (file_of (command_of words.now)) → IsAtEnd (F.left files.new)) }
     ensures file { IsErrOf result Stop.Read → IsSome (file_of (command_of words.now)) }
     ensures reads { HasCause Stop.Read (F.faults files.old) (F.faults files.new) result }

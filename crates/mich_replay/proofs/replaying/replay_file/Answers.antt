@@ -49,7 +49,7 @@ pieces-init g c =
         size_is = refl;
         short = omega arith;
         told = told_fresh _ c.in_ok-session.session.reader c.in_ok-session.session.course c.in_ok-session.ensures.0 c.in_ok-session.ensures.1;
-      all = subst (λ (r : Held). NoneIsClosedAt [] r.place) (sym c.in_ok-session.ensures.0) none_first;
+        all = subst (λ (r : Held). NoneIsClosedAt [] r.place) (sym c.in_ok-session.ensures.0) none_first;
       };
     }
 
