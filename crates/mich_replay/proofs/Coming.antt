@@ -17,11 +17,14 @@ use Rattle.mich_text.specs.declared.fault.TextError.TheVariants as texts
 use Rattle.mich_text.specs.declared.reader.Placed.{Placed as CodePlaced}
 use Rattle.mich_reader.proofs.Holding.{limit_le}
 use Rattle.mich_reader.proofs.Pieces.{pieces_tell}
+use Rattle.mich_reader.specs.Fronts.{IsClosed}
 use Rattle.mich_reader.specs.Held.{Held, fresh, fed}
 use Rattle.mich_reader.specs.Reading.{IsNext, Tells, asked, taken as took}
 use Rattle.mich_reader.specs.declared.reader.Next.{Next}
 use Rattle.mich_reader.specs.declared.reader.Next.TheVariants as next
 use Rattle.mich_replay.specs.Coming.{Begun, IsRefused, Reads}
+use Rattle.mich_replay.specs.Pace.{NoneIsClosedAt}
+use Rattle.mich_replay.proofs.Closed.{none_closed}
 
 -- ---- runs
 
@@ -87,10 +90,14 @@ module _ (bytes : List ℕ) (last : Bool) (r s : Held) (receipts : List Receipt)
 
   -- ---- no statement
 
-  pub reads_more : IsNext r last s (Ok next.More) → (last ≡ false) × Reads bytes false s receipts plain × (length bytes ≤ file_limit)
+  pub reads_more : IsNext r last s (Ok next.More) → (last ≡ false) × Reads bytes false s receipts plain × (length bytes ≤ file_limit) × NoneIsClosedAt bytes s.place
   reads_more n =
-      let size : length bytes ≡ r.place + length r.bytes = omega (arith, ap (λ (l : List ℕ). length l) h.bytes, length-drop r.place bytes, h.within) in
-      (n.0, subst (λ (x : Held). Reads bytes false x receipts plain) (sym n.2) (subst (λ (b : Bool). Reads bytes b r receipts plain) n.0 h), omega (arith, size, n.1.file))
+      let size : length bytes ≡ r.place + length r.bytes = omega (arith, ap (λ (l : List ℕ). length l) h.bytes, length-drop r.place bytes, h.within) in (
+        n.0,
+        subst (λ (x : Held). Reads bytes false x receipts plain) (sym n.2) (subst (λ (b : Bool). Reads bytes b r receipts plain) n.0 h),
+        omega (arith, size, n.1.file),
+        subst (λ (x : Held). NoneIsClosedAt bytes x.place) (sym n.2) (none_closed bytes r.place h.within (λ tree start end q. n.1.none tree start end (subst (λ (l : List ℕ). IsClosed r.place l tree start end) h.bytes q))),
+      )
 
   pub reads_end : IsNext r last s (Ok next.End) → Reads bytes true s receipts plain × (last ≡ true) × IsEndAt bytes s.place
   reads_end n =

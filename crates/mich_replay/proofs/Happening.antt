@@ -55,7 +55,7 @@ module _ (bytes : List ℕ) (last : Bool) (r s : Held) (receipts : List Receipt)
   pub more_happens : IsNext r last s (Ok next.More) → Happens bytes last receipts r.place s old (Ok event.More)
   more_happens n =
       let x = reads_more bytes last r s receipts h.plain h.reads n in
-      (x.0, record { plain = h.plain; reads = x.1; stands = h.stands }, x.2)
+      (x.0, record { plain = h.plain; reads = x.1; stands = h.stands }, x.2, x.3)
 
   pub end_happens : IsNext r last s (Ok next.End) → Happens bytes last receipts r.place s old (Ok event.End)
   end_happens n =

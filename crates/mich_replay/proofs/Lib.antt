@@ -1,4 +1,6 @@
+pub mod Answered
 pub mod Begins
+pub mod Closed
 pub mod Coming
 pub mod Conserved
 pub mod Counting
@@ -9,7 +11,9 @@ pub mod Fronts
 pub mod Generated
 pub mod Happening
 pub mod Once
+pub mod Pace
 pub mod Promise
+pub mod Readable
 pub mod Replayed
 pub mod Taking
 pub mod Truth

@@ -13,6 +13,7 @@ use Rattle.rules_world.specs.Receipts.{Receipt}
 use Rattle.mich_base.specs.declared.memory.Memory.{Memory}
 use Rattle.mich_course.specs.declared.course.Course.{Course}
 use Rattle.mich_reader.specs.Held.{Held}
+use Rattle.mich_replay.specs.Pace.{NoneIsClosedAt}
 use Rattle.mich_replay.specs.Steps.{Stands, Tells}
 use Rattle.mich_replay.specs.View.{file_fault_seen}
 use Rattle.mich_replay.specs.declared.replaying.Pause.{Pause}
@@ -54,12 +55,17 @@ pub record Came (fed : List ℕ) (last : Bool) (r : Held) (c : Option Course) (r
 abbrev pub Happens : List ℕ → Bool → List Receipt → ℕ → Held → Option Course → Result Event Memory → Type 0
 Happens fed last receipts place r c (Ok event.Taken) = Came fed last r c receipts × (place < r.place)
 Happens fed last receipts place r c (Ok (event.Group told)) = (found : Receipt) × Tells told found × Came fed last r c (receipts ++ found ∷ []) × (place < r.place)
-Happens fed last receipts place r c (Ok event.More) = (last ≡ false) × Came fed false r c receipts × (length fed ≤ file_limit)
+Happens fed last receipts place r c (Ok event.More) =
+    (last ≡ false) × Came fed false r c receipts × (length fed ≤ file_limit) × NoneIsClosedAt fed r.place
 Happens fed last receipts place r c (Ok event.End) = Came fed true r c receipts × (last ≡ true) × IsEndAt fed r.place
 Happens fed last receipts place r c (Ok (event.Refused fault at)) = IsRefused fed last receipts (file_fault_seen fault) at
 Happens fed last receipts place r c (Err e) = Unit {0}
 
 -- ---- what was written
+
+-- something was, or nothing
+abbrev pub Grows : Option (List ℕ) → Option (List ℕ) → Type 0
+Grows before now = (more : List ℕ) × Appends before now more
 
 -- the lines of all groups so far were
 pub record Told (fed : List ℕ) (last : Bool) (before now : Option (List ℕ)) (r : Held) (c : Option Course) : Type 0 where
@@ -77,7 +83,8 @@ pub record Cut (fed : List ℕ) (last : Bool) (before now : Option (List ℕ)) :
 
 -- what stands behind the groups that were told
 abbrev pub Pauses : List ℕ → Bool → Option (List ℕ) → Option (List ℕ) → Held → Option Course → Result Pause Stop → Type 0
-Pauses fed last before now r c (Ok pause.More) = (last ≡ false) × Told fed false before now r c × (length fed ≤ file_limit)
+Pauses fed last before now r c (Ok pause.More) =
+    (last ≡ false) × Told fed false before now r c × (length fed ≤ file_limit) × NoneIsClosedAt fed r.place
 Pauses fed last before now r c (Ok pause.End) = Told fed true before now r c × (last ≡ true) × IsEndAt fed r.place
 Pauses fed last before now r c (Ok (pause.Refused fault at)) =
     (receipts : List Receipt) × IsRefused fed last receipts (file_fault_seen fault) at × Appends before now (text_of (group_lines 1 receipts))
@@ -96,6 +103,7 @@ pub record IsUnderway (content left before now : Option (List ℕ)) (r : Held) (
   pub size_is : size ≡ length fed
   pub short : size ≤ file_limit
   pub told : Told fed false before now r c
+  pub all : NoneIsClosedAt fed r.place
 
 -- the lines of an ending were written, and this is its status; or a front of them was
 abbrev pub Closes : Option (List ℕ) → Option (List ℕ) → Ending → Result ℕ Stop → Type 0

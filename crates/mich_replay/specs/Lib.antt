@@ -13,3 +13,4 @@ pub mod View
 pub mod Coming
 pub mod Generating
 pub mod Fronts
+pub mod Pace

@@ -1,5 +1,5 @@
 -- What the code's values stand for.
-use Rattle.std.specs.Prelude.{ℕ, ◌≤◌}
+use Rattle.std.specs.Prelude.{ℕ, ◌≤◌, Result, Ok, Err}
 use Rattle.rules_replay.specs.Replay as replay
 use Rattle.rules_replay.specs.Commands as commands
 use Rattle.mich_replay.specs.declared.command.Verb.{Verb}
@@ -10,6 +10,8 @@ use Rattle.mich_replay.specs.declared.command.Command.{Command}
 use Rattle.mich_replay.specs.declared.command.Command.TheVariants as words
 use Rattle.mich_replay.specs.declared.outcome.FileFault.{FileFault}
 use Rattle.mich_replay.specs.declared.outcome.FileFault.TheVariants as files
+use Rattle.mich_replay.specs.declared.stop.Stop.{Stop}
+use Rattle.mich_replay.specs.declared.stop.Stop.TheVariants as stop
 
 abbrev pub whole_seen : WholeVerb → commands.Verb
 whole_seen wholes.Check = commands.Checking
@@ -39,3 +41,10 @@ file_fault_seen files.BadOrder = replay.BadOrder
 file_fault_seen files.BadCosts = replay.BadCosts
 file_fault_seen files.RepeatedAccount = replay.RepeatedAccount
 file_fault_seen files.SupplyLimit = replay.SupplyLimit
+
+-- the status of a command that was done, or given up
+abbrev pub status_in : Result ℕ Stop → ℕ
+status_in (Ok status) = status
+status_in (Err stop.Read) = 3
+status_in (Err stop.Write) = 4
+status_in (Err stop.Memory) = 5

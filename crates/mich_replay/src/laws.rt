@@ -9,13 +9,16 @@ ghost use Rattle.rules_replay.specs.Scripts.{IsCheckAnswer};
 ghost use Rattle.rules_world.specs.Laws.{FailedGroupsMoveFees, RefusedGroupsMoveNothing};
 ghost use Rattle.rules_world.specs.World.{World};
 ghost use Rattle.rules_replay.specs.Commands.{Command};
-ghost use Rattle.mich_replay.specs.Laws.{ConservesMutez, ConservesTickets, HasOneAnswer, NoGroupIsStuck};
+ghost use Rattle.mich_replay.specs.Laws.{ConservesMutez, ConservesTickets, HasAnAnswer, HasOneAnswer, IsNoWorkload, NoGroupIsStuck};
 
 use laws_world::{failed_groups_move_fees, refused_groups_move_nothing};
 
-/// A command has one answer: whatever the files hold, no two statuses and texts are answers to it.
+/// A command has one answer: whatever the files hold, no two statuses and texts are answers to it, and where its file is known, one is.
+/// That a workload has one isn't said.
 pub fn commands_have_one_answer()
-    ensures { (command : Command) → HasOneAnswer command }
+    ensures once { (command : Command) → HasOneAnswer command }
+    ensures some { (command : Command) → IsNoWorkload command → HasAnAnswer command }
+    ensures replays { (file : List ℕ) → (done : Replay) × IsReplay file done }
 {}
 
 /// Each group of a file has an outcome: code that was accepted is never stuck.

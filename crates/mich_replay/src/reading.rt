@@ -18,6 +18,7 @@ const FILE_LIMIT: usize = 1_073_741_824;
 pub(crate) fn start<F: Files>(files: &mut F, path: &str) -> Result<(), Stop>
     requires { Contains (F.lent files.old) path.now }
     ensures started { OnOk result (F.left files.new ≡ F.content files.old path.now) }
+    ensures memory { IsErrOf result Stop.Memory → F.left files.new ≡ F.left files.old }
     ensures same { SameFiles (F.lent files.old) (F.lent files.new) (F.content files.old) (F.content files.new) }
     ensures no_write { IsErrOf result Stop.Write → ⊥ }
     ensures cause { HasCause Stop.Read (F.faults files.old) (F.faults files.new) result }

@@ -8,9 +8,10 @@ ghost use Rattle.rules_replay.specs.Lines.{group_lines, text_of};
 ghost use Rattle.rules_replay.specs.Replay.{RefusedAt, ending_of};
 ghost use Rattle.rules_world.specs.Receipts.{Receipt};
 ghost use Rattle.mich_reader.specs.Held.{Held};
-ghost use Rattle.mich_replay.specs.Coming.{Closes, Comes, Happens, Pauses, Told, Turns};
+ghost use Rattle.mich_replay.specs.Coming.{Closes, Comes, Grows, Happens, Pauses, Told, Turns};
+ghost use Rattle.mich_replay.specs.Pace.{WritesAsItReads};
 ghost use Rattle.mich_replay.specs.Steps.{FollowsIf};
-ghost use Rattle.mich_replay.specs.View.{file_fault_seen};
+ghost use Rattle.mich_replay.specs.View.{file_fault_seen, status_in};
 
 use crate::lines::file_fault_name;
 use crate::outcome::FileFault;
@@ -45,6 +46,7 @@ fn tell<K: Sink>(
     ensures told { (fed : List ℕ) (last : Bool) (receipts : List Receipt) (place : ℕ) (r : Held) (before : Option (List ℕ))
         → Happens fed last receipts place r course.now (Ok event)
         → Appends before (K.written out.old) (text_of (group_lines 1 receipts)) → Turns fed last before (K.written out.new) place r course.now result }
+    ensures grows { Grows (K.written out.old) (K.written out.new) }
     ensures no_read { IsErrOf result Stop.Read → ⊥ }
     ensures cause { HasCause Stop.Write (K.faults out.old) (K.faults out.new) result }
 {
@@ -70,6 +72,7 @@ fn tell_groups<K: Sink>(
     requires { (fed : List ℕ) × (before : Option (List ℕ)) × Told fed last before (K.written out.old) session.old.reader session.old.course }
     ensures told { (fed : List ℕ) (before : Option (List ℕ)) → Told fed last before (K.written out.old) session.old.reader session.old.course
         → Pauses fed last before (K.written out.new) session.new.reader session.new.course result }
+    ensures grows { Grows (K.written out.old) (K.written out.new) }
     ensures no_read { IsErrOf result Stop.Read → ⊥ }
     ensures cause { HasCause Stop.Write (K.faults out.old) (K.faults out.new) result }
 {
@@ -121,6 +124,8 @@ pub(crate) fn replay_file<F: Files, K: Sink>(
 ) -> Result<u8, Stop>
     requires { Contains (F.lent files.old) path.now }
     ensures comes { Comes (OnFile Replaying path.now) (F.content files.old) (K.written out.old) (K.written out.new) result }
+    ensures pace { WritesAsItReads (F.content files.old path.now) (F.left files.old) (F.left files.new)
+        (K.written out.old) (K.written out.new) (status_in result) }
     ensures end { IfOk result (λ status. status ≡ 0 → IsAtEnd (F.left files.new)) }
     ensures reads { HasCause Stop.Read (F.faults files.old) (F.faults files.new) result }
     ensures writes { HasCause Stop.Write (K.faults out.old) (K.faults out.new) result }

@@ -6,6 +6,7 @@ ghost use Rattle.rules_io.specs.Known.{AppendsFront};
 ghost use Rattle.rules_lines.specs.Nodes.{line, group_node};
 ghost use Rattle.rules_replay.specs.Lines.{text_of};
 ghost use Rattle.rules_world.specs.Receipts.{Receipt};
+ghost use Rattle.mich_replay.specs.Coming.{Grows};
 ghost use Rattle.mich_replay.specs.Steps.{Tells, groups_of};
 
 use crate::steps::last_number;
@@ -53,6 +54,7 @@ pub(crate) fn write_group<K: Sink>(
 ) -> Result<(), Stop>
     ensures ok { (found : Receipt) → Tells told.now found → OnOk result (Appends (K.written out.old) (K.written out.new) (line (group_node (groups_of course.now) found))) }
     ensures err { (found : Receipt) → Tells told.now found → OnErr result (AppendsFront (K.written out.old) (K.written out.new) (line (group_node (groups_of course.now) found))) }
+    ensures grows { Grows (K.written out.old) (K.written out.new) }
     ensures no_read { IsErrOf result Stop.Read → ⊥ }
     ensures cause { HasCause Stop.Write (K.faults out.old) (K.faults out.new) result }
 {

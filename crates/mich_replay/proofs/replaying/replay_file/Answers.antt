@@ -1,14 +1,19 @@
-use Rattle.std.proofs.Common.{rules, ◌≡◌, ◌+◌, ◌<◌, ◌++◌, ℕ, Bool, true, false, List, [], length, take, Option, Ok, Err, refl, sym, subst, arith}
+use Rattle.std.proofs.Common.{rules, ◌≡◌, ◌+◌, ◌<◌, ◌≤◌, ◌++◌, ℕ, Bool, true, false, List, [], length, take, Option, None, Ok, Err, refl, sym, ap, subst, arith}
 use Rattle.std.proofs.lemmas.Result.{err_from_is_err_and}
-use Rattle.std.proofs.KnownBytes.{Consumes-nil}
+use Rattle.std.proofs.KnownBytes.{Consumes-kept, Consumes-nil}
 use Rattle.std.proofs.lemmas.Bool.Decides.{nat_tests}
 use Rattle.std.proofs.lemmas.List.{length-append}
 use Rattle.std.specs.Io.KnownBytes.{Consumes, IsAtEnd}
 use Rattle.std.specs.Prelude.{nat_eq}
 use Rattle.mich_replay.specs.Coming.{Pauses}
+use Rattle.rules_replay.specs.Replay.{RefusedAt, ending_of}
+use Rattle.mich_reader.specs.Held.{Held, fresh}
+use Rattle.mich_replay.specs.Pace.{NoneIsClosedAt}
 use Rattle.mich_replay.specs.View.{file_fault_seen}
 use Rattle.mich_replay.specs.declared.replaying.Pause.{Pause}
 use Rattle.mich_replay.proofs.Happening.{told_fresh, told_cut, told_fed, piece_read}
+use Rattle.mich_replay.proofs.Closed.{none_first}
+use Rattle.mich_replay.proofs.Pace.{all_told, grows_closed, grows_nothing, grows_trans, no_three, no_three_err, not_started, one_behind}
 use Rattle.mich_replay.proofs.Promise.{nothing, whatever}
 use Rattle.mich_replay.proofs.Replayed.{cut_comes, refused_comes, ended_comes}
 use Rattle.mich_replay.proofs.replaying.replay_file.Goals as goal
@@ -44,6 +49,7 @@ pieces-init g c =
         size_is = refl;
         short = omega arith;
         told = told_fresh _ c.in_ok-session.session.reader c.in_ok-session.session.course c.in_ok-session.ensures.0 c.in_ok-session.ensures.1;
+        all = subst (λ (r : Held). NoneIsClosedAt [] r.place) (sym c.in_ok-session.ensures.0) none_first;
       };
     }
 
@@ -120,6 +126,7 @@ pieces-preserved g c =
         size_is = size;
         short = omega (arith, size, x.2);
         told = x.1;
+        all = x.3;
       };
     }
 
@@ -211,3 +218,91 @@ returns-in-Refused-clause-comes g c =
     let x = subst (λ (y : Pause). Pauses (u.fed ++ piece) last before now after.reader after.course (Ok y)) c.in-Refused.is (c.in_ok-tell_groups.ensures.told (u.fed ++ piece) before t) in
     refused_comes content c.args.path.now (u.fed ++ piece) left last bytes at_end before now (g.K.Sink.written c.refuse.new.out) x.0 (file_fault_seen c.in-Refused.fault) c.in-Refused.at c.refuse.result
     x.1 x.2 c.refuse.ensures.closes
+
+-- ---- what was written keeps step
+
+pub returns-in_err-start-clause-pace : goal.returns-in_err-start-clause-pace
+returns-in_err-start-clause-pace g c =
+    let p = err_from_is_err_and c.from_residual.result c.from_residual.ensures.1 in
+    rw (p.1, p.2) (not_started (g.F.Files.content c.args.files.now c.args.path.now) (g.F.Files.left c.args.files.now) (g.F.Files.left c.start.new.files) (g.K.Sink.written c.args.out.now)
+    c.in_err-start.field-0.0 (λ e. c.in_err-start.ensures.no_write (ap Err e)) (λ e. c.in_err-start.ensures.memory (ap Err e)))
+
+pub returns-in_err-session-clause-pace : goal.returns-in_err-session-clause-pace
+returns-in_err-session-clause-pace g c =
+    let content = g.F.Files.content c.args.files.now c.args.path.now in
+    let a = g.K.Sink.written c.args.out.now in
+    all_told [] a a fresh None (told_fresh a fresh None refl refl) none_first content (g.F.Files.left c.args.files.now) (g.F.Files.left c.start.new.files) _
+    (subst (λ (o : Option (List ℕ)). Consumes content o []) (sym c.in_ok-start.ensures.started) (Consumes-nil content))
+
+pub returns-in_err-count-clause-pace : goal.returns-in_err-count-clause-pace
+returns-in_err-count-clause-pace g c =
+    let u = c.pieces.invariant.underway in
+    let content = g.F.Files.content c.args.files.now c.args.path.now in
+    let left = g.F.Files.left c.read.new.files in
+    all_told u.fed (g.K.Sink.written c.args.out.now) (g.K.Sink.written c.pieces.out) c.pieces.session.reader c.pieces.session.course u.told u.all content (g.F.Files.left c.args.files.now) left _
+    (Consumes-kept content (g.F.Files.left c.pieces.files) left u.fed u.bytes c.in_err-count.ensures.bytes)
+
+pub returns-in_err-feed-clause-pace : goal.returns-in_err-feed-clause-pace
+returns-in_err-feed-clause-pace g c =
+    let u = c.pieces.invariant.underway in
+    let piece = c.split_at.result.0.now in
+    let content = g.F.Files.content c.args.files.now c.args.path.now in
+    let left = g.F.Files.left c.read.new.files in
+    let bytes = piece_read content (g.F.Files.left c.pieces.files) left u.fed piece (take c.in_ok-count.count c.read.new.buf) c.split_at.ensures.front u.bytes c.in_ok-count.ensures.bytes.0 in
+    let room : length c.read.new.buf ≡ 65536 = search rules in
+    let short : length piece ≤ 65536 = omega (arith, c.split_at.ensures.front_len, c.in_ok-count.ensures.bound, room) in
+    let p = err_from_is_err_and c.from_residual-in_err-feed.result c.from_residual-in_err-feed.ensures.1 in
+    rw (p.1, p.2) (one_behind u.fed (g.K.Sink.written c.args.out.now) (g.K.Sink.written c.pieces.out) c.pieces.session.reader c.pieces.session.course u.told u.all content
+    (g.F.Files.left c.args.files.now) left (g.K.Sink.written c.pieces.out) piece 5 bytes short (grows_nothing _) (λ e. absurd (omega (arith, e))))
+
+pub returns-in_err-tell_groups-clause-pace : goal.returns-in_err-tell_groups-clause-pace
+returns-in_err-tell_groups-clause-pace g c =
+    let u = c.pieces.invariant.underway in
+    let piece = c.split_at.result.0.now in
+    let content = g.F.Files.content c.args.files.now c.args.path.now in
+    let left = g.F.Files.left c.read.new.files in
+    let bytes = piece_read content (g.F.Files.left c.pieces.files) left u.fed piece (take c.in_ok-count.count c.read.new.buf) c.split_at.ensures.front u.bytes c.in_ok-count.ensures.bytes.0 in
+    let room : length c.read.new.buf ≡ 65536 = search rules in
+    let short : length piece ≤ 65536 = omega (arith, c.split_at.ensures.front_len, c.in_ok-count.ensures.bound, room) in
+    let p = err_from_is_err_and c.from_residual-in_err-tell_groups.result c.from_residual-in_err-tell_groups.ensures.1 in
+    rw (p.1, p.2) (one_behind u.fed (g.K.Sink.written c.args.out.now) (g.K.Sink.written c.pieces.out) c.pieces.session.reader c.pieces.session.course u.told u.all content
+    (g.F.Files.left c.args.files.now) left (g.K.Sink.written c.tell_groups.new.out) piece _ bytes short c.tell_groups.ensures.grows
+    (no_three_err c.in_err-tell_groups.field-0.0 (λ e. c.in_err-tell_groups.ensures.no_read (ap Err e))))
+
+pub returns-in-End-clause-pace : goal.returns-in-End-clause-pace
+returns-in-End-clause-pace g c =
+    let u = c.pieces.invariant.underway in
+    let piece = c.split_at.result.0.now in
+    let content = g.F.Files.content c.args.files.now c.args.path.now in
+    let left = g.F.Files.left c.read.new.files in
+    let bytes = piece_read content (g.F.Files.left c.pieces.files) left u.fed piece (take c.in_ok-count.count c.read.new.buf) c.split_at.ensures.front u.bytes c.in_ok-count.ensures.bytes.0 in
+    let room : length c.read.new.buf ≡ 65536 = search rules in
+    let short : length piece ≤ 65536 = omega (arith, c.split_at.ensures.front_len, c.in_ok-count.ensures.bound, room) in
+    let last = nat_eq c.in_ok-count.count 0 in
+    let s = c.feed.new.self in
+    let before = g.K.Sink.written c.args.out.now in
+    let t = told_fed u.fed piece last before (g.K.Sink.written c.pieces.out) c.pieces.session.reader s.reader c.pieces.session.course s.course u.told
+    (c.in_ok-feed.ensures u.fed u.told.receipts last u.told.came) in
+    let now = g.K.Sink.written c.tell_groups.new.out in
+    let after = c.tell_groups.new.session in
+    let x = subst (λ (y : Pause). Pauses (u.fed ++ piece) last before now after.reader after.course (Ok y)) c.in-End.is (c.in_ok-tell_groups.ensures.told (u.fed ++ piece) before t) in
+    let ending = ending_of (c.pieces.size + c.in_ok-count.count) x.0.came.plain in
+    let closes = c.end.ensures.closes x.0.came.plain x.0.came.stands.follows in
+    one_behind u.fed before (g.K.Sink.written c.pieces.out) c.pieces.session.reader c.pieces.session.course u.told u.all content (g.F.Files.left c.args.files.now) left
+    (g.K.Sink.written c.end.new.out) piece _ bytes short (grows_trans _ _ _ c.tell_groups.ensures.grows (grows_closed _ _ ending c.end.result closes))
+    (no_three _ _ ending c.end.result closes c.end.ensures.no_read)
+
+pub returns-in-Refused-clause-pace : goal.returns-in-Refused-clause-pace
+returns-in-Refused-clause-pace g c =
+    let u = c.pieces.invariant.underway in
+    let piece = c.split_at.result.0.now in
+    let content = g.F.Files.content c.args.files.now c.args.path.now in
+    let left = g.F.Files.left c.read.new.files in
+    let bytes = piece_read content (g.F.Files.left c.pieces.files) left u.fed piece (take c.in_ok-count.count c.read.new.buf) c.split_at.ensures.front u.bytes c.in_ok-count.ensures.bytes.0 in
+    let room : length c.read.new.buf ≡ 65536 = search rules in
+    let short : length piece ≤ 65536 = omega (arith, c.split_at.ensures.front_len, c.in_ok-count.ensures.bound, room) in
+    let ending = RefusedAt (file_fault_seen c.in-Refused.fault) c.in-Refused.at in
+    one_behind u.fed (g.K.Sink.written c.args.out.now) (g.K.Sink.written c.pieces.out) c.pieces.session.reader c.pieces.session.course u.told u.all content
+    (g.F.Files.left c.args.files.now) left (g.K.Sink.written c.refuse.new.out) piece _ bytes short
+    (grows_trans _ _ _ c.tell_groups.ensures.grows (grows_closed _ _ ending c.refuse.result c.refuse.ensures.closes))
+    (no_three _ _ ending c.refuse.result c.refuse.ensures.closes c.refuse.ensures.no_read)

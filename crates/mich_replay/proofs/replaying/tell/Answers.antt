@@ -24,7 +24,7 @@ returns-in_err-write_group-in-Group-clause-told g c = λ fed last receipts place
 pub returns-in-More-clause-told : goal.returns-in-More-clause-told
 returns-in-More-clause-told g c = λ fed last receipts place r before h p.
     let x = subst (λ (e : Event). Happens fed last receipts place r c.args.course.now (Ok e)) c.in-More.is h in
-    (x.0, record { receipts = receipts; came = x.1; lines = p }, x.2)
+    (x.0, record { receipts = receipts; came = x.1; lines = p }, x.2, x.3)
 
 pub returns-in-End-clause-told : goal.returns-in-End-clause-told
 returns-in-End-clause-told g c = λ fed last receipts place r before h p.

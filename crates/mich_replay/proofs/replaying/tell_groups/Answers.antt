@@ -4,10 +4,11 @@ use Rattle.std.proofs.lemmas.Result.{err_from_is_err_and}
 use Rattle.mich_replay.specs.Coming.{Turns}
 use Rattle.mich_replay.specs.declared.replaying.Pause.{Pause}
 use Rattle.mich_replay.proofs.Happening.{told_cut}
+use Rattle.mich_replay.proofs.Pace.{grows_nothing, grows_trans}
 use Rattle.mich_replay.proofs.replaying.tell_groups.Goals as goal
 
 pub told-init : goal.told-init
-told-init g c = record { later = omega arith; told = λ fed before h. h }
+told-init g c = record { later = omega arith; told = λ fed before h. h; grows = grows_nothing _ }
 
 pub next-requires : goal.next-requires
 next-requires g c =
@@ -26,6 +27,15 @@ returns-in_err-turn-clause-told g c = λ fed before h.
     let p = err_from_is_err_and c.from_residual-in_err-turn.result c.from_residual-in_err-turn.ensures.1 in
     rw p.1 (c.in_err-turn.ensures.told fed c.args.last t.receipts c.told.session.reader.place c.next.new.self.reader before (c.in_ok-event.ensures fed t.receipts t.came) t.lines)
 
+pub returns-in_err-event-clause-grows : goal.returns-in_err-event-clause-grows
+returns-in_err-event-clause-grows g c = c.told.invariant.grows
+
+pub returns-in_err-turn-clause-grows : goal.returns-in_err-turn-clause-grows
+returns-in_err-turn-clause-grows g c = grows_trans _ _ _ c.told.invariant.grows c.tell.ensures.grows
+
+pub returns-in-Some-clause-grows : goal.returns-in-Some-clause-grows
+returns-in-Some-clause-grows g c = grows_trans _ _ _ c.told.invariant.grows c.tell.ensures.grows
+
 pub returns-in-Some-clause-told : goal.returns-in-Some-clause-told
 returns-in-Some-clause-told g c = λ fed before h.
     let t = c.told.invariant.told fed before h in
@@ -41,6 +51,7 @@ told-preserved g c = record {
       let s = c.next.new.self in
       (subst (λ (o : Option Pause). Turns fed c.args.last before (g.K.Sink.written c.tell.new.out) c.told.session.reader.place s.reader s.course (Ok o)) c.in-None.is
       (c.in_ok-turn.ensures.told fed c.args.last t.receipts c.told.session.reader.place s.reader before (c.in_ok-event.ensures fed t.receipts t.came) t.lines)).0;
+  grows = grows_trans _ _ _ c.told.invariant.grows c.tell.ensures.grows;
 }
 
 pub told-smaller : goal.told-smaller

@@ -1,6 +1,9 @@
 use Rattle.std.proofs.Common.{ℕ, List, Contains, refl, sym, ap, ◌∙◌, subst, arith}
 use Rattle.rules_replay.specs.Commands.{Command, command_of}
 use Rattle.mich_replay.specs.Coming.{Comes}
+use Rattle.mich_replay.specs.Pace.{WritesAsItReads}
+use Rattle.mich_replay.specs.View.{status_in, verb_seen}
+use Rattle.mich_replay.proofs.Pace.{no_usage, no_workload, same_verb}
 use Rattle.mich_replay.proofs.Words.{only_path}
 use Rattle.mich_replay.proofs.top.answer_words.Goals as goal
 
@@ -14,6 +17,18 @@ pub returns-in-OnFile-clause-comes : goal.returns-in-OnFile-clause-comes
 returns-in-OnFile-clause-comes g c =
     subst (λ (x : Command). Comes x (g.F.Files.content c.args.files.now) (g.K.Sink.written c.args.out.now) (g.K.Sink.written c.answer_on_file.new.out) c.answer_on_file.result)
     (c.in-OnFile.ensures.seen ∙ ap command_of c.as_slice.ensures) c.answer_on_file.ensures.comes
+
+pub returns-in-OnFile-clause-pace : goal.returns-in-OnFile-clause-pace
+returns-in-OnFile-clause-pace g c = λ path e.
+    let same = same_verb (verb_seen c.in-OnFile.verb) c.in-OnFile.path.now path (command_of c.args.words.now) (c.in-OnFile.ensures.seen ∙ ap command_of c.as_slice.ensures) e in
+    subst (λ (p : List ℕ). WritesAsItReads (g.F.Files.content c.args.files.now p) (g.F.Files.left c.args.files.now) (g.F.Files.left c.answer_on_file.new.files) (g.K.Sink.written c.args.out.now)
+    (g.K.Sink.written c.answer_on_file.new.out) (status_in c.answer_on_file.result)) same.1 (c.answer_on_file.ensures.pace same.0)
+
+pub returns-in-NoCommand-clause-pace : goal.returns-in-NoCommand-clause-pace
+returns-in-NoCommand-clause-pace g c = λ path e. absurd (no_usage path (command_of c.args.words.now) (c.in-NoCommand.ensures.seen ∙ ap command_of c.as_slice.ensures) e)
+
+pub returns-in-Generate-clause-pace : goal.returns-in-Generate-clause-pace
+returns-in-Generate-clause-pace g c = λ path e. absurd (no_workload c.in-Generate.calls path (command_of c.args.words.now) (c.in-Generate.ensures.seen ∙ ap command_of c.as_slice.ensures) e)
 
 pub returns-in-NoCommand-clause-comes : goal.returns-in-NoCommand-clause-comes
 returns-in-NoCommand-clause-comes g c =

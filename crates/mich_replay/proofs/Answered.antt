@@ -1,0 +1,119 @@
+-- A file comes to an answer.
+use Rattle.std.proofs.Common.{◌≡◌, ℕ, zero, suc, ◌+◌, ◌-◌, ◌≤◌, ◌⊎◌, inl, inr, List, [], ◌∷◌, length, drop, Option, Some, None, IsSome, Err, refl, sym, subst, arith}
+use Rattle.std.proofs.lemmas.List.{length-drop}
+use Rattle.rules_base.specs.Tree.{Tree}
+use Rattle.rules_course.specs.Course.{Course}
+use Rattle.rules_text.specs.declared.TextKind.{TextKind}
+use Rattle.rules_replay.specs.Answers.{Answer, replay_answer, usage_answer}
+use Rattle.rules_replay.specs.Codec.{IsCodecAnswer, of_listing, of_text, encode_node, decode_node}
+use Rattle.rules_replay.specs.Commands.{Command, OnFile, Generating, NoCommand, Verb, Replaying, Checking, Encoding, Decoding, Packing, IsVerbAnswer, IsAnswer}
+use Rattle.rules_replay.specs.Packs.{pack_node}
+use Rattle.rules_replay.specs.Places.{Placed, IsNodeAt, IsFaultAt, IsEndAt, AreStatements, Listing, EndsIn, IsListing}
+use Rattle.rules_replay.specs.Replay.{Replay, IsReplay, Closes, Run, going, stopped, stuck_run, run_all, RefusedAt, TextFault, ending_of}
+use Rattle.rules_replay.specs.Scripts.{IsCheckAnswer, check_statements}
+use Rattle.rules_world.specs.Receipts.{Receipt}
+use Rattle.mich_answers.proofs.Shorter.{further}
+use Rattle.mich_text.specs.declared.fault.LexError.TheVariants as errors
+use Rattle.mich_text.proofs.Limits.{limited_within}
+use Rattle.mich_text.proofs.Verdict.{stands_within}
+use Rattle.mich_replay.specs.Laws.{HasAnAnswer, IsNoWorkload}
+use Rattle.mich_replay.proofs.Conserved.{no_group_is_stuck}
+use Rattle.mich_replay.proofs.Readable.{Readable, is_node, is_fault, is_end, readable}
+
+-- ---- what stands at a place
+
+data Standing (file : List ℕ) (place : ℕ) : Type 0 where
+  statement : (s : Placed) (behind : ℕ) → IsNodeAt file place s.node s.place behind → Standing file place
+  fault : (kind : TextKind) (at : ℕ) → IsFaultAt file place kind at → Standing file place
+  nothing : IsEndAt file place → Standing file place
+
+standing : (file : List ℕ) (place : ℕ) → place ≤ length file → Standing file place
+standing file place h = by (readable place (drop place file)) where
+  by : Readable place (drop place file) → Standing file place
+  by (is_node t start end n) =
+      let fits = stands_within (drop place file) t start end n.stands in
+      statement (record { place = length file - start; node = t }) (length file - end)
+      (start, end, n, omega (arith, fits, length-drop place file), omega (arith, fits, length-drop place file))
+  by (is_fault kind left f) =
+      let fits : left ≤ length (drop place file) = limited_within place (drop place file) (Err (errors.Flaw (record { kind = kind; left = left }))) f in
+      fault kind (length file - left) (left, f, omega (arith, fits, length-drop place file))
+  by (is_end e) = nothing e
+
+-- ---- all statements
+
+record Listed (file : List ℕ) (place : ℕ) : Type 0 where
+  statements : List Placed
+  to : ℕ
+  fault : Option (TextKind × ℕ)
+  stand : AreStatements file place statements to
+  ends : EndsIn file to fault
+
+-- where no statement stands
+unlisted : (file : List ℕ) (place : ℕ) → EndsIn file place None ⊎ ((f : TextKind × ℕ) × EndsIn file place (Some f)) → Listed file place
+unlisted file place (inl e) = record { statements = []; to = place; fault = None; stand = refl; ends = e }
+unlisted file place (inr f) = record { statements = []; to = place; fault = Some f.0; stand = refl; ends = f.1 }
+
+behind_it : (file : List ℕ) (place : ℕ) (s : Placed) (behind : ℕ) → IsNodeAt file place s.node s.place behind → Listed file behind → Listed file place
+behind_it file place s behind node rest = record { statements = s ∷ rest.statements; to = rest.to; fault = rest.fault; stand = (behind, node, rest.stand); ends = rest.ends }
+
+listed : (n : ℕ) (file : List ℕ) (place : ℕ) → place ≤ length file → length file ≤ place + n → Listed file place
+listed zero file place h room = elim (standing file place h) [
+  | statement s behind node ↦ absurd (omega (arith, further file place s.node s.place behind h node, room))
+  | fault kind at f ↦ unlisted file place (inr ((kind, at), f))
+  | nothing e ↦ unlisted file place (inl e)
+]
+listed (suc m) file place h room = elim (standing file place h) [
+  | statement s behind node ↦
+      let far = further file place s.node s.place behind h node in
+      behind_it file place s behind node (listed m file behind far.2 (omega (arith, far, room)))
+  | fault kind at f ↦ unlisted file place (inr ((kind, at), f))
+  | nothing e ↦ unlisted file place (inl e)
+]
+
+all_listed : (file : List ℕ) → Listed file 0
+all_listed file = listed (length file) file 0 (omega arith) (omega arith)
+
+listing : (file : List ℕ) → (found : Listing) × IsListing file found
+listing file = let l = all_listed file in (record { statements = l.statements; fault = l.fault }, (l.to, l.stand, l.ends))
+
+-- ---- replays
+
+pub replays : (file : List ℕ) → (done : Replay) × IsReplay file done
+replays file = by (run_all (going [] None) l.statements) refl where
+  l : Listed file 0
+  l = all_listed file
+
+  made : (r : Run) (done : Replay) → run_all (going [] None) l.statements ≡ r → Closes file l.to r done → (d : Replay) × IsReplay file d
+  made r done e c = (done, record { statements = l.statements; to = l.to; stand = l.stand; closes = subst (λ (x : Run). Closes file l.to x done) (sym e) c })
+
+  ended : (receipts : List Receipt) (c : Option Course) (o : Option (TextKind × ℕ)) → EndsIn file l.to o → run_all (going [] None) l.statements ≡ going receipts c → (d : Replay) × IsReplay file d
+  ended receipts c None x e = made (going receipts c) (record { receipts = receipts; ending = ending_of (length file) c }) e (inl (x, refl))
+  ended receipts c (Some f) x e = made (going receipts c) (record { receipts = receipts; ending = RefusedAt (TextFault f.0) f.1 }) e (inr (f.0, f.1, x, refl))
+
+  by : (r : Run) → run_all (going [] None) l.statements ≡ r → (d : Replay) × IsReplay file d
+  by (stopped receipts f place) e = made (stopped receipts f place) (record { receipts = receipts; ending = RefusedAt f place }) e refl
+  by (going receipts c) e = ended receipts c l.fault l.ends e
+  by stuck_run e = absurd (no_group_is_stuck file l.statements l.to l.stand e)
+
+-- ---- answers
+
+codec_answers : (command : Tree → Option Answer) (file : List ℕ) → (answer : Answer) × IsCodecAnswer command file answer
+codec_answers command file = let l = listing file in (of_listing command (length file) l.0, (l.0, l.1, refl))
+
+check_answers : (file : List ℕ) → (answer : Answer) × IsCheckAnswer file answer
+check_answers file = let l = listing file in (of_text l.0.fault (check_statements l.0.statements), (l.0, l.1, refl))
+
+verb_answers : (verb : Verb) (file : List ℕ) → (answer : Answer) × IsVerbAnswer verb file answer
+verb_answers Replaying file = let r = replays file in (replay_answer r.0, (r.0, r.1, refl))
+verb_answers Checking file = check_answers file
+verb_answers Encoding file = codec_answers encode_node file
+verb_answers Decoding file = codec_answers decode_node file
+verb_answers Packing file = codec_answers pack_node file
+
+pub answered : (command : Command) → IsNoWorkload command → HasAnAnswer command
+answered (OnFile verb path) none content told = by (content path) refl told where
+  by : (o : Option (List ℕ)) → content path ≡ o → IsSome o → (answer : Answer) × IsAnswer (OnFile verb path) content answer
+  by None e t = absurd cc
+  by (Some file) e t = let a = verb_answers verb file in (a.0, (file, e, a.1))
+answered (Generating calls) none content told = absurd (none calls refl)
+answered NoCommand none content told = (usage_answer, refl)
