@@ -82,7 +82,7 @@ pub(crate) fn act_view(
     match find_view(alloc, world, &address, name, input, output)? {
         Some(found) => {
             let view = opening(alloc, &m.env, found, given)?;
-            Ok(Act::View(Link::new(alloc, view)?))
+            Ok(Act::View(view))
         }
         None => {
             burn_value(alloc, &mut m.ledger, given)?;
