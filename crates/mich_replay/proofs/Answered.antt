@@ -1,12 +1,15 @@
 -- A file comes to an answer.
-use Rattle.std.proofs.Common.{◌≡◌, ℕ, zero, suc, ◌+◌, ◌-◌, ◌≤◌, ◌⊎◌, inl, inr, List, [], ◌∷◌, length, drop, Option, Some, None, IsSome, Err, refl, sym, subst, arith}
+use Rattle.std.proofs.Common.{codes, Bool, true, false, ◌≡◌, ℕ, zero, suc, ◌+◌, ◌-◌, ◌≤◌, ◌⊎◌, inl, inr, List, [], ◌∷◌, length, drop, Option, Some, None, IsSome, Err, refl, sym, subst, arith}
+use Rattle.std.proofs.lemmas.Bool.Decides.{nat_tests}
 use Rattle.std.proofs.lemmas.List.{length-drop}
+use Rattle.std.specs.Prelude.{◌&&◌, nat_le, if◌then◌else◌}
+use Rattle.std.specs.Str.{bytes_eq}
 use Rattle.rules_base.specs.Tree.{Tree}
 use Rattle.rules_course.specs.Course.{Course}
 use Rattle.rules_text.specs.declared.TextKind.{TextKind}
-use Rattle.rules_replay.specs.Answers.{Answer, replay_answer, usage_answer}
+use Rattle.rules_replay.specs.Answers.{Answer, done_with, replay_answer, usage_answer}
 use Rattle.rules_replay.specs.Codec.{IsCodecAnswer, of_listing, of_text, encode_node, decode_node}
-use Rattle.rules_replay.specs.Commands.{Command, OnFile, Generating, NoCommand, Verb, Replaying, Checking, Encoding, Decoding, Packing, IsVerbAnswer, IsAnswer}
+use Rattle.rules_replay.specs.Commands.{Command, OnFile, Generating, NoCommand, Verb, Replaying, Checking, Encoding, Decoding, Packing, IsVerbAnswer, IsAnswer, is_path, verb_of, on_file, digits_behind, in_range, calls_of, on_calls, command_of}
 use Rattle.rules_replay.specs.Packs.{pack_node}
 use Rattle.rules_replay.specs.Places.{Placed, IsNodeAt, IsFaultAt, IsEndAt, AreStatements, Listing, EndsIn, IsListing}
 use Rattle.rules_replay.specs.Replay.{Replay, IsReplay, Closes, Run, going, stopped, stuck_run, run_all, RefusedAt, TextFault, ending_of}
@@ -16,8 +19,10 @@ use Rattle.mich_answers.proofs.Shorter.{further}
 use Rattle.mich_text.specs.declared.fault.LexError.TheVariants as errors
 use Rattle.mich_text.proofs.Limits.{limited_within}
 use Rattle.mich_text.proofs.Verdict.{stands_within}
-use Rattle.mich_replay.specs.Laws.{HasAnAnswer, IsNoWorkload}
+use Rattle.rules_summary.specs.Summary.{summary_line}
+use Rattle.mich_replay.specs.Laws.{HasAnAnswer}
 use Rattle.mich_replay.proofs.Conserved.{no_group_is_stuck}
+use Rattle.mich_replay.proofs.Workload.{workload_replays}
 use Rattle.mich_replay.proofs.Readable.{Readable, is_node, is_fault, is_end, readable}
 
 -- ---- what stands at a place
@@ -110,10 +115,50 @@ verb_answers Encoding file = codec_answers encode_node file
 verb_answers Decoding file = codec_answers decode_node file
 verb_answers Packing file = codec_answers pack_node file
 
-pub answered : (command : Command) → IsNoWorkload command → HasAnAnswer command
-answered (OnFile verb path) none content told = by (content path) refl told where
+-- a workload has at most so many calls
+abbrev IsWithin : Command → Type 0
+IsWithin (OnFile verb path) = Unit {0}
+IsWithin (Generating calls) = calls ≤ 100000
+IsWithin NoCommand = Unit {0}
+
+answered : (command : Command) → IsWithin command → HasAnAnswer command
+answered (OnFile verb path) within content told = by (content path) refl told where
   by : (o : Option (List ℕ)) → content path ≡ o → IsSome o → (answer : Answer) × IsAnswer (OnFile verb path) content answer
   by None e t = absurd cc
   by (Some file) e t = let a = verb_answers verb file in (a.0, (file, e, a.1))
-answered (Generating calls) none content told = absurd (none calls refl)
-answered NoCommand none content told = (usage_answer, refl)
+answered (Generating calls) within content told =
+    let done = workload_replays calls within in
+    (done_with (summary_line calls done.0 done.1), (done.0, done.1, done.2, refl))
+answered NoCommand within content told = (usage_answer, refl)
+
+-- ---- words
+
+within_calls : (o : Option ℕ) → IsWithin (on_calls (in_range o))
+within_calls None = tt
+within_calls (Some calls) = by (nat_le 1 calls && nat_le calls 100000) refl where
+  by : (b : Bool) → nat_le 1 calls && nat_le calls 100000 ≡ b → IsWithin (on_calls (if b then Some calls else None))
+  by false e = tt
+  by true e = grind (arith, nat_tests, e)
+
+within_word : (b : Bool) (word : List ℕ) → IsWithin (on_calls (if b then in_range (digits_behind 0 word) else None))
+within_word true word = within_calls (digits_behind 0 word)
+within_word false word = tt
+
+within_file : (o : Option Verb) (word : List ℕ) → IsWithin (on_file o word)
+within_file None word = tt
+within_file (Some verb) word = by (is_path word) where
+  by : (b : Bool) → IsWithin (if b then OnFile verb word else NoCommand)
+  by true = tt
+  by false = tt
+
+within_words : (words : List (List ℕ)) → IsWithin (command_of words)
+within_words [] = tt
+within_words (word ∷ []) = tt
+within_words (verb ∷ word ∷ []) = by (bytes_eq verb (codes "generate")) where
+  by : (b : Bool) → IsWithin (if b then on_calls (calls_of word) else on_file (verb_of verb) word)
+  by true = within_word (nat_le (length word) 6) word
+  by false = within_file (verb_of verb) word
+within_words (verb ∷ path ∷ word ∷ words) = tt
+
+pub words_answered : (words : List (List ℕ)) → HasAnAnswer (command_of words)
+words_answered words = answered (command_of words) (within_words words)

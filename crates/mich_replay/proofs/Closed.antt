@@ -10,7 +10,7 @@ use Rattle.mich_reader.proofs.Tried.{closed_cut}
 use Rattle.mich_replay.specs.Pace.{IsClosedAt, NoneIsClosedAt}
 
 -- a statement behind which a byte is left has a `;`
-signed : (rest : List ℕ) (end : ℕ) → 1 ≤ end → EndsAt rest end → 0 < length rest
+pub signed : (rest : List ℕ) (end : ℕ) → 1 ≤ end → EndsAt rest end → 0 < length rest
 signed [] end h e = absurd (omega (arith, h, e))
 signed (c ∷ rest) end h e = omega arith
 

@@ -18,4 +18,5 @@ pub mod Replayed
 pub mod Taking
 pub mod Truth
 pub mod Words
+pub mod Workload
 pub mod Written

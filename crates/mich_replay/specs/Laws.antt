@@ -9,7 +9,7 @@ use Rattle.rules_world.specs.Holdings.{held, minted_ever, burnt_ever}
 use Rattle.rules_world.specs.World.{World}
 use Rattle.rules_replay.specs.Replay.{Replay, State, IsReplay, going, stuck_run, run_all}
 use Rattle.rules_replay.specs.Answers.{Answer}
-use Rattle.rules_replay.specs.Commands.{Command, Generating, IsTold, IsAnswer}
+use Rattle.rules_replay.specs.Commands.{Command, IsTold, IsAnswer}
 use Rattle.laws_course.specs.Laws as course
 
 -- ---- answers
@@ -21,9 +21,6 @@ HasOneAnswer command = (content : List ℕ → Option (List ℕ)) (a b : Answer)
 -- and where it is known what it reads, it has one
 abbrev pub HasAnAnswer : Command → Type 0
 HasAnAnswer command = (content : List ℕ → Option (List ℕ)) → IsTold command content → (answer : Answer) × IsAnswer command content answer
-
-abbrev pub IsNoWorkload : Command → Type 0
-IsNoWorkload command = (calls : ℕ) → command ≡ Generating calls → ⊥
 
 -- the groups of a file all have outcomes: accepted code is never stuck
 abbrev pub NoGroupIsStuck : Type 0

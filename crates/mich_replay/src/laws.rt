@@ -8,16 +8,16 @@ ghost use Rattle.rules_replay.specs.Replay.{Replay, State, IsReplay};
 ghost use Rattle.rules_replay.specs.Scripts.{IsCheckAnswer};
 ghost use Rattle.rules_world.specs.Laws.{FailedGroupsMoveFees, RefusedGroupsMoveNothing};
 ghost use Rattle.rules_world.specs.World.{World};
-ghost use Rattle.rules_replay.specs.Commands.{Command};
-ghost use Rattle.mich_replay.specs.Laws.{ConservesMutez, ConservesTickets, HasAnAnswer, HasOneAnswer, IsNoWorkload, NoGroupIsStuck};
+ghost use Rattle.rules_replay.specs.Commands.{Command, command_of};
+ghost use Rattle.mich_replay.specs.Laws.{ConservesMutez, ConservesTickets, HasAnAnswer, HasOneAnswer, NoGroupIsStuck};
 
 use laws_world::{failed_groups_move_fees, refused_groups_move_nothing};
 
-/// A command has one answer: whatever the files hold, no two statuses and texts are answers to it, and where its file is known, one is.
-/// That a workload has one isn't said.
+/// What words ask for has one answer: whatever the files hold, no two statuses and texts are answers to it, and where its file is known,
+/// one is. So each file comes to something, and no workload is refused.
 pub fn commands_have_one_answer()
     ensures once { (command : Command) → HasOneAnswer command }
-    ensures some { (command : Command) → IsNoWorkload command → HasAnAnswer command }
+    ensures some { (words : List (List ℕ)) → HasAnAnswer (command_of words) }
     ensures replays { (file : List ℕ) → (done : Replay) × IsReplay file done }
 {}
 
