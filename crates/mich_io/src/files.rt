@@ -1,5 +1,5 @@
 // Files that are read from their beginning.
-ghost use Rattle.std.specs.Prelude.{◌≡◌, ◌<◌, ◌≤◌, ℕ, List, length, Contains, OnOk, OnErr};
+ghost use Rattle.std.specs.Prelude.{◌≡◌, ◌<◌, ◌≤◌, ℕ, List, length, Contains, OnOk, OnErr, IsErrOf};
 ghost use Rattle.std.specs.declared.option.Option.{Option};
 ghost use Rattle.std.specs.Io.{ReadsAtMost};
 ghost use Rattle.std.specs.Io.KnownBytes.{ReadConsumes};
@@ -14,7 +14,7 @@ pub enum FilesFault {
     /// The file could not be started or read. The count of faults rose.
     #[error("the file could not be read")]
     Failed,
-    /// There was no memory.
+    /// There was no memory. What is left of the file stays.
     #[error("out of memory")]
     Memory,
 }
@@ -33,11 +33,11 @@ pub trait Files {
     /// How many calls have failed, at most 2^64-1. It never falls.
     ghost faults: { Self → ℕ };
 
-    /// Goes to the beginning of a file that is lent. An `Err` leaves what is left of the former file.
+    /// Goes to the beginning of a file that is lent. After `Memory` what is left of the former file stays.
     fn start(&mut self, path: &str) -> Result<(), FilesFault>
         requires { Contains (lent self.old) path.now }
         ensures started { OnOk result (left self.new ≡ content self.old path.now) }
-        ensures stays { OnErr result (left self.new ≡ left self.old) }
+        ensures memory { IsErrOf result FilesFault.Memory → left self.new ≡ left self.old }
         ensures same { SameFiles (lent self.old) (lent self.new) (content self.old) (content self.new) }
         ensures cause { HasCause FilesFault.Failed (faults self.old) (faults self.new) result };
 

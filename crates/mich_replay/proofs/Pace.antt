@@ -53,11 +53,10 @@ no_three_err stop.Read none e = none refl
 no_three_err stop.Write none e = absurd (omega (arith, e))
 no_three_err stop.Memory none e = absurd (omega (arith, e))
 
-pub not_started : (content before left a : Option (List ℕ)) (e : Stop) → (e ≡ stop.Write → ⊥) → left ≡ before →
-    WritesAsItReads content before left a a (status_in (Err e))
-not_started content before left a stop.Read none same = inl (refl, same, inl refl)
+pub not_started : (content before left a : Option (List ℕ)) (e : Stop) → (e ≡ stop.Write → ⊥) → (e ≡ stop.Memory → left ≡ before) → WritesAsItReads content before left a a (status_in (Err e))
+not_started content before left a stop.Read none same = inl (refl, inl refl)
 not_started content before left a stop.Write none same = absurd (none refl)
-not_started content before left a stop.Memory none same = inl (refl, same, inr refl)
+not_started content before left a stop.Memory none same = inl (refl, inr (refl, same refl))
 
 -- ---- what was told
 

@@ -42,9 +42,9 @@ pub record KeepsStep (taken : List ℕ) (before now : Option (List ℕ)) (status
   pub lines : Appends before now (text_of (group_lines 1 receipts) ++ rest)
   pub read_fault : status ≡ 3 → (piece ≡ []) × (rest ≡ [])
 
--- the file wasn't started, for a read fault or for want of memory: nothing was written, and what was left of another stays
+-- the file wasn't started, for a read fault or for want of memory: nothing was written
 abbrev pub NotStarted : (left_before left_now before now : Option (List ℕ)) → ℕ → Type 0
-NotStarted left_before left_now before now status = (now ≡ before) × (left_now ≡ left_before) × ((status ≡ 3) ⊎ (status ≡ 5))
+NotStarted left_before left_now before now status = (now ≡ before) × ((status ≡ 3) ⊎ ((status ≡ 5) × (left_now ≡ left_before)))
 
 -- The line of each group is written before more is read than the piece that closes the group. Whatever call of the files or of the
 -- sink is the last one, and any may be, what was written by then keeps step with what was taken of the file.

@@ -1,5 +1,5 @@
 // Files that are read in pieces, or whole.
-ghost use Rattle.std.specs.Prelude.{◌≡◌, ◌≤◌, ◌<◌, ◌-◌, ◌^◌, ℕ, List, length, Contains, IfOk, OnErr, OnOk, Some, IsErrOf};
+ghost use Rattle.std.specs.Prelude.{◌≡◌, ◌≤◌, ◌<◌, ◌-◌, ◌^◌, ℕ, List, length, Contains, IfOk, OnOk, Some, IsErrOf};
 ghost use Rattle.std.specs.Io.{ReadsAtMost};
 ghost use Rattle.std.specs.Io.KnownBytes.{IsAtEnd, ReadConsumes};
 ghost use Rattle.rules_io.specs.Causes.{HasCause};
@@ -18,7 +18,7 @@ const FILE_LIMIT: usize = 1_073_741_824;
 pub(crate) fn start<F: Files>(files: &mut F, path: &str) -> Result<(), Stop>
     requires { Contains (F.lent files.old) path.now }
     ensures started { OnOk result (F.left files.new ≡ F.content files.old path.now) }
-    ensures stays { OnErr result (F.left files.new ≡ F.left files.old) }
+    ensures memory { IsErrOf result Stop.Memory → F.left files.new ≡ F.left files.old }
     ensures same { SameFiles (F.lent files.old) (F.lent files.new) (F.content files.old) (F.content files.new) }
     ensures no_write { IsErrOf result Stop.Write → ⊥ }
     ensures cause { HasCause Stop.Read (F.faults files.old) (F.faults files.new) result }

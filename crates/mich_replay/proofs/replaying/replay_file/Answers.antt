@@ -225,7 +225,7 @@ pub returns-in_err-start-clause-pace : goal.returns-in_err-start-clause-pace
 returns-in_err-start-clause-pace g c =
     let p = err_from_is_err_and c.from_residual.result c.from_residual.ensures.1 in
     rw (p.1, p.2) (not_started (g.F.Files.content c.args.files.now c.args.path.now) (g.F.Files.left c.args.files.now) (g.F.Files.left c.start.new.files) (g.K.Sink.written c.args.out.now)
-    c.in_err-start.field-0.0 (λ e. c.in_err-start.ensures.no_write (ap Err e)) c.in_err-start.ensures.stays)
+    c.in_err-start.field-0.0 (λ e. c.in_err-start.ensures.no_write (ap Err e)) (λ e. c.in_err-start.ensures.memory (ap Err e)))
 
 pub returns-in_err-session-clause-pace : goal.returns-in_err-session-clause-pace
 returns-in_err-session-clause-pace g c =
