@@ -24,6 +24,8 @@ pub use laws::{
 pub use top::mich;
 
 #[cfg(test)]
+mod bodies_tests;
+#[cfg(test)]
 mod check_tests;
 #[cfg(test)]
 mod generate_tests;

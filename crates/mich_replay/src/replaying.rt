@@ -61,7 +61,7 @@ fn tell<K: Sink>(
 }
 
 // Takes the statements that stand, and writes the line of each group at once.
-fn tell_groups<K: Sink>(
+pub(crate) fn tell_groups<K: Sink>(
     alloc: Global,
     session: &mut Session,
     last: bool,
