@@ -12,7 +12,7 @@ use Rattle.std.proofs.lemmas.Int.{ints}
 use Rattle.std.proofs.lemmas.Map.{lookup-remove_entry}
 use Rattle.std.proofs.lemmas.Map.Keys.{IsDistinct-from_sorted}
 use Rattle.rules_values.specs.Tickets.{Identity, Held}
-use Rattle.rules_typing.specs.Fits.{is_place}
+use Rattle.rules_forms.specs.Spelling.{is_place}
 use Rattle.rules_steps.specs.Changes.{identity_of, amount_of}
 use Rattle.rules_world.specs.World.{Account, identity_order}
 use Rattle.rules_world.specs.Holdings.{amount_held, with_amount, credited_account, debited_account}

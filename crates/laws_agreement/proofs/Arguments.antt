@@ -1,9 +1,10 @@
 -- What is read of the arguments of instructions: types are well formed and have their attributes.
 use Rattle.std.proofs.Common.{◌≡◌, ℕ, ◌+◌, Bool, true, false, refl, subst}
 use Rattle.std.specs.Prelude.{nat_le, if◌then◌else◌}
+use Rattle.rules_base.specs.Limits.{type_limit}
 use Rattle.rules_base.specs.Tree.{Tree, Trees, none, more, size}
 use Rattle.rules_types.specs.Kind.{Kind, nodes}
-use Rattle.rules_types.specs.Reading.{Read, good, bad, Reading, a_type, bad_type, too_large, typed, limited, type_at, type_limit}
+use Rattle.rules_types.specs.Reading.{Read, good, bad, Reading, a_type, bad_type, too_large, typed, limited, type_at}
 use Rattle.rules_instructions.specs.Arguments.{Found, found, fault, and_then, no_argument, with_attribute, type_argument, one_type, two_types, count_argument, one_count, count_or}
 use Rattle.laws_types.specs.Laws.{IsWellFormed}
 use Rattle.laws_types.proofs.Again.{read_well}

@@ -4,10 +4,10 @@ use Rattle.std.specs.Prelude.{if◌then◌else◌}
 use Rattle.std.specs.List.{AllByRecursion}
 use Rattle.std.specs.Str.{bytes_eq}
 use Rattle.rules_base.specs.Tree.{Tree, prim, none, more, size}
-use Rattle.rules_forms.specs.Spelling.{default_name}
+use Rattle.rules_forms.specs.Spelling.{default_name, is_entrypoint}
 use Rattle.rules_types.specs.Kind.{Kind}
 use Rattle.rules_types.specs.Kind as k
-use Rattle.rules_types.specs.Entrypoints.{field_name, is_entrypoint_name, Entry, Branch, branch, in_order, below, find_entry, Entries, entries, bad_name, repeated, then_entries, with_new, with_named, with_branch, with_branches, root_by, or_default, with_default, entries_of}
+use Rattle.rules_types.specs.Entrypoints.{field_name, Entry, Branch, branch, in_order, below, find_entry, Entries, entries, bad_name, repeated, then_entries, with_new, with_named, with_branch, with_branches, root_by, or_default, with_default, entries_of}
 use Rattle.rules_values.specs.Val.{Val}
 use Rattle.rules_world.specs.Targets.{wrapped}
 use Rattle.laws_types.specs.Laws.{IsWellFormed}
@@ -98,7 +98,7 @@ module _ (a : Kind) where
   named_lead : (es : List Entry) (at : ℕ) (o : Option (List ℕ)) (path : List Bool) (b : Kind) → EntriesLead es →
       LeadsTo path a b → AllLead (with_named es at o path b)
   named_lead es at None path b h i = h
-  named_lead es at (Some name) path b h i = by_test (is_entrypoint_name name)
+  named_lead es at (Some name) path b h i = by_test (is_entrypoint name)
     where
       by_test : (c : Bool) → AllLead (if c then with_new (find_entry name es) es at name path b else bad_name at)
       by_test true = new_lead (find_entry name es) es at name path b h i

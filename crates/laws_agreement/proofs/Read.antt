@@ -10,7 +10,7 @@ use Rattle.rules_values.specs.Val.{Val, Vals, Pairs, no_pair, more_pairs}
 use Rattle.rules_values.specs.Val as v
 use Rattle.rules_values.specs.Order.{order}
 use Rattle.rules_values.specs.Tables.{AreKeysAbove, AreIncreasingKeys}
-use Rattle.rules_values.specs.ByteForms.{is_address}
+use Rattle.rules_forms.specs.Spelling.{is_address}
 use Rattle.rules_values.specs.Forms.{AllHave, AllEntriesHave}
 use Rattle.rules_values.specs.Literals.{Word, recursive_word, word_of_name, claim, good, bad, mapped, Reader, simple_value, parts_of, read_elements, read_increasing, read_entries, read_table, read_body, recursive_named, read_lambda, read_contract, read, read_rest}
 use Rattle.laws_types.specs.Laws.{IsWellFormed}

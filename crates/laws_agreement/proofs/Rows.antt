@@ -1,6 +1,7 @@
 -- What an instruction's arguments say of the types that its rule carries.
 use Rattle.std.proofs.Common.{◌≡◌, ℕ, ◌+◌, Bool, true, false, List, [], ◌∷◌, Option, Some, None, refl}
 use Rattle.std.specs.Prelude.{if◌then◌else◌}
+use Rattle.rules_base.specs.Limits.{count_limit, part_limit}
 use Rattle.rules_base.specs.Tree.{Trees, none, more, size}
 use Rattle.rules_base.specs.declared.Primitive.{Primitive}
 use Rattle.rules_base.specs.declared.Primitive.TheVariants as p
@@ -16,7 +17,7 @@ use Rattle.rules_instructions.specs.Overloads.{Overloaded, overload}
 use Rattle.rules_instructions.specs.Overloads as o
 use Rattle.rules_instructions.specs.Change.{Change, after, is_within_limit}
 use Rattle.rules_instructions.specs.Effect.{change}
-use Rattle.rules_instructions.specs.Arguments.{Found, found, fault, and_then, type_argument, one_type, count_limit, part_limit, annotated, view_name_argument}
+use Rattle.rules_instructions.specs.Arguments.{Found, found, fault, and_then, type_argument, one_type, annotated, view_name_argument}
 use Rattle.rules_instructions.specs.Instructions.{Instruction, row, overloaded, choose, emit_of, view_of, instruction}
 use Rattle.rules_instructions.specs.Rules.{Ruled, ruled, faulty, with_change, with_row, with_instruction, rule}
 use Rattle.laws_types.specs.Laws.{IsWellFormed}

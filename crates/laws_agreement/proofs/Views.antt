@@ -4,12 +4,11 @@ use Rattle.std.specs.Prelude.{if◌then◌else◌, option_and_then}
 use Rattle.std.specs.List.{AllByRecursion}
 use Rattle.std.specs.Str.{bytes_eq}
 use Rattle.std.proofs.lemmas.Bool.{and_parts}
-use Rattle.rules_forms.specs.Spelling.{place_of}
+use Rattle.rules_forms.specs.Spelling.{place_of, is_implicit}
 use Rattle.rules_types.specs.Kind.{Kind}
 use Rattle.rules_types.specs.Attributes.{packable}
 use Rattle.rules_instructions.specs.Same.{same_kind}
 use Rattle.rules_instructions.specs.Arguments.{Found, found, fault}
-use Rattle.rules_values.specs.ByteForms.{is_implicit}
 use Rattle.rules_typing.specs.Scripts.{TypedView, Outline}
 use Rattle.rules_typing.specs.Nodes.{outline}
 use Rattle.rules_evaluation.specs.Surroundings.{Contract}

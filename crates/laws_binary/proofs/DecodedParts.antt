@@ -12,9 +12,10 @@ use Rattle.std.proofs.lemmas.List.Quantifiers.{position-Some}
 use Rattle.std.proofs.lemmas.Nat.{from_be_bytes-to_be_bytes_4}
 use Rattle.std.proofs.lemmas.Option.{slice_get-get_or}
 use Rattle.std.proofs.lemmas.Slice.Eq.{bytes_eq-Decides}
+use Rattle.rules_base.specs.Limits.{byte_limit}
 use Rattle.rules_base.specs.Primitives.{primitive_names, name_of_code, code_of_name}
 use Rattle.rules_binary.specs.Spelling.{groups_within, groups, signed_groups, integer, field, joined, code}
-use Rattle.rules_binary.specs.Reading.{Spot, Fault, ◌>>=◌, field_of, field_at, width_limit, narrow_field_at, goes_on, groups_value, is_longer, is_longer_by, ranged, integer_of, integer_by, integer_at, is_text, string_at, bytes_at, is_noted, is_annotation, before, pieces, annotations_of, any_annotations, annotations_at, any_annotations_at, byte_at, name_by, name_at}
+use Rattle.rules_binary.specs.Reading.{Spot, Fault, ◌>>=◌, field_of, field_at, narrow_field_at, goes_on, groups_value, is_longer, is_longer_by, ranged, integer_of, integer_by, integer_at, is_text, string_at, bytes_at, is_noted, is_annotation, before, pieces, annotations_of, any_annotations, annotations_at, any_annotations_at, byte_at, name_by, name_at}
 use Rattle.laws_binary.specs.Laws.{IsWithinRange, HasCode}
 use Rattle.laws_binary.proofs.Integers.{IsRun}
 use Rattle.laws_binary.proofs.Lengths.{length_field}
@@ -43,11 +44,11 @@ read_field content place rest h =
     field_by (spot place (field content ++ rest)) (length content) content rest (from_be_bytes-to_be_bytes_4 (length content) h) some long
     (take-append_seam content rest) (sym (drop-drop (length content) 4 (field content ++ rest)) ∙ drop-append_seam content rest)
 
-pub read_narrow : (content : List ℕ) (place : ℕ) (rest : List ℕ) → length content ≤ width_limit
+pub read_narrow : (content : List ℕ) (place : ℕ) (rest : List ℕ) → length content ≤ byte_limit
     → narrow_field_at (spot place (field content ++ rest)) ≡ Ok (spot (place + 4) content, spot (place + (4 + length content)) rest)
 unfolding narrow_field_at
 read_narrow content place rest h =
-    let narrow : nat_lt width_limit (length content) ≡ false = grind (arith, nat_tests, h) in
+    let narrow : nat_lt byte_limit (length content) ≡ false = grind (arith, nat_tests, h) in
     rw (read_field content place rest (omega (arith, h)), narrow) refl
 
 prefix_by : (m n : ℕ) (t u : Bool) → t && u ≡ true → (u ≡ true → m ≡ n) → cond t (1 + m) 0 ≡ suc n
@@ -58,13 +59,13 @@ all_prefix : {X : Type 0} (p : X → Bool) (xs : List X) → list_all p xs ≡ t
 all_prefix p [] h = refl
 all_prefix p (x ∷ xs) h = prefix_by (prefix_len p xs) (length xs) (p x) (list_all p xs) h (all_prefix p xs)
 
-pub read_string : (s : List ℕ) → list_all is_text s ≡ true → length s ≤ width_limit → Gives string_at (field s) s
+pub read_string : (s : List ℕ) → list_all is_text s ≡ true → length s ≤ byte_limit → Gives string_at (field s) s
 unfolding string_at
 read_string s text h place rest =
     let whole : nat_lt (prefix_len is_text s) (length s) ≡ false = grind (arith, nat_tests, all_prefix is_text s text) in
     (place + (4 + length s), rw (read_narrow s place rest h, whole) refl)
 
-pub read_bytes : (b : List ℕ) → length b ≤ width_limit → Gives bytes_at (field b) b
+pub read_bytes : (b : List ℕ) → length b ≤ byte_limit → Gives bytes_at (field b) b
 unfolding bytes_at
 read_bytes b h place rest = (place + (4 + length b), rw (read_narrow b place rest h) refl)
 

@@ -5,9 +5,10 @@ use Rattle.std.specs.List.{prefix_len}
 use Rattle.std.proofs.lemmas.Bool.{cases_lt, ltb-false}
 use Rattle.std.proofs.lemmas.List.{take-append-drop, length-take, length-drop, get_or-drop, get_or-take, get_or_past, drop-drop}
 use Rattle.std.proofs.lemmas.Nat.{be_bytes_4}
+use Rattle.rules_base.specs.Limits.{byte_limit}
 use Rattle.rules_binary.specs.declared.DecodeKind.TheVariants.{BadLength, TooWide, BadString}
 use Rattle.rules_binary.specs.Spelling.{field}
-use Rattle.rules_binary.specs.Reading.{Spot, Fault, ◌>>=◌, fault, past, byte_of, byte_at, field_of, field_at, width_limit, narrow_field_at, is_text, string_at, bytes_at}
+use Rattle.rules_binary.specs.Reading.{Spot, Fault, ◌>>=◌, fault, past, byte_of, byte_at, field_of, field_at, narrow_field_at, is_text, string_at, bytes_at}
 use Rattle.laws_binary.specs.Laws.{IsBytes, Took, FieldsAreSpelt}
 
 pub IsBytes-drop : (n : ℕ) (bytes : List ℕ) → IsBytes bytes → IsBytes (drop n bytes)
@@ -85,8 +86,8 @@ byte_took s after b e = byte_of_took s.place s.left b after e
 pub narrow_took : (s inner after : Spot) → IsBytes s.left → narrow_field_at s ≡ Ok (inner, after) → Took s (field inner.left) after
 unfolding narrow_field_at
 narrow_took s inner after fits e =
-    let b = bind_ok (field_at s) (λ f. cond (ltb width_limit (length f.0.left)) (fault TooWide s.place) (Ok f)) (inner, after) e in
-    let g = guard_ok (ltb width_limit (length b.0.0.left)) (record { kind = TooWide; place = s.place }) (Ok b.0) (inner, after) b.2 in
+    let b = bind_ok (field_at s) (λ f. cond (ltb byte_limit (length f.0.left)) (fault TooWide s.place) (Ok f)) (inner, after) e in
+    let g = guard_ok (ltb byte_limit (length b.0.0.left)) (record { kind = TooWide; place = s.place }) (Ok b.0) (inner, after) b.2 in
     subst (λ (p : Spot × Spot). Took s (field p.0.left) p.1) (ok_is b.0 (inner, after) g.1) (fields_are_spelt s b.0.0 b.0.1 fits b.1)
 
 pub string_took : (s after : Spot) (text : List ℕ) → IsBytes s.left → string_at s ≡ Ok (text, after) → Took s (field text) after

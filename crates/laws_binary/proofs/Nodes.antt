@@ -3,12 +3,13 @@ use Rattle.std.proofs.Common.{◌≡◌, ℕ, zero, suc, ◌+◌, ◌<◌, ◌�
 use Rattle.std.specs.Int.{w32, to_be_bytes}
 use Rattle.std.proofs.lemmas.Bool.{eqb-true, ltb-false}
 use Rattle.std.proofs.lemmas.List.{append-nil, nil_from_length, length-append}
+use Rattle.rules_base.specs.Limits.{depth_limit}
 use Rattle.rules_base.specs.Tree.{Tree, int, str, bytes, prim, seq, Trees, none, more}
 use Rattle.rules_binary.specs.declared.DecodeKind.TheVariants.{BadTag, TooDeep, Trailing}
 use Rattle.rules_binary.specs.declared.Tag.{Tag}
 use Rattle.rules_binary.specs.declared.Tag.TheVariants as tags
 use Rattle.rules_binary.specs.Spelling.{field, joined, short, application, count, code, spelling, spellings}
-use Rattle.rules_binary.specs.Reading.{Spot, Fault, ◌>>=◌, fault, integer_at, string_at, bytes_at, field_at, short_annotations_at, any_annotations_at, name_at, arguments_at, nodes_within, nodes_at, application_at, many_at, node_by, tag_at, node_at, decoded, depth_limit}
+use Rattle.rules_binary.specs.Reading.{Spot, Fault, ◌>>=◌, fault, integer_at, string_at, bytes_at, field_at, short_annotations_at, any_annotations_at, name_at, arguments_at, nodes_within, nodes_at, application_at, many_at, node_by, tag_at, node_at, decoded}
 use Rattle.laws_binary.specs.Laws.{IsBytes, Took, DecodedIsSpelt, SpellingIsDecoded, OneSpelling}
 use Rattle.laws_binary.proofs.Fields.{guard_ok, ok_is, bind_ok, IsBytes-after, IsBytes-front, rest_fits, took_then, fields_are_spelt, string_took, bytes_took}
 use Rattle.laws_binary.proofs.Integers.{integers_are_spelt}

@@ -1,10 +1,11 @@
 -- What is read stands in the bytes as it is spelt.
 use Rattle.std.specs.Prelude.{◌≡◌, ◌^◌, [], length, ℕ, ◌<◌, ◌≤◌, ℤ, pos, negsuc, true, List, ◌++◌, Some, Ok, slice_index}
 use Rattle.std.specs.List.{list_all}
+use Rattle.rules_base.specs.Limits.{depth_limit, byte_limit}
 use Rattle.rules_base.specs.Tree.{Tree, int, str, bytes, prim, seq, Trees, none, more, depth}
 use Rattle.rules_base.specs.Primitives.{code_of_name}
 use Rattle.rules_binary.specs.Spelling.{field, integer, spelling}
-use Rattle.rules_binary.specs.Reading.{Spot, depth_limit, width_limit, is_text, is_annotation, field_at, integer_at, decoded}
+use Rattle.rules_binary.specs.Reading.{Spot, is_text, is_annotation, field_at, integer_at, decoded}
 
 -- each element is a byte
 abbrev pub IsBytes : List ℕ → Type 0
@@ -43,8 +44,8 @@ abbrev mutual
   -- numbers, texts and bytes within their limits, names with codes, annotations of their form
   pub HasBinaryForm : Tree → Type 0
   HasBinaryForm (int z) = IsWithinRange z
-  HasBinaryForm (str s) = (list_all is_text s ≡ true) × (length s ≤ width_limit)
-  HasBinaryForm (bytes b) = length b ≤ width_limit
+  HasBinaryForm (str s) = (list_all is_text s ≡ true) × (length s ≤ byte_limit)
+  HasBinaryForm (bytes b) = length b ≤ byte_limit
   HasBinaryForm (prim name annotations args) = HasCode name × (list_all is_annotation annotations ≡ true) × HaveBinaryForms args
   HasBinaryForm (seq ts) = HaveBinaryForms ts
 

@@ -1,11 +1,12 @@
 -- Where typing leads from types to types over an instruction, it leads so over the bodies of its typed code.
 use Rattle.std.proofs.Common.{◌≡◌, ◌+◌, ◌≤◌, ℕ, Bool, true, false, List, [], ◌∷◌, ◌++◌, Option, Some, None, refl, sym, ap, ◌∙◌, subst, take, drop, length, nat_le}
+use Rattle.rules_base.specs.Limits.{count_limit}
 use Rattle.rules_base.specs.Tree.{Tree, Trees, prim, seq, none, more, size}
 use Rattle.rules_base.specs.Primitives.{primitive_of_name}
 use Rattle.rules_types.specs.Kind.{Kind}
 use Rattle.rules_types.specs.Kind as k
 use Rattle.rules_instructions.specs.Types as t
-use Rattle.rules_instructions.specs.Arguments.{Found, found, count_argument, count_limit}
+use Rattle.rules_instructions.specs.Arguments.{Found, found, count_argument}
 use Rattle.rules_instructions.specs.Context.{Context}
 use Rattle.rules_instructions.specs.Forms as f
 use Rattle.rules_typing.specs.Typing.{Typing, goes, fails, bad, shift, under, mapped, part_kind, on_found, in_block}

@@ -1,12 +1,12 @@
 -- Where typing says that typed code goes to types, these are those that the code leads to.
 use Rattle.std.proofs.Common.{◌≡◌, ◌+◌, ℕ, Bool, true, false, List, [], ◌∷◌, ◌++◌, Option, Some, None, refl, sym, ap, ◌∙◌, subst, take, drop, length, nat_le}
 use Rattle.std.specs.Prelude.{if◌then◌else◌, ◌&&◌}
+use Rattle.rules_base.specs.Limits.{type_limit}
 use Rattle.rules_base.specs.Tree.{Tree, Trees, prim, seq, none, more, size}
 use Rattle.rules_base.specs.Primitives.{primitive_of_name}
 use Rattle.rules_types.specs.Kind.{Kind, nodes}
 use Rattle.rules_types.specs.Kind as k
 use Rattle.rules_types.specs.Attributes.{pushable}
-use Rattle.rules_types.specs.Reading.{type_limit}
 use Rattle.rules_types.specs.Entrypoints.{Entry, find_entry}
 use Rattle.rules_instructions.specs.Types as t
 use Rattle.rules_instructions.specs.Arguments.{Found, found, fault}

@@ -3,6 +3,7 @@ use Rattle.std.proofs.Common.{◌≡◌, ℕ, zero, suc, pos, ap, nat_lt, nat_le
 use Rattle.std.specs.Prelude.{◌≤ℤ◌, if◌then◌else◌}
 use Rattle.std.proofs.lemmas.Int.{ints}
 use Rattle.std.proofs.lemmas.List.{take-append-drop}
+use Rattle.rules_base.specs.Limits.{block_limit}
 use Rattle.rules_gas.specs.declared.Kind.TheVariants as price
 use Rattle.rules_types.specs.Kind.{Kind}
 use Rattle.rules_types.specs.Kind as k
@@ -16,7 +17,7 @@ use Rattle.rules_typing.specs.Stacks as asked
 use Rattle.rules_typing.specs.Acts.{dip_type}
 use Rattle.rules_evaluation.specs.Surroundings.{Surroundings}
 use Rattle.rules_evaluation.specs.Operations.{Tally}
-use Rattle.rules_evaluation.specs.Outcome.{stack, Run, after, only_if, block_limit, opened, block}
+use Rattle.rules_evaluation.specs.Outcome.{stack, Run, after, only_if, opened, block}
 use Rattle.rules_evaluation.specs.Branches.{paid, chosen, if_run, if_none_run, if_left_run, if_cons_run, dip_run}
 use Rattle.rules_evaluation.specs.Loops.{turn_where, turns_run, left_turns_run, loop_run, loop_left_run}
 use Rattle.laws_evaluation.specs.Laws.{known, IsGood, amount_on}

@@ -2,13 +2,13 @@
 use Rattle.std.proofs.Common.{◌≡◌, ℕ, zero, suc, ◌+◌, ◌≤◌, nat_le, Bool, true, false, ◌&&◌, List, [], ◌∷◌, length, take, drop, Option, Some, None, refl, arith}
 use Rattle.std.specs.Prelude.{if◌then◌else◌}
 use Rattle.std.proofs.lemmas.Bool.{leb-true}
+use Rattle.rules_base.specs.Limits.{type_limit}
 use Rattle.rules_base.specs.Tree.{Tree, int, str, bytes, prim, seq, Trees, none, more, size}
 use Rattle.rules_base.specs.Primitives.{primitive_of_name}
 use Rattle.rules_base.specs.declared.Primitive.{Primitive}
 use Rattle.rules_types.specs.Kind.{Kind, nodes}
 use Rattle.rules_types.specs.Kind as k
 use Rattle.rules_types.specs.Attributes.{pushable}
-use Rattle.rules_types.specs.Reading.{type_limit}
 use Rattle.rules_types.specs.Entrypoints.{Entry, find_entry}
 use Rattle.std.specs.Str.{bytes_eq}
 use Rattle.rules_values.specs.Val.{Val}

@@ -5,16 +5,15 @@ use Rattle.std.specs.Option.{option_map}
 use Rattle.std.specs.List.{All}
 use Rattle.std.specs.Str.{bytes_eq}
 use Rattle.std.proofs.lemmas.List.Elements.{All-nil, All-cons}
+use Rattle.rules_base.specs.Limits.{most_mutez, most_level, most_contents, most_tickets}
 use Rattle.rules_base.specs.Tree.{Tree, int, str, bytes, prim, seq, Trees, none, more, size, sizes}
 use Rattle.rules_gas.specs.Tables.{is_table}
-use Rattle.rules_typing.specs.Fits.{is_place}
-use Rattle.rules_values.specs.ByteForms.{is_chain_id, is_contract, is_entrypoint, is_key_hash}
+use Rattle.rules_forms.specs.Spelling.{is_chain_id, is_contract, is_entrypoint, is_key_hash, is_place}
 use Rattle.rules_values.specs.Forms.{is_ticket_amount}
-use Rattle.rules_world.specs.Balances.{most_mutez}
 use Rattle.rules_world.specs.Contents.{Action, Originate, Call, Give, Content}
 use Rattle.rules_world.specs.Forms.{is_moment, IsAction, IsContent}
 use Rattle.rules_course.specs.Ranges.{IsStatement}
-use Rattle.rules_statements.specs.Statements.{Statement, Chain, Costs, Account, Block, Group, ◌>>=◌, only_if, integer_of, within, number_of, moment_of, gas_of, ticket_amount_of, bytes_of, entrypoint_of, table_of, nodes_of, named, originate_of, call_of, give_of, action_by, content_by, each_content, contents_of, chain_of, costs_of, account_of, block_of, group_of, statement_by, most_level, most_contents, most_tickets}
+use Rattle.rules_statements.specs.Statements.{Statement, Chain, Costs, Account, Block, Group, ◌>>=◌, only_if, integer_of, within, number_of, moment_of, gas_of, ticket_amount_of, bytes_of, entrypoint_of, table_of, nodes_of, named, originate_of, call_of, give_of, action_by, content_by, each_content, contents_of, chain_of, costs_of, account_of, block_of, group_of, statement_by}
 use Rattle.laws_course.specs.Laws.{StatementsHaveRanges}
 
 -- ---- what is found step by step

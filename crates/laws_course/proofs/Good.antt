@@ -2,14 +2,15 @@
 use Rattle.std.proofs.Common.{◌≡◌, ◌≢◌, ◌≤◌, ◌<◌, ◌+◌, ◌^◌, ℕ, ℤ, Bool, true, false, List, [], Some, None, Ok, Err, refl, sym, ap, ◌∙◌, subst, arith, is_some, IsSome, if◌then◌else◌}
 use Rattle.std.specs.Prelude.{Result, nat_le}
 use Rattle.std.specs.declared.option.Option.{Option}
+use Rattle.rules_base.specs.Limits.{most_mutez}
 use Rattle.rules_base.specs.Tree.{Tree}
 use Rattle.rules_gas.specs.Prices.{Listed}
 use Rattle.rules_gas.specs.Tables.{table_of}
-use Rattle.rules_values.specs.ByteForms.{is_key_hash}
+use Rattle.rules_forms.specs.Spelling.{is_key_hash}
 use Rattle.rules_course.specs.Course.{Course, goes_on, stops, timed, is_later, with_prices, costs_step, granting, block_step, numbered}
 use Rattle.rules_course.specs.Ranges.{IsStatement}
 use Rattle.rules_statements.specs.Statements.{Chain, Costs, Account, Block, Group}
-use Rattle.rules_world.specs.Balances.{Grant, Granted, Repeated, TooMuch, granted_to, endowed, most_mutez}
+use Rattle.rules_world.specs.Balances.{Grant, Granted, Repeated, TooMuch, granted_to, endowed}
 use Rattle.rules_world.specs.Contents.{Content}
 use Rattle.rules_world.specs.Forms.{is_moment}
 use Rattle.rules_world.specs.Groups.{Settled, group}

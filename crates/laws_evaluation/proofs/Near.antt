@@ -2,6 +2,7 @@
 use Rattle.std.proofs.Common.{◌≡◌, ℕ, suc, ◌+◌, ◌*◌, ◌-◌, ◌<◌, ◌≤◌, Bool, true, false, List, Option, Some, None, refl, subst, arith}
 use Rattle.std.specs.Prelude.{nat_lt, nat_le}
 use Rattle.std.proofs.lemmas.Bool.{leb-true}
+use Rattle.rules_base.specs.Limits.{block_limit}
 use Rattle.rules_gas.specs.declared.Kind.{Kind as Priced}
 use Rattle.rules_gas.specs.Prices.{Listed, price_of, cost}
 use Rattle.rules_types.specs.Kind.{Kind}
@@ -12,7 +13,7 @@ use Rattle.rules_steps.specs.Step.{Step, done, fails, wrong}
 use Rattle.rules_instructions.specs.Same.{same_kinds}
 use Rattle.rules_evaluation.specs.Surroundings.{Surroundings}
 use Rattle.rules_evaluation.specs.Operations.{Operation, Tally}
-use Rattle.rules_evaluation.specs.Outcome.{Outcome, stack, failed, stuck, Go, Run, after, unless_stuck, only_if, with_gas, charge, opened, block, block_limit, with_changes, finish}
+use Rattle.rules_evaluation.specs.Outcome.{Outcome, stack, failed, stuck, Go, Run, after, unless_stuck, only_if, with_gas, charge, opened, block, with_changes, finish}
 use Rattle.rules_evaluation.specs.Branches.{paid}
 use Rattle.rules_evaluation.specs.Loops.{ending}
 use Rattle.rules_evaluation.specs.Issuing.{issued_where, issue}

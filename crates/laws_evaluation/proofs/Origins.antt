@@ -2,6 +2,7 @@
 use Rattle.std.proofs.Common.{◌≡◌, ℕ, suc, ◌≤◌, Bool, true, false, List, [], ◌∷◌, ◌++◌, Option, Some, None, refl, ap, ◌∙◌, arith}
 use Rattle.std.specs.Prelude.{◌-◌, nat_lt, nat_le}
 use Rattle.std.proofs.lemmas.List.{append_assoc}
+use Rattle.rules_base.specs.Limits.{block_limit}
 use Rattle.rules_gas.specs.declared.Kind.{Kind as Priced}
 use Rattle.rules_gas.specs.Prices.{Listed, cost}
 use Rattle.rules_types.specs.Kind.{Kind}
@@ -10,7 +11,7 @@ use Rattle.rules_values.specs.Val.{Val}
 use Rattle.rules_steps.specs.Step.{Step, done, fails, wrong}
 use Rattle.rules_evaluation.specs.Surroundings.{Surroundings}
 use Rattle.rules_evaluation.specs.Operations.{Operation, transfer, origination, event, Issued, Tally}
-use Rattle.rules_evaluation.specs.Outcome.{Outcome, stack, failed, stuck, Go, Run, after, unless_stuck, only_if, with_gas, charge, opened, block, block_limit, with_changes, finish}
+use Rattle.rules_evaluation.specs.Outcome.{Outcome, stack, failed, stuck, Go, Run, after, unless_stuck, only_if, with_gas, charge, opened, block, with_changes, finish}
 use Rattle.rules_evaluation.specs.Branches.{paid}
 use Rattle.rules_evaluation.specs.Loops.{ending}
 use Rattle.laws_evaluation.specs.Origins.{IsNew, AreNew, Originates}

@@ -1,12 +1,12 @@
 -- The laws of evaluation (Michelson reference, "Semantics" and "Typing"; Octez "Tickets").
 use Rattle.std.specs.Prelude.{◌≡◌, ◌≤◌, ◌<◌, ◌+◌, ◌^◌, ◌-◌, ℕ, ◌==◌, true, ℤ, pos, neg_ℤ, ◌+ℤ◌, ◌≤ℤ◌, List, [], ◌∷◌, length, Some}
 use Rattle.std.specs.List.{All, list_any}
+use Rattle.rules_base.specs.Limits.{type_limit}
 use Rattle.rules_base.specs.Tree.{Tree, size}
 use Rattle.rules_forms.specs.Spelling.{IsKeyHash, IsPlace}
 use Rattle.rules_gas.specs.declared.Kind.{Kind as Priced}
 use Rattle.rules_gas.specs.Prices.{Listed, price_of}
 use Rattle.rules_types.specs.Kind.{Kind, nodes}
-use Rattle.rules_types.specs.Reading.{type_limit}
 use Rattle.rules_instructions.specs.Arguments.{found}
 use Rattle.rules_instructions.specs.Context.{Context, main, view, lambda}
 use Rattle.rules_values.specs.Val.{Val}

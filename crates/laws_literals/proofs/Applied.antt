@@ -2,13 +2,14 @@
 use Rattle.std.proofs.Common.{◌≡◌, ℕ, ◌+◌, nat_le, Bool, true, false, ◌&&◌, List, [], ◌∷◌, Some, codes, refl, sym, ap, ◌∙◌, subst}
 use Rattle.std.specs.Prelude.{if◌then◌else◌}
 use Rattle.std.proofs.lemmas.Bool.{le-leb}
+use Rattle.rules_base.specs.Limits.{type_limit}
 use Rattle.rules_base.specs.Tree.{Tree, seq, Trees, none, more, size}
 use Rattle.rules_base.specs.Primitives.{primitive_of_name, code_of_name, primitive_of_code, primitive_names, primitives}
 use Rattle.rules_base.specs.declared.Primitive.TheVariants as p
 use Rattle.rules_types.specs.Kind.{Kind, nodes}
 use Rattle.rules_types.specs.Kind as k
 use Rattle.rules_types.specs.Attributes.{pushable}
-use Rattle.rules_types.specs.Reading.{limited, a_type, type_at, type_limit, any_kind}
+use Rattle.rules_types.specs.Reading.{limited, a_type, type_at, any_kind}
 use Rattle.rules_types.specs.Printing.{named, node_of}
 use Rattle.rules_values.specs.Val.{Val}
 use Rattle.rules_values.specs.Literals.{Literal, good, bad, read}

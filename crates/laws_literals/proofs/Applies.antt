@@ -3,6 +3,7 @@ use Rattle.std.proofs.Common.{◌≡◌, ℕ, ◌≤◌, nat_le, Bool, true, fal
 use Rattle.std.specs.Prelude.{◌≤ℤ◌, if◌then◌else◌}
 use Rattle.std.proofs.lemmas.Int.{ints}
 use Rattle.std.proofs.lemmas.Bool.{leb-true}
+use Rattle.rules_base.specs.Limits.{applied_size, applied_depth}
 use Rattle.rules_base.specs.Tree.{Tree, seq, Trees, size, depth}
 use Rattle.rules_gas.specs.declared.Kind.TheVariants as g
 use Rattle.rules_types.specs.Kind.{Kind}
@@ -20,7 +21,7 @@ use Rattle.rules_typing.specs.Stacks as asked
 use Rattle.rules_evaluation.specs.Surroundings.{Surroundings}
 use Rattle.rules_evaluation.specs.Operations.{Tally}
 use Rattle.rules_evaluation.specs.Outcome.{stack, only_if, charge}
-use Rattle.rules_evaluation.specs.Calls.{applied, applied_size, applied_depth, shallow_enough, small_enough, within_bounds, apply_run}
+use Rattle.rules_evaluation.specs.Calls.{applied, shallow_enough, small_enough, within_bounds, apply_run}
 use Rattle.laws_evaluation.specs.Laws.{known}
 use Rattle.laws_stacks.specs.Sound.{seen, Sound, KeepsFrom, SafeRun}
 use Rattle.laws_stacks.proofs.Amounts.{positive}

@@ -2,13 +2,13 @@
 use Rattle.std.proofs.Common.{◌≡◌, ℕ, ◌+◌, ◌<◌, ◌^◌, Bool, true, false, List, [], ◌∷◌, Option, refl, sym, subst, arith}
 use Rattle.std.specs.Prelude.{nat_le, if◌then◌else◌}
 use Rattle.std.proofs.lemmas.Int.{ints}
+use Rattle.rules_base.specs.Limits.{type_limit}
 use Rattle.rules_base.specs.Tree.{int, str, bytes, prim, seq, Trees, none, more, size, sizes}
 use Rattle.rules_base.specs.declared.Primitive.{Primitive}
 use Rattle.rules_gas.specs.declared.Kind.{Kind as Priced}
 use Rattle.rules_gas.specs.declared.Kind.TheVariants as g
 use Rattle.rules_types.specs.Kind.{Kind, nodes}
 use Rattle.rules_types.specs.Kind as k
-use Rattle.rules_types.specs.Reading.{type_limit}
 use Rattle.rules_instructions.specs.Same.{same_kinds}
 use Rattle.rules_instructions.specs.Context as place
 use Rattle.rules_instructions.specs.Arguments.{Found, found, fault}

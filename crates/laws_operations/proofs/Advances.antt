@@ -3,6 +3,7 @@ use Rattle.std.proofs.Common.{◌≡◌, ◌≤◌, ◌<◌, ◌+◌, ℕ, suc, 
 use Rattle.std.specs.Prelude.{nat_lt, nat_le}
 use Rattle.std.specs.declared.option.Option.{Option}
 use Rattle.std.proofs.lemmas.Bool.{ltb-true}
+use Rattle.rules_base.specs.Limits.{block_limit, operation_limit}
 use Rattle.rules_gas.specs.declared.Kind.{Kind as Priced}
 use Rattle.rules_gas.specs.Prices.{Listed, cost}
 use Rattle.rules_types.specs.Kind.{Kind}
@@ -11,10 +12,10 @@ use Rattle.rules_steps.specs.Step.{Step, done, fails, wrong}
 use Rattle.rules_instructions.specs.Same.{same_kinds}
 use Rattle.rules_evaluation.specs.Surroundings.{Surroundings}
 use Rattle.rules_evaluation.specs.Operations.{Operation, transfer, origination, event, Issued, Tally, new_contract}
-use Rattle.rules_evaluation.specs.Outcome.{Outcome, stack, failed, stuck, Go, Run, after, unless_stuck, only_if, with_gas, charge, opened, block, block_limit, finish}
+use Rattle.rules_evaluation.specs.Outcome.{Outcome, stack, failed, stuck, Go, Run, after, unless_stuck, only_if, with_gas, charge, opened, block, finish}
 use Rattle.rules_evaluation.specs.Branches.{paid}
 use Rattle.rules_evaluation.specs.Loops.{ending}
-use Rattle.rules_evaluation.specs.Issuing.{operation_limit, issued_where, issue, with_origination}
+use Rattle.rules_evaluation.specs.Issuing.{issued_where, issue, with_origination}
 use Rattle.rules_evaluation.specs.Operating.{behind_view}
 use Rattle.laws_operations.specs.NewOperations.{IsCounted, AreInTurn, Advances, AdvancesTo}
 

@@ -1,18 +1,19 @@
 -- Each name in code that is typed is a primitive's: by the size of the code.
 use Rattle.std.proofs.Common.{◌≡◌, ℕ, zero, suc, ◌+◌, ◌≤◌, true, Option, Some, None, List, [], ◌∷◌, refl, sym, subst, arith}
 use Rattle.std.specs.Prelude.{nat_le, length, take, drop}
+use Rattle.rules_base.specs.Limits.{type_limit, count_limit}
 use Rattle.rules_base.specs.Tree.{Tree, int, str, bytes, prim, seq, Trees, none, more, size, sizes}
 use Rattle.rules_base.specs.Primitives.{primitive_of_name}
 use Rattle.rules_base.specs.declared.Primitive.{Primitive}
 use Rattle.rules_types.specs.Kind.{Kind, or, list, lambda, nodes}
 use Rattle.rules_types.specs.Attributes.{pushable}
-use Rattle.rules_types.specs.Reading.{any_kind, type_limit}
+use Rattle.rules_types.specs.Reading.{any_kind}
 use Rattle.rules_values.specs.Val.{Val}
 use Rattle.rules_values.specs.Literals.{Pending, body, claim, Literal, good, bad, read}
 use Rattle.rules_instructions.specs.Types.{bool}
 use Rattle.rules_instructions.specs.Context.{Context}
 use Rattle.rules_instructions.specs.Context as place
-use Rattle.rules_instructions.specs.Arguments.{Found, found, fault, and_then, no_argument, annotated, type_argument, count_argument, count_limit}
+use Rattle.rules_instructions.specs.Arguments.{Found, found, fault, and_then, no_argument, annotated, type_argument, count_argument}
 use Rattle.rules_instructions.specs.Control.{Pushed, push_of, dip_of, Arrow, lambda_of, call_kinds, self_of}
 use Rattle.rules_instructions.specs.Forms.{Form, form_of}
 use Rattle.rules_instructions.specs.Forms as f

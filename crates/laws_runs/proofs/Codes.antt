@@ -3,13 +3,13 @@ use Rattle.std.proofs.Common.{◌≡◌, ◌≤◌, ◌+◌, ℕ, Bool, true, fa
 use Rattle.std.specs.Prelude.{if◌then◌else◌}
 use Rattle.std.specs.declared.option.Option.{Option}
 use Rattle.std.proofs.lemmas.Bool.{leb-true}
+use Rattle.rules_base.specs.Limits.{type_limit}
 use Rattle.rules_base.specs.Tree.{Tree, int, str, bytes, prim, seq, Trees, none, more, size, sizes}
 use Rattle.rules_base.specs.Primitives.{primitive_of_name}
 use Rattle.rules_base.specs.declared.Primitive.{Primitive}
 use Rattle.rules_base.specs.declared.Primitive.TheVariants as p
 use Rattle.rules_types.specs.Kind.{Kind, nodes, operation, pair, list}
 use Rattle.rules_types.specs.Attributes.{storable}
-use Rattle.rules_types.specs.Reading.{type_limit}
 use Rattle.rules_instructions.specs.Arguments.{Found, found, fault, and_then, is_view_name}
 use Rattle.rules_instructions.specs.Context.{Context, main}
 use Rattle.rules_instructions.specs.Same.{same_kinds}

@@ -4,7 +4,7 @@ use Rattle.std.specs.Prelude.{if◌then◌else◌}
 use Rattle.std.specs.declared.option.Option.{Option}
 use Rattle.std.proofs.lemmas.Int.{ints}
 use Rattle.std.proofs.lemmas.Bool.{and_parts}
-use Rattle.rules_values.specs.ByteForms.{is_implicit, is_key_hash}
+use Rattle.rules_forms.specs.Spelling.{is_implicit, is_key_hash}
 use Rattle.rules_values.specs.Tickets.{Identity}
 use Rattle.rules_steps.specs.Changes.{amount_in}
 use Rattle.rules_evaluation.specs.Surroundings.{Contract}

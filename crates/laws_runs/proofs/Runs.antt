@@ -3,6 +3,7 @@ use Rattle.std.proofs.Common.{◌≡◌, ◌≤◌, ◌<◌, ◌+◌, ◌-◌, �
 use Rattle.std.specs.List.{All}
 use Rattle.std.proofs.lemmas.Int.{ints}
 use Rattle.std.proofs.lemmas.List.Elements.{All-nil, All-append, All-filter, All-weaker}
+use Rattle.rules_base.specs.Limits.{operation_limit}
 use Rattle.rules_types.specs.Kind.{Kind}
 use Rattle.rules_values.specs.Val.{Val}
 use Rattle.rules_values.specs.Tickets.{Identity}
@@ -14,7 +15,6 @@ use Rattle.rules_steps.specs.Changes.{minted_in}
 use Rattle.rules_steps.specs.Environment.{Environment}
 use Rattle.rules_evaluation.specs.Surroundings.{Contract}
 use Rattle.rules_evaluation.specs.Operations.{Issued, Tally, operation_tickets}
-use Rattle.rules_evaluation.specs.Issuing.{operation_limit}
 use Rattle.rules_evaluation.specs.Outcome as code
 use Rattle.rules_evaluation.specs.Outcome.{only_if}
 use Rattle.rules_evaluation.specs.Loops.{ending}

@@ -5,10 +5,9 @@ use Rattle.std.specs.declared.option.Option.{Option}
 use Rattle.std.specs.Str.{bytes_eq}
 use Rattle.std.specs.Cmp.Lexicographic.{bytes_decides}
 use Rattle.rules_base.specs.Tree.{Tree, int, str, bytes, prim, seq}
-use Rattle.rules_forms.specs.Spelling.{default_name, spelled_address, place_of, entrypoint_of}
+use Rattle.rules_forms.specs.Spelling.{default_name, spelled_address, place_of, entrypoint_of, is_implicit}
 use Rattle.rules_types.specs.Kind.{Kind}
 use Rattle.rules_types.specs.Entrypoints.{Entry, find_entry}
-use Rattle.rules_values.specs.ByteForms.{is_implicit}
 use Rattle.rules_instructions.specs.Arguments.{Found, found, fault, and_then}
 use Rattle.rules_instructions.specs.Same.{same_kind}
 use Rattle.rules_typing.specs.Scripts.{Script, View, Outline, unless_fault, code_fault, with_views, a_script, with_bodies}

@@ -13,7 +13,8 @@ use Rattle.rules_values.specs.Val.{Val, Vals, no_val, more_vals, Pairs, no_pair,
 use Rattle.rules_values.specs.Val as v
 use Rattle.rules_values.specs.Tickets.{Identity, tickets, all_tickets, pair_tickets}
 use Rattle.rules_values.specs.Forms.{AllHave, AllEntriesHave}
-use Rattle.rules_typing.specs.Fits.{Known, Fits, is_place}
+use Rattle.rules_forms.specs.Spelling.{is_place}
+use Rattle.rules_typing.specs.Fits.{Known, Fits}
 use Rattle.rules_steps.specs.Changes.{amount_among}
 use Rattle.rules_evaluation.specs.Operations.{Operation, transfer, origination, event, Issued, operation_tickets}
 use Rattle.rules_world.specs.World.{World}

@@ -12,7 +12,7 @@ use Rattle.std.proofs.lemmas.Cmp.{nat_list_cmp_total}
 use Rattle.std.proofs.lemmas.Int.{ints}
 use Rattle.std.proofs.lemmas.List.Elements.{All-nil, All-weaker, All-append}
 use Rattle.std.proofs.lemmas.Map.Lookups.{exact_bytes}
-use Rattle.rules_values.specs.ByteForms.{is_key_hash}
+use Rattle.rules_forms.specs.Spelling.{is_key_hash}
 use Rattle.rules_values.specs.Tickets.{Identity}
 use Rattle.rules_steps.specs.Changes.{Change, amount_in}
 use Rattle.rules_evaluation.specs.Surroundings.{Contract}

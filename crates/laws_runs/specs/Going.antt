@@ -1,10 +1,10 @@
 -- What holds between the operations of a group.
 use Rattle.std.specs.Prelude.{◌≡◌, ◌≤◌, ◌<◌, ◌+◌, ◌^◌, ℕ, suc, true, List, [], ◌∷◌, ◌++◌, take, None}
 use Rattle.std.specs.Int.{w64, to_be_bytes}
+use Rattle.rules_base.specs.Limits.{operation_limit}
 use Rattle.rules_gas.specs.declared.Kind.{Kind as Priced}
 use Rattle.rules_gas.specs.Prices.{price_of}
-use Rattle.rules_values.specs.ByteForms.{is_key_hash}
-use Rattle.rules_evaluation.specs.Issuing.{operation_limit}
+use Rattle.rules_forms.specs.Spelling.{is_key_hash}
 use Rattle.rules_world.specs.World.{World, contract_at}
 use Rattle.rules_world.specs.Balances.{supply}
 use Rattle.rules_world.specs.Outcomes.{Setting, Waiting, ordered, issued, Counts, Outcome, applied, failed, stuck}

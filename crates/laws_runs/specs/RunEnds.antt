@@ -1,12 +1,12 @@
 -- How the run of a contract ends in a good world.
 use Rattle.std.specs.Prelude.{◌≡◌, ◌≤◌, ◌+◌, ◌^◌, ◌-◌, ◌+ℤ◌, ◌≤ℤ◌, ℕ, pos, Some}
 use Rattle.std.specs.List.{All}
+use Rattle.rules_base.specs.Limits.{operation_limit}
 use Rattle.rules_values.specs.Val.{Val}
 use Rattle.rules_values.specs.Tickets.{Identity}
 use Rattle.rules_steps.specs.Changes.{minted_in, burnt_in, amount_in}
 use Rattle.rules_steps.specs.Environment.{Environment}
 use Rattle.rules_evaluation.specs.Surroundings.{Contract}
-use Rattle.rules_evaluation.specs.Issuing.{operation_limit}
 use Rattle.rules_world.specs.World.{World, contract_at}
 use Rattle.rules_world.specs.Holdings.{minted_ever}
 use Rattle.rules_world.specs.Outcomes.{Setting, Counts}

@@ -35,7 +35,7 @@ use Rattle.laws_stacks.specs.Sound.{seen, Sound, KeepsFrom, SafeRun}
 use Rattle.laws_stacks.proofs.Amounts.{positive}
 use Rattle.laws_stacks.proofs.Paid.{keeps_charge}
 use Rattle.laws_steps.proofs.Arithmetic.{on_natural, amount_low}
-use Rattle.laws_stacks.proofs.Places.{place_address, contract_is}
+use Rattle.laws_forms.proofs.Places.{place_address, contract_is}
 use Rattle.laws_safety.proofs.OperationRows.{issue_keeps, amount_most}
 use Rattle.laws_control.proofs.Safe.{act_typer}
 use Rattle.laws_types.proofs.SameKinds.{same_kind_true}

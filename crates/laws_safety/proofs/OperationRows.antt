@@ -5,8 +5,9 @@ use Rattle.std.proofs.lemmas.List.{append-nil}
 use Rattle.std.specs.List.{list_any}
 use Rattle.std.proofs.lemmas.Int.{ints}
 use Rattle.std.proofs.lemmas.Bool.Decides.{nat_tests}
+use Rattle.rules_base.specs.Limits.{operation_limit}
 use Rattle.rules_base.specs.Tree.{Tree}
-use Rattle.rules_forms.specs.Spelling.{implicit_place, default_name, spelled_address, IsPlace}
+use Rattle.rules_forms.specs.Spelling.{implicit_place, default_name, spelled_address, IsPlace, is_key_hash, is_address}
 use Rattle.rules_types.specs.Kind.{Kind}
 use Rattle.rules_types.specs.Kind as k
 use Rattle.rules_types.specs.Attributes.{pushable, packable}
@@ -18,7 +19,6 @@ use Rattle.rules_instructions.specs.Straight.{OperationRow, on_operations}
 use Rattle.rules_instructions.specs.Straight as i
 use Rattle.rules_values.specs.Val.{Val}
 use Rattle.rules_values.specs.Val as v
-use Rattle.rules_values.specs.ByteForms.{is_key_hash, is_address}
 use Rattle.rules_values.specs.Tickets.{Identity}
 use Rattle.rules_steps.specs.Changes.{amount_in}
 use Rattle.rules_steps.specs.Step.{optional}
@@ -28,9 +28,8 @@ use Rattle.rules_evaluation.specs.Surroundings.{Surroundings}
 use Rattle.rules_evaluation.specs.Operations.{Operation, transfer, event, Issued, Tally}
 use Rattle.rules_evaluation.specs.Outcome.{stack, Run}
 use Rattle.rules_evaluation.specs.Contracts.{Lookup, takes, has_kind, entry_in, contract_in, contract_of, is_contract_of, viewed}
-use Rattle.rules_evaluation.specs.Issuing.{operation_limit, with_operation, issued_where, issue}
+use Rattle.rules_evaluation.specs.Issuing.{with_operation, issued_where, issue}
 use Rattle.rules_evaluation.specs.Operating.{view_run, operation_run}
-use Rattle.laws_values.proofs.Tests.{key_hash}
 use Rattle.laws_evaluation.specs.Laws.{known, amount_on, most_mutez}
 use Rattle.laws_stacks.specs.Sound.{IsSoundIssue, Seen, seen, Sound, KeepsFrom}
 use Rattle.laws_stacks.proofs.Amounts.{positive}
@@ -38,7 +37,7 @@ use Rattle.laws_stacks.proofs.Grow.{all_grow}
 use Rattle.laws_types.proofs.SameKinds.{same_kind_true}
 use Rattle.laws_stacks.proofs.Kept.{knows_grow, after_still}
 use Rattle.laws_steps.proofs.Arithmetic.{on_natural, amount_low}
-use Rattle.laws_stacks.proofs.Places.{implicit_is}
+use Rattle.laws_forms.proofs.Places.{implicit_is}
 use Rattle.laws_stacks.proofs.Addresses.{GivesContract, contract_gives, taken_there, spelled_is, default_is}
 use Rattle.laws_typed.proofs.TypedData.{RowTypes}
 use Rattle.std.proofs.lemmas.Bool.{and_parts}
@@ -113,7 +112,7 @@ amount_most n h =
 unit_account : (at : Lookup) (b : List ℕ) → is_key_hash b ≡ true →
     (is_address (implicit_place b) ≡ true) × (is_contract_of at ty.unit (implicit_place b) ≡ true)
 unit_account at b h =
-    let place : IsPlace (implicit_place b) = implicit_is b ((key_hash b).0 h) in
+    let place : IsPlace (implicit_place b) = implicit_is b h in
     let spelled : spelled_address (implicit_place b) default_name ≡ implicit_place b = append-nil (implicit_place b) in
     let taken : takes at (implicit_place b) default_name ty.unit ≡ true = taken_account h in (
       subst (λ x. is_address x ≡ true) spelled (spelled_is (implicit_place b) default_name place default_is),

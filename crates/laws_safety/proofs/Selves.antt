@@ -2,13 +2,13 @@
 use Rattle.std.proofs.Common.{◌≡◌, ℕ, nat_le, Bool, true, false, List, [], ◌∷◌, length, Option, Some, None, refl, sym, ap, ◌∙◌, arith}
 use Rattle.std.specs.Prelude.{option_and_then, if◌then◌else◌}
 use Rattle.std.proofs.lemmas.Int.{ints}
+use Rattle.rules_base.specs.Limits.{type_limit}
 use Rattle.rules_base.specs.Tree.{Trees, none, more}
 use Rattle.rules_base.specs.declared.Primitive.{Primitive}
-use Rattle.rules_forms.specs.Spelling.{default_name, contract_place, spelled_address}
+use Rattle.rules_forms.specs.Spelling.{default_name, contract_place, spelled_address, is_entrypoint}
 use Rattle.rules_gas.specs.declared.Kind.TheVariants as g
 use Rattle.rules_types.specs.Kind.{Kind, nodes}
 use Rattle.rules_types.specs.Kind as k
-use Rattle.rules_types.specs.Reading.{type_limit}
 use Rattle.rules_types.specs.Entrypoints.{Entry, find_entry}
 use Rattle.rules_instructions.specs.Context.{Context}
 use Rattle.rules_instructions.specs.Context as place
@@ -17,7 +17,6 @@ use Rattle.rules_instructions.specs.Control.{self_of}
 use Rattle.rules_instructions.specs.Forms as f
 use Rattle.rules_values.specs.Val.{Val}
 use Rattle.rules_values.specs.Val as v
-use Rattle.rules_values.specs.ByteForms.{is_entrypoint}
 use Rattle.rules_typing.specs.Typing.{goes}
 use Rattle.rules_typing.specs.Typing as typing
 use Rattle.rules_typing.specs.Scripts.{Script}
@@ -34,7 +33,7 @@ use Rattle.laws_types.proofs.SameKinds.{same_kind_refl}
 use Rattle.laws_stacks.proofs.Kept.{after_still}
 use Rattle.laws_stacks.proofs.Paid.{keeps_charge}
 use Rattle.laws_typed.proofs.Carried.{FoundHas, found_then, named_entrypoint}
-use Rattle.laws_stacks.proofs.Places.{contract_is}
+use Rattle.laws_forms.proofs.Places.{contract_is}
 use Rattle.laws_stacks.proofs.Addresses.{take_front, taken_there, spelled_is, default_is}
 use Rattle.laws_typed.proofs.Outlines.{Outlined, outlined}
 use Rattle.laws_control.proofs.Safe.{act_typer}

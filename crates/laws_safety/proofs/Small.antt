@@ -4,13 +4,14 @@ use Rattle.std.specs.Prelude.{ℤ, ◌==◌, Result, Ok, Err, slice_get, if◌th
 use Rattle.std.specs.Int.{w32, from_be_bytes}
 use Rattle.std.specs.List.{prefix_len}
 use Rattle.std.proofs.lemmas.Bool.Decides.{nat_tests}
+use Rattle.rules_base.specs.Limits.{depth_limit, byte_limit}
 use Rattle.rules_base.specs.Tree.{Tree, prim, Trees, none, more, size, sizes}
 use Rattle.rules_base.specs.Primitives.{name_of_code}
 use Rattle.rules_binary.specs.Spelling.{count}
 use Rattle.rules_binary.specs.declared.DecodeKind.TheVariants.{BadTag, BadLength, BadString, Trailing, TooWide}
 use Rattle.rules_binary.specs.declared.Tag.{Tag}
 use Rattle.rules_binary.specs.declared.Tag.TheVariants as tags
-use Rattle.rules_binary.specs.Reading.{Fault, Spot, ◌>>=◌, fault, depth_limit, width_limit, past, byte_of, byte_at, field_of, field_at, narrow_field_at, goes_on, integer_of, integer_by, integer_at, is_text, string_at, bytes_at, annotations_of, any_annotations, annotations_at, any_annotations_at, short_annotations_at, name_by, name_at, arguments_at, nodes_within, nodes_at, application_at, many_at, node_by, tags_in_order, tag_by, tag_at, node_at, decoded}
+use Rattle.rules_binary.specs.Reading.{Fault, Spot, ◌>>=◌, fault, past, byte_of, byte_at, field_of, field_at, narrow_field_at, goes_on, integer_of, integer_by, integer_at, is_text, string_at, bytes_at, annotations_of, any_annotations, annotations_at, any_annotations_at, short_annotations_at, name_by, name_at, arguments_at, nodes_within, nodes_at, application_at, many_at, node_by, tags_in_order, tag_by, tag_at, node_at, decoded}
 use Rattle.laws_steps.proofs.HashRows.{DecodedAreSmall}
 
 -- what was read and the bytes that are left are together no more than this
@@ -74,7 +75,7 @@ field_took s = by_test (nat_lt (length s.left) 4)
 narrow_took : (s : Spot) → Took field_size (length s.left) (narrow_field_at s)
 unfolding narrow_field_at
 narrow_took s = took_then field_size field_size (length s.left) (field_at s) _ (field_took s)
-    (λ f h. by_test f h (nat_lt width_limit (length f.0.left)))
+    (λ f h. by_test f h (nat_lt byte_limit (length f.0.left)))
   where
     by_test : (f : Spot × Spot) → field_size f.0 + length f.1.left ≤ length s.left → (b : Bool) →
         Took field_size (length s.left) (if b then fault TooWide s.place else Ok f)

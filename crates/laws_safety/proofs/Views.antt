@@ -4,19 +4,18 @@ use Rattle.std.specs.Prelude.{◌≤ℤ◌, option_and_then, if◌then◌else◌
 use Rattle.std.specs.Str.{bytes_eq}
 use Rattle.std.proofs.lemmas.Int.{ints}
 use Rattle.std.proofs.lemmas.Bool.{and_parts, leb-true}
+use Rattle.rules_base.specs.Limits.{type_limit}
 use Rattle.rules_base.specs.Tree.{Tree, seq, size}
-use Rattle.rules_forms.specs.Spelling.{place_of}
+use Rattle.rules_forms.specs.Spelling.{place_of, is_implicit, is_address}
 use Rattle.rules_types.specs.Kind.{Kind, nodes}
 use Rattle.rules_types.specs.Kind as k
 use Rattle.rules_types.specs.Attributes.{packable}
-use Rattle.rules_types.specs.Reading.{type_limit}
 use Rattle.rules_instructions.specs.Types as ty
 use Rattle.rules_instructions.specs.Same.{same_kind, same_kinds}
 use Rattle.rules_instructions.specs.Context.{Context}
 use Rattle.rules_instructions.specs.Context as place
 use Rattle.rules_values.specs.Val.{Val}
 use Rattle.rules_values.specs.Val as v
-use Rattle.rules_values.specs.ByteForms.{is_implicit, is_address}
 use Rattle.rules_values.specs.Tickets.{tickets}
 use Rattle.rules_steps.specs.Changes.{burns, minted_in, amount_in}
 use Rattle.rules_steps.specs.Step.{done}
@@ -43,7 +42,7 @@ use Rattle.laws_stacks.proofs.Kept.{keeps_apart}
 use Rattle.laws_steps.proofs.Steps.{quiet_burns, finish_keeps}
 use Rattle.laws_typed.proofs.Carried.{FoundHas}
 use Rattle.laws_typed.proofs.Outlines.{Outlined, outlined}
-use Rattle.laws_stacks.proofs.Places.{place_length, contract_is}
+use Rattle.laws_forms.proofs.Places.{place_length, contract_is}
 use Rattle.laws_stacks.proofs.Addresses.{address_place}
 use Rattle.laws_safety.proofs.Rows.{ViewsKeep}
 use Rattle.laws_control.proofs.Safe.{SafeNodes}

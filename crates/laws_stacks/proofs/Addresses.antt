@@ -4,11 +4,10 @@ use Rattle.std.specs.Prelude.{◌||◌, not, is_some, if◌then◌else◌}
 use Rattle.std.specs.Str.{bytes_eq}
 use Rattle.std.proofs.lemmas.Bool.{and_parts, and_from}
 use Rattle.std.proofs.lemmas.Slice.Eq.{bytes_eq-Decides}
-use Rattle.rules_forms.specs.Spelling.{default_name, written_entrypoint, spelled_address, place_of, name_of, entrypoint_of, IsPlace}
+use Rattle.rules_forms.specs.Spelling.{IsPlace, default_name, entrypoint_of, is_address, is_entrypoint, is_place, is_written_entrypoint, name_of, place_of, spelled_address, written_entrypoint}
 use Rattle.rules_types.specs.Kind.{Kind}
-use Rattle.rules_values.specs.ByteForms.{is_entrypoint, is_implicit, is_contract, is_written_entrypoint, is_address}
 use Rattle.rules_evaluation.specs.Contracts.{Lookup, chosen_entrypoint, takes, address_where, contract_named, contract_of, is_contract_of}
-use Rattle.laws_stacks.proofs.Places.{place_length, place_true, place_from}
+use Rattle.laws_forms.proofs.Places.{place_length}
 
 -- ---- what is written of a name
 
@@ -75,21 +74,19 @@ spelled_is place name h g =
     (place_length place h) in
     let behind : drop 22 (spelled_address place name) ≡ written_entrypoint name = drop_front 22 place (written_entrypoint name)
     (place_length place h) in
-    and_from (is_implicit (take 22 (spelled_address place name)) || is_contract (take 22 (spelled_address place name)))
+    and_from (is_place (take 22 (spelled_address place name)))
     (is_written_entrypoint (drop 22 (spelled_address place name)))
-    (subst (λ x. (is_implicit x || is_contract x) ≡ true) (sym front) (place_from place h))
+    (subst (λ x. is_place x ≡ true) (sym front) h)
     (subst (λ x. is_written_entrypoint x ≡ true) (sym behind) (written_is name g))
 
 pub address_place : (b : List ℕ) → is_address b ≡ true → IsPlace (place_of b)
-address_place b h = place_true (take 22 b) (and_parts (is_implicit (take 22 b) || is_contract (take 22 b))
-    (is_written_entrypoint (drop 22 b)) h).0
+address_place b h = (and_parts (is_place (take 22 b)) (is_written_entrypoint (drop 22 b)) h).0
 
 pub default_is : is_entrypoint default_name ≡ true
 default_is = refl
 
 pub address_name : (b : List ℕ) → is_address b ≡ true → is_entrypoint (entrypoint_of b) ≡ true
-address_name b h = by_name (drop 22 b) (and_parts (is_implicit (take 22 b) || is_contract (take 22 b))
-    (is_written_entrypoint (drop 22 b)) h).1
+address_name b h = by_name (drop 22 b) (and_parts (is_place (take 22 b)) (is_written_entrypoint (drop 22 b)) h).1
   where
     by_name : (n : List ℕ) → is_written_entrypoint n ≡ true → is_entrypoint (name_of n) ≡ true
     by_name [] h = refl

@@ -6,5 +6,4 @@ pub mod Kept
 pub mod Nothing
 pub mod Paid
 pub mod Parts
-pub mod Places
 pub mod Wells

@@ -2,9 +2,9 @@
 use Rattle.std.proofs.Common.{◌≤◌, Bool, List, [], ◌∷◌, arith}
 use Rattle.std.specs.Prelude.{◌≤ℤ◌}
 use Rattle.std.proofs.lemmas.Int.{ints}
+use Rattle.rules_base.specs.Limits.{type_limit}
 use Rattle.rules_types.specs.Kind.{Kind, nodes}
 use Rattle.rules_types.specs.Kind as k
-use Rattle.rules_types.specs.Reading.{type_limit}
 use Rattle.rules_instructions.specs.Types as ty
 use Rattle.rules_values.specs.Val.{Val, Vals, no_val, more_vals}
 use Rattle.rules_values.specs.Val as v

@@ -3,7 +3,7 @@ use Rattle.std.proofs.Common.{◌≡◌, ℕ, ◌^◌, ◌-◌, ◌<◌, true, L
 use Rattle.std.specs.Prelude.{◌≤ℤ◌, neg_ℤ}
 use Rattle.std.proofs.lemmas.Int.{ints}
 use Rattle.std.proofs.lemmas.Bool.Decides.{nat_tests}
-use Rattle.rules_forms.specs.Spelling.{implicit_place, contract_place}
+use Rattle.rules_forms.specs.Spelling.{implicit_place, contract_place, is_chain_id}
 use Rattle.rules_types.specs.Kind.{Kind}
 use Rattle.rules_instructions.specs.Types as ty
 use Rattle.rules_instructions.specs.Change.{makes}
@@ -12,7 +12,6 @@ use Rattle.rules_instructions.specs.Straight.{EnvironmentRow}
 use Rattle.rules_instructions.specs.Straight as i
 use Rattle.rules_values.specs.Val.{Val}
 use Rattle.rules_values.specs.Val as v
-use Rattle.rules_values.specs.ByteForms.{is_chain_id}
 use Rattle.rules_steps.specs.Environment.{Environment}
 use Rattle.rules_steps.specs.Reading.{environment_step}
 use Rattle.rules_typing.specs.Fits.{Known, AllFit}
@@ -20,7 +19,7 @@ use Rattle.laws_evaluation.specs.Laws.{IsGoodEnvironment}
 use Rattle.laws_steps.proofs.Steps.{StepFits}
 use Rattle.laws_steps.proofs.Ranges.{int_from, nat_from, amount_from}
 use Rattle.laws_steps.proofs.Arithmetic.{gives}
-use Rattle.laws_stacks.proofs.Places.{place_address, implicit_is, contract_is}
+use Rattle.laws_forms.proofs.Places.{place_address, implicit_is, contract_is}
 
 four_bytes : (b : List ℕ) → length b ≡ 4 → is_chain_id b ≡ true
 four_bytes b h = grind (arith, nat_tests)

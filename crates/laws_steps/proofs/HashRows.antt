@@ -9,6 +9,7 @@ use Rattle.sha2.specs.Sha256.{sha256}
 use Rattle.sha2.specs.Sha512.{sha512}
 use Rattle.sha2.proofs.Facts256.{length-sha256}
 use Rattle.sha2.proofs.Facts512.{length-sha512}
+use Rattle.rules_base.specs.Limits.{byte_limit}
 use Rattle.rules_base.specs.Tree.{Tree, size}
 use Rattle.rules_binary.specs.Reading.{Fault, decoded}
 use Rattle.rules_hash.specs.Blake2b.{blake}
@@ -25,8 +26,7 @@ use Rattle.rules_instructions.specs.Straight.{HashRow, EnvironmentRow}
 use Rattle.rules_instructions.specs.Straight as i
 use Rattle.rules_values.specs.Val.{Val}
 use Rattle.rules_values.specs.Val as v
-use Rattle.rules_values.specs.ByteForms.{is_key_hash, is_key}
-use Rattle.rules_values.specs.Literals.{Pending, body, claim, Literal, good, bad, read, bodies, claims, byte_limit, is_short}
+use Rattle.rules_values.specs.Literals.{Pending, body, claim, Literal, good, bad, read, bodies, claims, is_short}
 use Rattle.rules_steps.specs.Changes.{amount_in}
 use Rattle.rules_steps.specs.Packing.{packed, tried, of_decoded, unpacked, key_hash, hash_step}
 use Rattle.rules_steps.specs.Step.{Step, kept, optional}
@@ -34,7 +34,7 @@ use Rattle.rules_typing.specs.Typing.{Typing, goes, fails, bad, shift}
 use Rattle.rules_typing.specs.Bodies.{body_fault, first_fault}
 use Rattle.rules_instructions.specs.Same.{same_kinds}
 use Rattle.rules_evaluation.specs.Operations.{Issued}
-use Rattle.rules_forms.specs.Spelling.{key_length}
+use Rattle.rules_forms.specs.Spelling.{key_length, is_key_hash, is_key}
 use Rattle.rules_types.specs.declared.Simple.{Simple}
 use Rattle.rules_typing.specs.Nodes.{tree_type}
 use Rattle.rules_typing.specs.Literals.{fault_of_bodies, lambda_fault}

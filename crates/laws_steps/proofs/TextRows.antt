@@ -5,6 +5,7 @@ use Rattle.std.specs.List.{list_all}
 use Rattle.std.proofs.lemmas.Int.{ints}
 use Rattle.std.proofs.lemmas.Bool.{and_parts, and_from, leb-true}
 use Rattle.std.proofs.lemmas.Bool.Decides.{nat_tests}
+use Rattle.rules_base.specs.Limits.{byte_limit}
 use Rattle.rules_types.specs.declared.Simple.TheVariants as s
 use Rattle.rules_types.specs.Kind.{Kind}
 use Rattle.rules_types.specs.Kind as k
@@ -14,7 +15,7 @@ use Rattle.rules_instructions.specs.Straight.{TextRow}
 use Rattle.rules_instructions.specs.Straight as i
 use Rattle.rules_values.specs.Val.{Val, Vals, no_val, more_vals}
 use Rattle.rules_values.specs.Val as v
-use Rattle.rules_values.specs.Literals.{is_text, is_text_byte, is_short, byte_limit}
+use Rattle.rules_values.specs.Literals.{is_text, is_text_byte, is_short}
 use Rattle.rules_values.specs.Forms.{has_simple_form, AllHave}
 use Rattle.rules_values.specs.Tickets.{Identity}
 use Rattle.rules_steps.specs.Changes.{amount_in}

@@ -24,7 +24,7 @@ use Rattle.rules_values.specs.Tickets.{Identity, Held, tickets}
 use Rattle.rules_steps.specs.Changes.{Change as TicketChange, minted, burnt, minted_in, amount_of, amount_in, identity_of, is_alike}
 use Rattle.rules_steps.specs.Failure as failure
 use Rattle.rules_steps.specs.Step.{Step, done, fails, kept, discarding}
-use Rattle.rules_steps.specs.TicketSteps.{as_value, most_minted, ticket_step_of, are_parts, split, join, ticket_step}
+use Rattle.rules_steps.specs.TicketSteps.{as_value, ticket_step_of, are_parts, split, join, ticket_step}
 use Rattle.rules_typing.specs.Typing.{goes}
 use Rattle.rules_typing.specs.Fits.{Known, Fits, AllFit}
 use Rattle.rules_evaluation.specs.Surroundings.{Surroundings}
@@ -41,9 +41,10 @@ use Rattle.laws_stacks.proofs.Nothing.{no_amount_compared}
 use Rattle.laws_steps.proofs.Steps.{RowStep, finish_keeps, quiet_none, quiet_burns}
 use Rattle.laws_steps.proofs.Ranges.{nat_high, nat_low, nat_from}
 use Rattle.laws_steps.proofs.Arithmetic.{gives, on_natural}
-use Rattle.laws_stacks.proofs.Places.{place_address, place_true, place_from, contract_is}
+use Rattle.laws_forms.proofs.Places.{place_address, contract_is}
 use Rattle.laws_stacks.proofs.Identities.{alike_is, alike_itself, comparable_value}
 use Rattle.std.proofs.lemmas.List.Elements.{All-push}
+use Rattle.rules_base.specs.Limits.{most_minted}
 use Rattle.rules_world.specs.Forms.{IsChange}
 use Rattle.laws_stacks.proofs.Wells.{stack_good, one_good}
 
@@ -115,8 +116,7 @@ module _ (e : Surroundings) (good : IsGood e) (m : Tally) where
               refl,
               f,
               amount_is (pos (suc n)) (omega (arith, ints)) (nat_high (pos (suc n)) hn),
-              place_from
-                  (contract_place e.environment.own) (contract_is e.environment.own good.environment.own),
+              contract_is e.environment.own good.environment.own,
             ),
             so.fit.1.1,
           );
@@ -131,7 +131,7 @@ module _ (e : Surroundings) (good : IsGood e) (m : Tally) where
           well = λ h. (
             h.0,
             All-push IsChange m.changes (minted t) h.1 (
-              place_from (contract_place e.environment.own) (contract_is e.environment.own good.environment.own),
+              contract_is e.environment.own good.environment.own,
               amount_is (pos (suc n)) (omega (arith, ints)) (nat_high (pos (suc n)) hn),
             ),
           );
@@ -177,7 +177,7 @@ module _ (e : Surroundings) (good : IsGood e) (m : Tally) where
       let r : (pos 1 ≤ℤ n) × (n ≤ℤ pos (2 ^ 127 - 1)) = amount_true n h.0.2 in
       gives w (v.ticket issuer kind content n ∷ V) (v.ticket issuer kind content n ∷ V) (k.pair ty.address (k.pair a ty.nat))
       (k.ticket a ∷ A) (v.both (v.bytes issuer) (v.both content (v.number n)))
-      (place_address issuer (place_true issuer h.0.3), (h.0.1, nat_from n (omega (arith, ints)) r.1)) h
+      (place_address issuer h.0.3, (h.0.1, nat_from n (omega (arith, ints)) r.1)) h
       (λ id. among_append id (tickets content) [] ∙ (let p : amount_in id content ≡ pos 0 =
       no_amount_compared id w a content is.0.0 h.0.1 in omega (arith, ints)))
       (λ id. omega (arith, ints))

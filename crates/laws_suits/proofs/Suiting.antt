@@ -3,6 +3,7 @@ use Rattle.std.proofs.Common.{◌≡◌, ◌-◌, ◌^◌, ℕ, zero, suc, Bool,
 use Rattle.std.specs.Prelude.{ℤ, pos, ◌+ℤ◌, ◌≤ℤ◌, int_le, if◌then◌else◌, slice_get, option_and_then, IfSome}
 use Rattle.std.proofs.lemmas.Bool.{and_parts}
 use Rattle.std.proofs.lemmas.Int.{ints}
+use Rattle.rules_base.specs.Limits.{most_minted}
 use Rattle.rules_types.specs.Kind.{Kind}
 use Rattle.rules_types.specs.Kind as k
 use Rattle.rules_types.specs.Attributes.{comparable, duplicable}
@@ -19,7 +20,6 @@ use Rattle.rules_values.specs.Val.{Val, number, both, ticket}
 use Rattle.rules_values.specs.Tickets.{Identity, Held, tickets}
 use Rattle.rules_typing.specs.Fits.{Known, Fits, AllFit}
 use Rattle.rules_steps.specs.Changes.{Change as Told, amount_of, is_alike, identity_of}
-use Rattle.rules_steps.specs.TicketSteps.{most_minted}
 use Rattle.rules_evaluation.specs.Operations.{Issued}
 use Rattle.laws_types.proofs.SameKinds.{same_kind_true}
 use Rattle.laws_evaluation.specs.Laws.{known, amount_on}

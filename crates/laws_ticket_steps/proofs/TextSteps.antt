@@ -4,6 +4,7 @@ use Rattle.std.specs.Prelude.{pos, nat_eq, nat_le, if◌then◌else◌, option_m
 use Rattle.std.specs.List.{flat_map, list_all}
 use Rattle.sha2.specs.Sha256.{sha256}
 use Rattle.sha2.specs.Sha512.{sha512}
+use Rattle.rules_base.specs.Limits.{byte_limit}
 use Rattle.rules_base.specs.Tree.{Tree}
 use Rattle.rules_binary.specs.Reading.{Fault, decoded}
 use Rattle.rules_hash.specs.Blake2b.{blake}
@@ -13,7 +14,7 @@ use Rattle.rules_types.specs.Attributes.{pushable, packable}
 use Rattle.rules_values.specs.Val.{Val}
 use Rattle.rules_values.specs.Val as v
 use Rattle.rules_values.specs.Tickets.{tickets}
-use Rattle.rules_values.specs.Literals.{Literal, good, bad, read, bodies, claims, byte_limit}
+use Rattle.rules_values.specs.Literals.{Literal, good, bad, read, bodies, claims}
 use Rattle.rules_instructions.specs.Types as t
 use Rattle.rules_instructions.specs.Straight.{TextRow, HashRow, EnvironmentRow, on_hashes}
 use Rattle.rules_instructions.specs.Straight as i

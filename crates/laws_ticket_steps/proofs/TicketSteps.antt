@@ -6,6 +6,7 @@ use Rattle.std.specs.Ordering.{int_eq}
 use Rattle.std.proofs.lemmas.Bool.{and_parts}
 use Rattle.std.proofs.lemmas.Int.{ints}
 use Rattle.std.proofs.Math.IntN.{+ℤ_assoc, +ℤ_idr}
+use Rattle.rules_base.specs.Limits.{most_minted}
 use Rattle.rules_forms.specs.Spelling.{contract_place}
 use Rattle.rules_types.specs.Kind.{Kind}
 use Rattle.rules_types.specs.Kind as k
@@ -23,7 +24,7 @@ use Rattle.rules_steps.specs.Failure as failure
 use Rattle.rules_steps.specs.Environment.{Environment}
 use Rattle.rules_steps.specs.Changes.{minted, identity_of, is_alike, amount_of, amount_among}
 use Rattle.rules_steps.specs.Step.{done, fails, kept, discarding}
-use Rattle.rules_steps.specs.TicketSteps.{as_value, most_minted, mint, ticket_step_of, are_parts, split, join, ticket_step}
+use Rattle.rules_steps.specs.TicketSteps.{as_value, mint, ticket_step_of, are_parts, split, join, ticket_step}
 use Rattle.laws_agreement.specs.Agreement.{Agrees, AllAgree}
 use Rattle.laws_agreement.specs.Totals.{amount_on}
 use Rattle.laws_agreement.proofs.Amounts.{equal_balances}

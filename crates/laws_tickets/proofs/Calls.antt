@@ -3,6 +3,7 @@ use Rattle.std.proofs.Common.{◌≡◌, Bool, true, false, List, [], ◌∷◌,
 use Rattle.std.specs.Prelude.{ℤ, ◌+ℤ◌, nat_le, is_none}
 use Rattle.std.specs.List.{flat_map}
 use Rattle.std.proofs.lemmas.Int.{ints}
+use Rattle.rules_base.specs.Limits.{applied_size, applied_depth}
 use Rattle.rules_base.specs.Tree.{Tree, seq, Trees, size, depth}
 use Rattle.rules_gas.specs.declared.Kind.TheVariants as g
 use Rattle.rules_types.specs.Kind.{Kind}
@@ -17,7 +18,7 @@ use Rattle.rules_steps.specs.Changes.{amount_among}
 use Rattle.rules_typing.specs.Literals.{lambda_fault}
 use Rattle.rules_evaluation.specs.Operations.{Tally}
 use Rattle.rules_evaluation.specs.Outcome.{Outcome, Run}
-use Rattle.rules_evaluation.specs.Calls.{in_lambda, call_values, exec_run, applied, applied_size, applied_depth, shallow_enough, small_enough, apply_run, fail_run}
+use Rattle.rules_evaluation.specs.Calls.{in_lambda, call_values, exec_run, applied, shallow_enough, small_enough, apply_run, fail_run}
 use Rattle.laws_agreement.specs.Agreement.{Agrees, AllAgree}
 use Rattle.laws_agreement.specs.Totals.{amount_on, told, total}
 use Rattle.laws_agreement.proofs.Amounts.{on_append}

@@ -2,6 +2,7 @@
 use Rattle.std.proofs.Common.{◌≡◌, ℕ, ◌+◌, Bool, true, false, List, [], ◌∷◌, ◌++◌, Option, Some, None, refl, sym, ap, ◌∙◌, subst}
 use Rattle.std.specs.Prelude.{pos, nat_le, if◌then◌else◌}
 use Rattle.std.specs.List.{flat_map}
+use Rattle.rules_base.specs.Limits.{type_limit}
 use Rattle.rules_base.specs.Tree.{Trees, none, more, size}
 use Rattle.rules_base.specs.declared.Primitive.{Primitive}
 use Rattle.rules_forms.specs.Spelling.{contract_place, spelled_address}
@@ -10,7 +11,6 @@ use Rattle.rules_gas.specs.declared.Kind.TheVariants as g
 use Rattle.rules_types.specs.Kind.{Kind, nodes}
 use Rattle.rules_types.specs.Kind as k
 use Rattle.rules_types.specs.Attributes.{pushable}
-use Rattle.rules_types.specs.Reading.{type_limit}
 use Rattle.rules_types.specs.Entrypoints.{Entry, find_entry}
 use Rattle.rules_instructions.specs.Types as t
 use Rattle.rules_instructions.specs.Same.{same_kind, same_kinds}

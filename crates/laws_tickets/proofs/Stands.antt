@@ -6,6 +6,7 @@ use Rattle.std.proofs.Math.IntN.{+ℤ_idr}
 use Rattle.std.proofs.lemmas.Int.{ints}
 use Rattle.std.proofs.lemmas.Grind.{flat_map-append}
 use Rattle.std.proofs.lemmas.Bool.Decides.{nat_tests}
+use Rattle.rules_base.specs.Limits.{block_limit, operation_limit}
 use Rattle.rules_gas.specs.declared.Kind.{Kind as Priced}
 use Rattle.rules_gas.specs.Prices.{Listed, cost}
 use Rattle.rules_types.specs.Kind.{Kind}
@@ -20,10 +21,10 @@ use Rattle.rules_steps.specs.Changes.{amount_among, minted_in, burnt_in}
 use Rattle.rules_steps.specs.Step.{Step, done, fails as failing, wrong}
 use Rattle.rules_evaluation.specs.Surroundings.{Surroundings}
 use Rattle.rules_evaluation.specs.Operations.{Operation, Issued, Tally, operation_tickets}
-use Rattle.rules_evaluation.specs.Outcome.{Outcome, stack, failed, stuck, Go, Run, after, unless_stuck, only_if, with_gas, charge, opened, block, block_limit, finish}
+use Rattle.rules_evaluation.specs.Outcome.{Outcome, stack, failed, stuck, Go, Run, after, unless_stuck, only_if, with_gas, charge, opened, block, finish}
 use Rattle.rules_evaluation.specs.Branches.{paid}
 use Rattle.rules_evaluation.specs.Loops.{ending}
-use Rattle.rules_evaluation.specs.Issuing.{with_operation, issued_where, issue, operation_limit}
+use Rattle.rules_evaluation.specs.Issuing.{with_operation, issued_where, issue}
 use Rattle.rules_evaluation.specs.Given.{on_found, on_goes}
 use Rattle.laws_agreement.specs.Agreement.{AllAgree, SeesAgreement}
 use Rattle.laws_agreement.specs.Totals.{amount_on, amount_issued, issued_tickets, total, AreNumbered}

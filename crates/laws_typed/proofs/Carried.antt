@@ -2,19 +2,19 @@
 use Rattle.std.proofs.Common.{◌≡◌, ℕ, ◌+◌, Bool, true, false, List, [], Option, Some, None, refl}
 use Rattle.std.specs.Prelude.{if◌then◌else◌}
 use Rattle.std.proofs.lemmas.Bool.{leb-true}
+use Rattle.rules_base.specs.Limits.{type_limit}
 use Rattle.rules_base.specs.Tree.{Tree, Trees, none, more, size}
 use Rattle.rules_base.specs.declared.Primitive.{Primitive}
 use Rattle.rules_base.specs.declared.Primitive.TheVariants as p
-use Rattle.rules_forms.specs.Spelling.{default_name}
+use Rattle.rules_forms.specs.Spelling.{default_name, is_entrypoint}
 use Rattle.rules_types.specs.Kind.{Kind, nodes}
 use Rattle.rules_types.specs.Attributes.{comparable, passable, pushable, packable, big_value}
-use Rattle.rules_types.specs.Reading.{typed, Reading, a_type, bad_type, too_large, type_at, type_limit, any_kind}
+use Rattle.rules_types.specs.Reading.{typed, Reading, a_type, bad_type, too_large, type_at, any_kind}
 use Rattle.rules_instructions.specs.Overloads.{Overloaded, overload}
 use Rattle.rules_instructions.specs.Overloads as o
 use Rattle.rules_instructions.specs.Arguments.{Found, found, fault, and_then, no_argument, with_attribute, type_argument, one_type, two_types, count_argument, one_count, count_or, checked_name, annotated, view_name_argument}
 use Rattle.rules_instructions.specs.Instructions.{Instruction, row, overloaded, emit_of, view_of, instruction}
-use Rattle.rules_values.specs.ByteForms.{is_entrypoint}
-use Rattle.rules_types.specs.Entrypoints.{field_name, is_entrypoint_name}
+use Rattle.rules_types.specs.Entrypoints.{field_name}
 use Rattle.laws_types.specs.Laws.{IsWellFormed}
 use Rattle.laws_types.proofs.Again.{read_well, within}
 use Rattle.laws_evaluation.specs.Laws.{IsType}
@@ -100,9 +100,9 @@ any_name (fault l) = tt
 pub checked_entrypoint : (other : List ℕ) (o : Option (List ℕ)) → is_entrypoint other ≡ true →
     FoundHas (λ name. is_entrypoint name ≡ true) (checked_name other o)
 checked_entrypoint other None h = h
-checked_entrypoint other (Some name) h = by_test (is_entrypoint_name name) refl
+checked_entrypoint other (Some name) h = by_test (is_entrypoint name) refl
   where
-    by_test : (b : Bool) → is_entrypoint_name name ≡ b → FoundHas (λ name. is_entrypoint name ≡ true)
+    by_test : (b : Bool) → is_entrypoint name ≡ b → FoundHas (λ name. is_entrypoint name ≡ true)
         (if b then found name else fault 0)
     by_test true e = e
     by_test false e = tt

@@ -4,12 +4,12 @@ use Rattle.std.specs.Prelude.{if◌then◌else◌, codes}
 use Rattle.std.specs.Str.{bytes_eq}
 use Rattle.std.proofs.lemmas.Bool.{and_parts}
 use Rattle.rules_base.specs.Tree.{Tree, int, str, bytes, prim, seq, Trees, none, more, size}
-use Rattle.rules_forms.specs.Spelling.{default_name}
+use Rattle.rules_forms.specs.Spelling.{default_name, is_entrypoint}
 use Rattle.rules_types.specs.Kind.{Kind, nodes}
 use Rattle.rules_types.specs.Kind as k
 use Rattle.rules_types.specs.Attributes.{passable, storable}
 use Rattle.rules_types.specs.Reading.{typed, Reading, a_type, bad_type, too_large, type_at}
-use Rattle.rules_types.specs.Entrypoints.{Entry, Branch, field_name, branch, in_order, below, find_entry, Entries, entries, bad_name, repeated, then_entries, with_new, with_named, with_branch, with_branches, root_by, or_default, with_default, entries_of, is_entrypoint_name, Parameter, a_parameter, bad_parameter, large_parameter, repeated_entrypoint, of_entries, of_reading, of_section, parameter}
+use Rattle.rules_types.specs.Entrypoints.{Entry, Branch, field_name, branch, in_order, below, find_entry, Entries, entries, bad_name, repeated, then_entries, with_new, with_named, with_branch, with_branches, root_by, or_default, with_default, entries_of, Parameter, a_parameter, bad_parameter, large_parameter, repeated_entrypoint, of_entries, of_reading, of_section, parameter}
 use Rattle.rules_instructions.specs.Context.{Context}
 use Rattle.rules_instructions.specs.Context as place
 use Rattle.rules_instructions.specs.Arguments.{Found, found, fault, and_then}
@@ -114,7 +114,7 @@ name_good false es at name path a h g = tt
 branch_good : (es : List Entry) (b : Branch) (o : Option (List ℕ)) → EntriesAreTypes es → GoodKind b.kind →
     GoodEntries (with_named es b.location o b.path b.kind)
 branch_good es b None h g = h
-branch_good es b (Some name) h g = name_good (is_entrypoint_name name) es b.location name b.path b.kind h g
+branch_good es b (Some name) h g = name_good (is_entrypoint name) es b.location name b.path b.kind h g
 
 then_good : (x : Entries) (next : List Entry → Entries) → GoodEntries x →
     ((es : List Entry) → EntriesAreTypes es → GoodEntries (next es)) → GoodEntries (then_entries x next)

@@ -11,7 +11,7 @@ use Rattle.rules_instructions.specs.DataChanges.{union_change, collection_change
 use Rattle.rules_instructions.specs.Straight.{Straight, StackRow, PairRow, UnionRow, CollectionRow, NumberRow, LogicRow, TextRow, HashRow, EnvironmentRow, OperationRow, TicketRow, on_stack, on_pairs, on_unions, on_collections, on_numbers, on_truth, on_text, on_hashes, on_environment, on_operations, on_tickets}
 use Rattle.rules_instructions.specs.Straight as i
 use Rattle.rules_instructions.specs.Same.{same_kind}
-use Rattle.rules_values.specs.ByteForms.{is_entrypoint}
+use Rattle.rules_forms.specs.Spelling.{is_entrypoint}
 use Rattle.laws_types.specs.Laws.{IsWellFormed}
 use Rattle.laws_evaluation.specs.Laws.{IsType}
 use Rattle.laws_stacks.specs.Sound.{AllTypes}

@@ -3,11 +3,11 @@ use Rattle.std.proofs.Common.{◌≡◌, ℕ, nat_le, Bool, true, false, List, [
 use Rattle.std.specs.Prelude.{if◌then◌else◌}
 use Rattle.std.specs.List.{list_all}
 use Rattle.std.proofs.lemmas.Bool.{and_parts, leb-true}
+use Rattle.rules_base.specs.Limits.{type_limit}
 use Rattle.rules_base.specs.Tree.{Trees}
 use Rattle.rules_base.specs.declared.Primitive.{Primitive}
 use Rattle.rules_types.specs.Kind.{Kind, nodes}
 use Rattle.rules_types.specs.Kind as k
-use Rattle.rules_types.specs.Reading.{type_limit}
 use Rattle.rules_instructions.specs.Types as ty
 use Rattle.rules_instructions.specs.Straight.{Straight}
 use Rattle.rules_instructions.specs.Overloads.{Overloaded, overload}

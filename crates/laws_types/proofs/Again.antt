@@ -1,6 +1,7 @@
 -- Types that are read, and read again.
 use Rattle.std.proofs.Common.{◌≡◌, ℕ, ◌+◌, Bool, true, false, cond, List, [], ◌∷◌, codes, refl, ap, ◌∙◌, subst, nat_le}
 use Rattle.std.proofs.lemmas.Bool.{leb-true, le-leb}
+use Rattle.rules_base.specs.Limits.{type_limit}
 use Rattle.rules_base.specs.Tree.{Tree, int, str, bytes, prim, seq, Trees, none, more, size}
 use Rattle.rules_base.specs.Primitives.{primitive_of_name, code_of_name, primitive_of_code, primitive_names, primitives}
 use Rattle.rules_types.specs.declared.Simple.{Simple}
@@ -11,7 +12,7 @@ use Rattle.rules_types.specs.declared.TwoArguments.{TwoArguments}
 use Rattle.rules_types.specs.declared.TwoArguments.TheVariants as two
 use Rattle.rules_types.specs.Kind.{Kind, nodes}
 use Rattle.rules_types.specs.Kind as k
-use Rattle.rules_types.specs.Reading.{Former, simple_type, operation_type, one_argument, two_arguments, pair_type, no_type, former_of_name, asked_of_argument, of_argument, asked_of_first, asked_of_second, of_arguments, Read, good, bad, Part, part, with_part, on_good, paired, applied, typed, parts, limited, a_type, too_large, type_limit}
+use Rattle.rules_types.specs.Reading.{Former, simple_type, operation_type, one_argument, two_arguments, pair_type, no_type, former_of_name, asked_of_argument, of_argument, asked_of_first, asked_of_second, of_arguments, Read, good, bad, Part, part, with_part, on_good, paired, applied, typed, parts, limited, a_type, too_large}
 use Rattle.rules_types.specs.Printing.{simple_name, named, node_of}
 use Rattle.laws_types.specs.Laws.{IsWellFormed, AreRead, WellFormed}
 

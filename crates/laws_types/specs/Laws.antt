@@ -1,9 +1,10 @@
 -- Types whose arguments have the attributes that they must have, and the laws of reading them (Michelson reference, "Types").
 use Rattle.std.specs.Prelude.{◌≡◌, ◌≤◌, ℕ, true}
+use Rattle.rules_base.specs.Limits.{type_limit}
 use Rattle.rules_base.specs.Tree.{Tree}
 use Rattle.rules_types.specs.Kind.{Kind, simple, operation, option, or, pair, list, set, map, big_map, lambda, contract, ticket, nodes}
 use Rattle.rules_types.specs.Attributes.{comparable, passable, big_value}
-use Rattle.rules_types.specs.Reading.{a_type, type_at, type_limit}
+use Rattle.rules_types.specs.Reading.{a_type, type_at}
 use Rattle.rules_types.specs.Printing.{node_of}
 
 abbrev pub IsWellFormed : Kind → Type 0

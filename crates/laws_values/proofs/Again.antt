@@ -15,7 +15,7 @@ use Rattle.rules_values.specs.Val as v
 use Rattle.rules_values.specs.Order.{order}
 use Rattle.rules_values.specs.Tables.{AreAbove, AreIncreasing, AreKeysAbove, AreIncreasingKeys}
 use Rattle.rules_values.specs.Tickets.{Held, tickets, all_tickets, pair_tickets}
-use Rattle.rules_values.specs.ByteForms.{is_key_hash, is_key, is_signature, is_chain_id, is_address}
+use Rattle.rules_forms.specs.Spelling.{is_key_hash, is_key, is_signature, is_chain_id, is_address}
 use Rattle.rules_values.specs.Literals.{unit_word, true_word, false_word, none_word, some_word, left_word, right_word, pair_word, entry_word, recursive_word, word_of_name, Pending, claim, Literal, good, bad, with_pending, and_then, mapped, Reader, tested, on_value, unit_of_word, truth_of_word, simple_value, option_named, or_named, read_parts, pair_named, read_elements, is_behind, read_increasing, Entry, entry_named, read_entry, read_entries, recursive_named, read, read_rest, is_nat, is_amount, is_text, is_short}
 use Rattle.rules_values.specs.Canonical.{canonical, canonicals, canonical_entries, lambda_node, over_two}
 use Rattle.rules_values.specs.Forms.{HasForm, has_simple_form, AllHave, AllEntriesHave, IsSequence}

@@ -1,11 +1,9 @@
 -- The laws of literals (Michelson reference, "PACK" and "UNPACK").
-use Rattle.std.specs.Prelude.{ℕ, ◌≡◌, ◌↔◌, ◌||◌, true, List, []}
-use Rattle.rules_forms.specs.Spelling.{IsKeyHash, IsKey, IsSignature, IsChainId, IsEntrypoint, IsPlace, IsAddress}
+use Rattle.std.specs.Prelude.{ℕ, ◌≡◌, []}
 use Rattle.rules_types.specs.Kind.{Kind}
 use Rattle.rules_values.specs.Val.{Val, Vals, no_val, more_vals, Pairs, no_pair, more_pairs}
 use Rattle.rules_values.specs.Val as v
 use Rattle.rules_values.specs.Tickets.{tickets}
-use Rattle.rules_values.specs.ByteForms.{is_key_hash, is_key, is_signature, is_chain_id, is_entrypoint, is_implicit, is_contract, is_address}
 use Rattle.rules_values.specs.Literals.{Literal, good, bad, read}
 use Rattle.rules_values.specs.Canonical.{canonical}
 use Rattle.rules_values.specs.Forms.{HasForm}
@@ -41,13 +39,3 @@ Gives (bad l) y = ⊥
 -- a value that has the form of a type, and holds no ticket and no operation, is read again from its canonical literal
 abbrev pub ReadAgain : Type 0
 ReadAgain = (a : Kind) (x : Val) (at : ℕ) → IsWellFormed a → HasForm a x → tickets x ≡ [] → HoldsNoOperation x → Gives (read a at (canonical x)) x
-
--- the tests of byte forms are true of the bytes that spell them, and of no other
-pub record TestsAreSpellings : Type 0 where
-  pub key_hashes : (b : List ℕ) → (is_key_hash b ≡ true) ↔ IsKeyHash b
-  pub keys : (b : List ℕ) → (is_key b ≡ true) ↔ IsKey b
-  pub signatures : (b : List ℕ) → (is_signature b ≡ true) ↔ IsSignature b
-  pub chain_ids : (b : List ℕ) → (is_chain_id b ≡ true) ↔ IsChainId b
-  pub entrypoints : (name : List ℕ) → (is_entrypoint name ≡ true) ↔ IsEntrypoint name
-  pub places : (b : List ℕ) → (is_implicit b || is_contract b ≡ true) ↔ IsPlace b
-  pub addresses : (b : List ℕ) → (is_address b ≡ true) ↔ IsAddress b

@@ -6,11 +6,10 @@ use Rattle.std.specs.Str.{bytes_eq}
 use Rattle.std.proofs.lemmas.Bool.{ltb-false}
 use Rattle.std.proofs.lemmas.Int.{ints}
 use Rattle.rules_base.specs.Tree.{Tree}
-use Rattle.rules_forms.specs.Spelling.{default_name}
+use Rattle.rules_forms.specs.Spelling.{default_name, is_implicit, is_key_hash}
 use Rattle.rules_types.specs.declared.Simple.TheVariants as plain
 use Rattle.rules_types.specs.Kind.{Kind}
 use Rattle.rules_types.specs.Kind as k
-use Rattle.rules_values.specs.ByteForms.{is_implicit, is_key_hash}
 use Rattle.rules_values.specs.Val.{Val}
 use Rattle.rules_values.specs.Val as v
 use Rattle.rules_values.specs.Tickets.{Identity, Held, tickets}

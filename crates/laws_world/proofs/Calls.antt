@@ -4,18 +4,17 @@ use Rattle.std.specs.Prelude.{nat_le}
 use Rattle.std.proofs.lemmas.Bool.{leb-true}
 use Rattle.std.proofs.lemmas.Int.{ints}
 use Rattle.std.proofs.lemmas.List.Elements.{All-weaker}
-use Rattle.rules_forms.specs.Spelling.{contract_place}
-use Rattle.rules_values.specs.ByteForms.{is_implicit}
+use Rattle.rules_base.specs.Limits.{most_mutez}
+use Rattle.rules_forms.specs.Spelling.{contract_place, is_implicit, is_place}
 use Rattle.rules_values.specs.Val.{Val}
 use Rattle.rules_values.specs.Tickets.{Identity}
-use Rattle.rules_typing.specs.Fits.{is_place}
 use Rattle.rules_typing.specs.Nodes.{script}
 use Rattle.rules_instructions.specs.Arguments.{Found, found, fault}
 use Rattle.rules_steps.specs.Changes.{Change, amount_in, minted_in, burnt_in}
 use Rattle.rules_evaluation.specs.Surroundings.{Contract}
 use Rattle.rules_evaluation.specs.Contracts.{hash_in}
 use Rattle.rules_world.specs.World.{World, contract_at, with_contract}
-use Rattle.rules_world.specs.Balances.{supply, balance_or_none, moved, most_mutez}
+use Rattle.rules_world.specs.Balances.{supply, balance_or_none, moved}
 use Rattle.rules_world.specs.Holdings.{held, minted_ever, burnt_ever}
 use Rattle.rules_world.specs.Receipts.{Effect}
 use Rattle.rules_world.specs.Outcomes.{Setting, Waiting, Counts}
@@ -50,8 +49,8 @@ last_is (y ∷ h) x = last_is h x
 place_of_twenty : (n : ℕ) (h : List ℕ) → length h ≡ n → get_or (h ++ 0 ∷ []) n 0 ≡ 0
 place_of_twenty n h e = ap (λ n. get_or (h ++ 0 ∷ []) n 0) (sym e) ∙ last_is h 0
 
-pub contract_is_place : (hash : List ℕ) → length hash ≡ 20 → is_place (contract_place hash) ≡ true
-contract_is_place hash twenty =
+pub contract_is : (hash : List ℕ) → length hash ≡ 20 → is_place (contract_place hash) ≡ true
+contract_is hash twenty =
     let long : length (hash ++ 0 ∷ []) ≡ 21 = length-append hash (0 ∷ []) ∙ ap (λ n. n + 1) twenty in
     let last = place_of_twenty 20 hash twenty in
     rw (long, last) refl
@@ -105,7 +104,7 @@ module _ (start : World) (s : Setting) (contents : ℕ) (few : contents ≤ 1000
           sound = sound_again w (kept w t.hash is.before is.storage f.changes) taken.sound orderly
               (λ id. subst (λ z. z ≤ℤ pos (2 ^ 127 - 1)) (sym (minted_append id w.log f.changes)) (is.minted id)) mutez;
           waits = emitted_good (kept w t.hash is.before is.storage f.changes) (contract_place t.hash) f.returned waiting
-              (contract_is_place t.hash (contract_length w o t.hash is.before is.there))
+              (contract_is t.hash (contract_length w o t.hash is.before is.there))
               (All-weaker (λ i. IsGoodOperation w i.operation)
               (λ i. IsGoodOperation (kept w t.hash is.before is.storage f.changes) i.operation)
               (λ i h. operation_more w (kept w t.hash is.before is.storage f.changes) more i.operation h) f.returned

@@ -12,10 +12,11 @@ use Rattle.std.proofs.lemmas.Bool.{leb-true}
 use Rattle.std.proofs.lemmas.Int.{ints}
 use Rattle.std.proofs.lemmas.Nat.{from_be_bytes-to_be_bytes_8}
 use Rattle.std.proofs.lemmas.List.Elements.{All-nil, All-cons, All-weaker}
-use Rattle.rules_values.specs.ByteForms.{is_chain_id, is_key_hash}
+use Rattle.rules_base.specs.Limits.{most_mutez}
+use Rattle.rules_forms.specs.Spelling.{is_chain_id, is_key_hash}
 use Rattle.rules_evaluation.specs.Surroundings.{Contract}
 use Rattle.rules_world.specs.World.{World, new_world, account_at, contract_at}
-use Rattle.rules_world.specs.Balances.{most_mutez, supply, Granted, Repeated, TooMuch, endowed, granted_to}
+use Rattle.rules_world.specs.Balances.{supply, Granted, Repeated, TooMuch, endowed, granted_to}
 use Rattle.rules_world.specs.Forms.{IsAccount, IsTwentyBytes, IsChange, is_moment}
 use Rattle.rules_world.specs.Good.{IsGood, IsGoodContract, IsGoodWaiting, IsNewGroup}
 use Rattle.laws_runs.specs.Going.{IsOther, IsKept}

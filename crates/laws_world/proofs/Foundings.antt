@@ -7,6 +7,7 @@ use Rattle.std.proofs.lemmas.Int.{ints}
 use Rattle.std.proofs.lemmas.Bool.{ltb-false}
 use Rattle.std.proofs.lemmas.List.Elements.{All-head, All-tail}
 use Rattle.std.proofs.lemmas.Map.Entries.{sum_by-insert_entry}
+use Rattle.rules_base.specs.Limits.{most_mutez}
 use Rattle.rules_base.specs.Tree.{Tree}
 use Rattle.rules_gas.specs.declared.Kind.TheVariants as price
 use Rattle.rules_forms.specs.Spelling.{implicit_place}
@@ -20,7 +21,7 @@ use Rattle.rules_evaluation.specs.Surroundings.{Contract}
 use Rattle.rules_evaluation.specs.Operations.{origination, new_contract}
 use Rattle.rules_world.specs.World.{World, contract_at, with_contract}
 use Rattle.rules_world.specs.Contents.{Originate}
-use Rattle.rules_world.specs.Balances.{supply, balance_or_none, with_less, most_mutez}
+use Rattle.rules_world.specs.Balances.{supply, balance_or_none, with_less}
 use Rattle.rules_world.specs.Holdings.{held}
 use Rattle.rules_world.specs.Outcomes.{Setting, Waiting, ordered, issued, Counts}
 use Rattle.rules_world.specs.Arguments.{literal_in}

@@ -6,18 +6,16 @@ use Rattle.std.specs.Str.{bytes_eq}
 use Rattle.std.proofs.lemmas.Int.{ints}
 use Rattle.std.proofs.lemmas.List.Elements.{All-head}
 use Rattle.rules_base.specs.Tree.{Tree, size}
-use Rattle.rules_forms.specs.Spelling.{default_name, implicit_place}
+use Rattle.rules_forms.specs.Spelling.{default_name, implicit_place, is_implicit, is_contract, is_place}
 use Rattle.rules_gas.specs.declared.Kind.TheVariants as price
 use Rattle.rules_types.specs.Kind.{Kind}
 use Rattle.rules_types.specs.Kind as k
 use Rattle.rules_types.specs.Attributes.{comparable}
 use Rattle.rules_types.specs.Reading.{Reading, a_type, bad_type, too_large, type_at}
-use Rattle.rules_values.specs.ByteForms.{is_implicit, is_contract}
 use Rattle.rules_values.specs.Forms.{is_ticket_amount}
 use Rattle.rules_values.specs.Literals.{Literal, good, bad, read}
 use Rattle.rules_values.specs.Val.{Val}
 use Rattle.rules_values.specs.Tickets.{Identity, Held}
-use Rattle.rules_typing.specs.Fits.{is_place}
 use Rattle.rules_instructions.specs.Same.{same_kind}
 use Rattle.rules_steps.specs.Changes.{identity_of, amount_of, amount_in}
 use Rattle.rules_evaluation.specs.Contracts.{hash_in}

@@ -10,9 +10,8 @@ use Rattle.std.specs.List.{list_any}
 use Rattle.std.proofs.lemmas.Bool.{ltb-false}
 use Rattle.std.proofs.lemmas.Int.{ints}
 use Rattle.std.proofs.lemmas.List.Elements.{All-nil}
-use Rattle.rules_forms.specs.Spelling.{implicit_place}
+use Rattle.rules_forms.specs.Spelling.{implicit_place, is_implicit}
 use Rattle.rules_gas.specs.Prices.{Listed}
-use Rattle.rules_values.specs.ByteForms.{is_implicit}
 use Rattle.rules_evaluation.specs.Surroundings.{Contract}
 use Rattle.rules_evaluation.specs.Operations.{new_contract}
 use Rattle.rules_world.specs.World.{World, account_at, contract_at}

@@ -4,14 +4,14 @@ use Rattle.std.specs.declared.option.Option.{Option}
 use Rattle.std.specs.List.{All}
 use Rattle.std.proofs.lemmas.Int.{ints}
 use Rattle.std.proofs.lemmas.List.Elements.{All-tail}
+use Rattle.rules_base.specs.Limits.{operation_limit}
 use Rattle.rules_values.specs.Val.{Val}
 use Rattle.rules_values.specs.Tickets.{Identity, tickets}
 use Rattle.rules_steps.specs.Changes.{amount_in}
 use Rattle.rules_evaluation.specs.Surroundings.{Contract}
 use Rattle.rules_evaluation.specs.Contracts.{hash_in}
-use Rattle.rules_evaluation.specs.Issuing.{operation_limit}
 use Rattle.rules_evaluation.specs.Operations.{transfer}
-use Rattle.rules_values.specs.ByteForms.{is_implicit}
+use Rattle.rules_forms.specs.Spelling.{is_implicit}
 use Rattle.rules_world.specs.World.{World, contract_at}
 use Rattle.rules_world.specs.Contents.{Action}
 use Rattle.rules_world.specs.Balances.{supply, balance_or_none}

@@ -3,18 +3,16 @@ use Rattle.std.proofs.Common.{◌≡◌, ◌≤◌, ◌+◌, ◌^◌, ◌<◌, �
 use Rattle.std.specs.Str.{bytes_eq}
 use Rattle.std.proofs.lemmas.Bool.{and_parts}
 use Rattle.std.proofs.lemmas.List.Elements.{All-head}
+use Rattle.rules_base.specs.Limits.{most_mutez}
 use Rattle.rules_base.specs.Tree.{Tree}
-use Rattle.rules_forms.specs.Spelling.{default_name, implicit_place, place_of, entrypoint_of}
+use Rattle.rules_forms.specs.Spelling.{default_name, implicit_place, place_of, entrypoint_of, is_implicit, is_place}
 use Rattle.rules_gas.specs.declared.Kind.TheVariants as price
-use Rattle.rules_values.specs.ByteForms.{is_implicit}
 use Rattle.rules_values.specs.Val.{Val}
-use Rattle.rules_typing.specs.Fits.{is_place}
 use Rattle.rules_instructions.specs.Arguments.{Found, found, fault}
 use Rattle.rules_steps.specs.Changes.{amount_among, amount_in}
 use Rattle.rules_evaluation.specs.Operations.{transfer}
 use Rattle.rules_evaluation.specs.Contracts.{is_taken_by_account, takes}
 use Rattle.rules_world.specs.World.{World, contract_at}
-use Rattle.rules_world.specs.Balances.{most_mutez}
 use Rattle.rules_world.specs.Contents.{Call}
 use Rattle.rules_world.specs.Outcomes.{Setting, Waiting, ordered, issued, Counts}
 use Rattle.rules_world.specs.Targets.{Target}

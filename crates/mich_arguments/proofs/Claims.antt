@@ -5,17 +5,16 @@ use Rattle.std.specs.declared.option.Option.{Option}
 use Rattle.std.specs.Bool.{IsTrue}
 use Rattle.std.specs.Str.{bytes_eq}
 use Rattle.std.proofs.lemmas.Slice.Eq.{bytes_eq-Decides}
-use Rattle.rules_forms.specs.Spelling.{IsPlace, default_name, implicit_place, contract_place, spelled_address, entrypoint_of}
+use Rattle.rules_forms.specs.Spelling.{IsPlace, default_name, implicit_place, contract_place, spelled_address, entrypoint_of, is_entrypoint, is_key_hash}
 use Rattle.rules_types.specs.Kind.{Kind}
 use Rattle.rules_types.specs.Entrypoints.{find_entry}
-use Rattle.rules_values.specs.ByteForms.{is_entrypoint, is_key_hash}
 use Rattle.rules_evaluation.specs.Contracts.{Lookup, address_where, chosen_entrypoint, contract_named, entry_in, has_kind, hash_in, is_contract_of, is_taken_by_account, takes}
 use Rattle.rules_evaluation.specs.Surroundings.{Contract as PlainContract}
 use Rattle.rules_world.specs.World.{World as PlainWorld, contract_at as plain_contract_at}
 use Rattle.laws_stacks.proofs.Addresses.{name_back, place_back}
-use Rattle.laws_stacks.proofs.Places.{place_true}
 use Rattle.mich_standing.proofs.Agreement.{contracts_agree}
-use Rattle.mich_standing.proofs.Owners.{account_is_place, contract_is_place, hash_of}
+use Rattle.laws_forms.proofs.Places.{implicit_is, contract_is}
+use Rattle.mich_standing.proofs.Owners.{hash_of}
 use Rattle.mich_world.specs.Holders.{contract_at}
 use Rattle.mich_world.specs.Standing.{StandsFor, plain}
 use Rattle.mich_world.specs.World.{World}
@@ -58,7 +57,7 @@ other_so name b told e = by (bytes_eq name default_name) refl
     by true g = let held : IsTrue false = subst IsTrue e (told ((bytes_eq-Decides name default_name).0 g)) in let no : false ≡ true = held in absurd cc
 
 pub account_place : (who : List ℕ) → is_key_hash who ≡ true → IsPlace (implicit_place who)
-account_place who h = place_true (implicit_place who) (account_is_place who h)
+account_place who h = implicit_is who h
 
 pub account_takes : (at : Lookup) (who name : List ℕ) (a : Kind) → is_key_hash who ≡ true →
     takes at (implicit_place who) name a ≡ (bytes_eq name default_name && is_taken_by_account a)
@@ -68,7 +67,7 @@ account_takes at who name a h =
 -- ---- contracts
 
 pub contract_place_is : (hash : List ℕ) → length hash ≡ 20 → IsPlace (contract_place hash)
-contract_place_is hash h = place_true (contract_place hash) (contract_is_place hash h)
+contract_place_is hash h = contract_is hash h
 
 module _ (v : World) (w : PlainWorld) (hash name : List ℕ) (a : Kind) (typed : HasTypedScripts v) (stands : StandsFor v w) (is : length hash ≡ 20) where
   there : plain_contract_at w (hash_in (contract_place hash)) ≡ option_map (plain v.store.bases.present) (contract_at v.funds.present hash)

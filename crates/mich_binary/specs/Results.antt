@@ -2,6 +2,7 @@
 use Rattle.std.specs.Prelude.{◌≡◌, ℕ, ◌+◌, ◌<◌, ◌≤◌, List, ◌++◌, length, Result, Ok, Err}
 use Rattle.rules_binary.specs.declared.DecodeKind.{DecodeKind}
 use Rattle.rules_binary.specs.Reading.{Fault, Spot}
+use Rattle.rules_base.specs.Limits.{encoded_limit}
 use Rattle.rules_base.specs.Tree.{Tree, Trees}
 use Rattle.mich_base.specs.View.{tree, trees}
 use Rattle.mich_base.specs.declared.node.Node.{Node}
@@ -12,7 +13,7 @@ use Rattle.mich_binary.specs.declared.errors.EncodeError.{EncodeError}
 use Rattle.mich_binary.specs.declared.errors.EncodeError.TheVariants as encodes
 use Rattle.std.specs.Global.{Vec}
 use Rattle.rules_binary.specs.Spelling.{joined}
-use Rattle.rules_binary.specs.Encoding.{Refusal, no_code, too_long, encoded_limit}
+use Rattle.rules_binary.specs.Encoding.{Refusal, no_code, too_long}
 
 abbrev pub spot : Cursor → Spot
 spot c = record { place = c.place; left = c.left.now }

@@ -1,7 +1,7 @@
 // Writing nodes behind what was written.
 ghost use Rattle.std.specs.Prelude.{◌≡◌, ℕ, List, [], ◌∷◌, ◌+◌, ◌-◌, ◌<◌, ◌≤◌, ◌^◌, ◌++◌, length};
 ghost use Rattle.std.specs.Int.{w32, to_be_bytes};
-ghost use Rattle.rules_binary.specs.Encoding.{encoded_limit};
+ghost use Rattle.rules_base.specs.Limits.{encoded_limit};
 ghost use Rattle.rules_binary.specs.Spelling.{groups, signed_groups, integer, field, joined, short, application, code, count, spelling, spellings};
 ghost use Rattle.mich_base.specs.View.{tree, app_tree, trees};
 ghost use Rattle.mich_binary.specs.Results.{IsWritten, IsJoined};

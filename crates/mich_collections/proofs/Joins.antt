@@ -1,6 +1,6 @@
 -- Bytes of the elements of a list, one behind the other.
 use Rattle.std.proofs.Common.{◌≡◌, ℕ, suc, ◌+◌, ◌<◌, List, ◌++◌, drop, length, get_or, add-one, drop-cons, append_assoc, length-append, sym, ap, ◌∙◌, arith}
-use Rattle.rules_values.specs.Literals.{byte_limit}
+use Rattle.rules_base.specs.Limits.{byte_limit}
 use Rattle.rules_steps.specs.Texts.{bytes_of, joined}
 use Rattle.mich_term.specs.declared.value.Value.{Value}
 use Rattle.mich_stack.specs.Views.{Sight, seen}

@@ -2,7 +2,7 @@
 use Rattle.std.proofs.Common.{◌≡◌, ℕ, ◌<◌, ◌≤◌, List, length, true, false, arith}
 use Rattle.std.specs.Prelude.{nat_le}
 use Rattle.std.proofs.lemmas.Bool.Decides.{nat_tests}
-use Rattle.rules_values.specs.Literals.{byte_limit}
+use Rattle.rules_base.specs.Limits.{byte_limit}
 
 pub within_is : (b : List ℕ) → length b ≤ byte_limit → nat_le (length b) byte_limit ≡ true
 within_is b h = grind (arith, nat_tests)

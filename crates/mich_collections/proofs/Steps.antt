@@ -2,9 +2,9 @@
 use Rattle.std.proofs.Common.{◌≡◌, ℕ, ◌<◌, ◌≤◌, Ok, List, [], ◌∷◌, length, sym, ap, ◌∙◌}
 use Rattle.std.specs.Prelude.{ℤ, pos, Bool, Option, is_some, if◌then◌else◌}
 use Rattle.std.proofs.lemmas.List.{append-nil}
+use Rattle.rules_base.specs.Limits.{byte_limit}
 use Rattle.rules_numbers.specs.Limits.{int_or_limit}
 use Rattle.rules_values.specs.Val.{Val, Vals, Pairs, truth, number, text, bytes, list, set, table}
-use Rattle.rules_values.specs.Literals.{byte_limit}
 use Rattle.rules_values.specs.Tables.{value_at}
 use Rattle.rules_values.specs.Tickets.{tickets, all_tickets, pair_tickets}
 use Rattle.rules_instructions.specs.Straight as i

@@ -1,6 +1,6 @@
 -- Bytes within the limit.
 use Rattle.std.specs.Prelude.{◌≡◌, ℕ, ◌<◌, ◌≤◌, List, length, Option, Some, None}
-use Rattle.rules_values.specs.Literals.{byte_limit}
+use Rattle.rules_base.specs.Limits.{byte_limit}
 
 -- these bytes, or that they are over the limit
 abbrev pub IsWithinSize : List ℕ → Option (List ℕ) → Type 0

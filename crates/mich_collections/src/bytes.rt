@@ -1,6 +1,6 @@
 // Bytes that are joined and cut.
 ghost use Rattle.std.specs.Prelude.{◌≡◌, ◌++◌, ◌<◌, ◌≤◌, ◌+◌, ◌≤ℤ◌, pos, length, take, drop, option_map, unsigned_abs, IfOk};
-ghost use Rattle.rules_values.specs.Literals.{byte_limit};
+ghost use Rattle.rules_base.specs.Limits.{byte_limit};
 ghost use Rattle.rules_steps.specs.Texts.{bytes_of, joined, slice};
 ghost use Rattle.mich_stack.specs.Views.{Sight, seen};
 ghost use Rattle.mich_collections.specs.Seen.{vals_by};

@@ -46,7 +46,7 @@ use Rattle.mich_conditions.specs.Laws.{CreditsFit, InstallsFit, CommitsFit}
 use Rattle.mich_conditions.proofs.Room.{owner_part, has_room, positives}
 use Rattle.mich_conditions.proofs.Waiting.{whole_of, one_in}
 use Rattle.mich_standing.proofs.Contracts.{amounts, stored_are, before_held, length_is, storage_held}
-use Rattle.mich_standing.proofs.Owners.{account_is_place, contract_is_place}
+use Rattle.laws_forms.proofs.Places.{implicit_is, contract_is}
 
 -- the tickets of a value are positive, where it stands for one that fits
 value_positive : (bs : Bases) (v : Value) (w : PlainWorld) (a : Kind) → HoldNoTickets bs → AreFormed v → FitsIn w a (val_in bs v)
@@ -61,7 +61,7 @@ pub credits_fit : CreditsFit
 credits_fit u w who t s m key =
     same_room (held_of u.ledger.books.present (identity_of t) (implicit_place who)) (held_by w (identity_of t) (implicit_place who))
     t.amount (amount_in (identity_of t) (as_value t)) most
-    (s.those.held (identity_of t) (implicit_place who) (account_is_place who key))
+    (s.those.held (identity_of t) (implicit_place who) (implicit_is who key))
     (sym (whole_of t) ∙ one_in (identity_of t) t)
     (has_room w (as_value t) (identity_of t) (implicit_place who) m)
 
@@ -70,7 +70,7 @@ installs_fit u w hash given a s n f twenty fits m = record {
   positive = value_positive u.store.bases.present given w a n f fits;
   fits = λ j. same_room (held_of u.ledger.books.present j (contract_place hash)) (held_by w j (contract_place hash))
       (amount_among j (tickets (val given))) (amount_in j (val_in u.store.bases.present given)) most
-      (s.those.held j (contract_place hash) (contract_is_place hash twenty))
+      (s.those.held j (contract_place hash) (contract_is hash twenty))
       (amounts u.store.bases.present given j n f)
       (has_room w (val_in u.store.bases.present given) j (contract_place hash) m);
 }
@@ -127,7 +127,7 @@ module _ (u v : World) (w : PlainWorld) (s : Setting) (t : Target) (argument : V
       (positives (tickets is.before.storage) (good_tickets is.before is.there)))
 
   held_is : (j : Identity) → held_of v.ledger.books.present j owner ≡ own j
-  held_is j = r.adds.held j owner ∙ st.those.held j owner (contract_is_place t.hash twenty) ∙ storage_held w t.hash is.before j twenty is.there
+  held_is j = r.adds.held j owner ∙ st.those.held j owner (contract_is t.hash twenty) ∙ storage_held w t.hash is.before j twenty is.there
 
   gone_is : (j : Identity) → gone j ≡ own j
   gone_is j =

@@ -9,7 +9,7 @@ use Rattle.std.proofs.lemmas.List.Elements.{All-head, All-tail}
 use Rattle.rules_evaluation.specs.Contracts.{hash_in}
 use Rattle.rules_evaluation.specs.Surroundings.{Contract}
 use Rattle.rules_steps.specs.Changes.{amount_in}
-use Rattle.rules_values.specs.ByteForms.{is_implicit}
+use Rattle.rules_forms.specs.Spelling.{is_implicit}
 use Rattle.rules_values.specs.Tickets.{Identity, Held}
 use Rattle.rules_values.specs.Val.{Val}
 use Rattle.rules_world.specs.Forms.{IsAccount, IsTicket}

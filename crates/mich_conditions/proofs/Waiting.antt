@@ -9,9 +9,8 @@ use Rattle.std.proofs.lemmas.List.Elements.{All-tail}
 use Rattle.rules_evaluation.specs.Contracts.{hash_in}
 use Rattle.rules_evaluation.specs.Operations.{Operation, transfer, origination, operation_tickets}
 use Rattle.rules_evaluation.specs.Surroundings.{Contract}
-use Rattle.rules_forms.specs.Spelling.{implicit_place}
+use Rattle.rules_forms.specs.Spelling.{implicit_place, is_implicit, is_key_hash}
 use Rattle.rules_steps.specs.Changes.{amount_of, amount_among, amount_in, identity_of, is_alike, minted_in, burnt_in}
-use Rattle.rules_values.specs.ByteForms.{is_implicit, is_key_hash}
 use Rattle.rules_values.specs.Tickets.{Identity, Held}
 use Rattle.rules_world.specs.Balances.{supply, moved}
 use Rattle.rules_world.specs.Forms.{IsTicket}

@@ -3,10 +3,9 @@ use Rattle.std.specs.Prelude.{◌≡◌, ◌≤◌, ℕ, ◌+ℤ◌, ◌≤ℤ�
 use Rattle.rules_base.specs.Tree.{Tree}
 use Rattle.rules_evaluation.specs.Contracts.{hash_in}
 use Rattle.rules_evaluation.specs.Operations.{transfer, origination}
-use Rattle.rules_forms.specs.Spelling.{implicit_place}
+use Rattle.rules_forms.specs.Spelling.{implicit_place, is_implicit, is_key_hash}
 use Rattle.rules_steps.specs.Changes.{identity_of}
 use Rattle.rules_types.specs.Kind.{Kind}
-use Rattle.rules_values.specs.ByteForms.{is_implicit, is_key_hash}
 use Rattle.rules_values.specs.Tickets.{Held, tickets}
 use Rattle.rules_values.specs.Val.{Val}
 use Rattle.rules_world.specs.Balances.{balance_or_none, moved}

@@ -2,10 +2,11 @@
 use Rattle.std.proofs.Common.{◌≡◌, ℕ, zero, suc, ◌+◌, ◌≤◌, nat_le, ◌&&◌, pos, negsuc, Bool, true, false, List, [], ◌∷◌, ◌++◌, take, drop, length, Option, Some, None, refl, sym, ap, ◌∙◌, subst, arith}
 use Rattle.std.specs.Prelude.{if◌then◌else◌, Result, Ok, Err}
 use Rattle.std.proofs.lemmas.Bool.{leb-true}
+use Rattle.rules_base.specs.Limits.{count_limit}
 use Rattle.rules_base.specs.Tree.{Tree, int, str, bytes, prim, seq, Trees, none, more, size, sizes}
 use Rattle.rules_base.specs.Primitives.{primitive_of_name}
 use Rattle.rules_types.specs.Kind.{Kind}
-use Rattle.rules_instructions.specs.Arguments.{Found, found, fault, count_argument, count_limit}
+use Rattle.rules_instructions.specs.Arguments.{Found, found, fault, count_argument}
 use Rattle.rules_instructions.specs.Control.{dip_of}
 use Rattle.rules_instructions.specs.Context.{Context}
 use Rattle.rules_instructions.specs.Forms as f

@@ -1,11 +1,12 @@
 -- LAMBDA and LAMBDA_REC.
 use Rattle.std.proofs.Common.{◌≡◌, ℕ, ◌+◌, nat_le, Bool, true, false, List, [], ◌∷◌, Option, Some, None, refl, sym, ap, ◌∙◌, subst, arith}
 use Rattle.std.specs.Prelude.{if◌then◌else◌, Result, Ok, Err}
+use Rattle.rules_base.specs.Limits.{type_limit}
 use Rattle.rules_base.specs.Tree.{Tree, seq, Trees, none, more, prim, size}
 use Rattle.rules_base.specs.Primitives.{primitive_of_name}
 use Rattle.rules_base.specs.declared.Primitive.{Primitive}
 use Rattle.rules_types.specs.Kind.{Kind, nodes, lambda}
-use Rattle.rules_types.specs.Reading.{any_kind, type_limit}
+use Rattle.rules_types.specs.Reading.{any_kind}
 use Rattle.rules_instructions.specs.Arguments.{Found, found, fault, and_then, type_argument}
 use Rattle.rules_instructions.specs.Control.{Arrow, lambda_of, call_kinds}
 use Rattle.rules_instructions.specs.Context.{Context}

@@ -1,11 +1,11 @@
 -- SELF.
 use Rattle.std.proofs.Common.{◌≡◌, ℕ, ◌+◌, Bool, true, false, List, [], ◌∷◌, Option, Some, None, refl, sym, ap, ◌∙◌, subst, arith}
 use Rattle.std.specs.Prelude.{if◌then◌else◌, nat_le, Err}
+use Rattle.rules_base.specs.Limits.{type_limit}
 use Rattle.rules_base.specs.Tree.{Tree, prim, Trees, none, more}
 use Rattle.rules_base.specs.Primitives.{primitive_of_name}
 use Rattle.rules_forms.specs.Spelling.{default_name}
 use Rattle.rules_types.specs.Kind.{Kind, nodes, contract}
-use Rattle.rules_types.specs.Reading.{type_limit}
 use Rattle.rules_types.specs.Entrypoints.{Entry, find_entry}
 use Rattle.rules_instructions.specs.Arguments.{Found, found, fault, and_then, no_argument, annotated}
 use Rattle.rules_instructions.specs.Control.{self_of}

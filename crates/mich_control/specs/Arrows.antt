@@ -1,8 +1,9 @@
 -- What is read of LAMBDA, and what is made of it.
 use Rattle.std.specs.Prelude.{◌≡◌, ℕ, ◌+◌, nat_le, Bool, true, false, List, [], ◌∷◌, Result, Ok, Err}
+use Rattle.rules_base.specs.Limits.{type_limit}
 use Rattle.rules_base.specs.Tree.{Tree, none, more, size}
 use Rattle.rules_types.specs.Kind.{Kind, nodes, lambda}
-use Rattle.rules_types.specs.Reading.{any_kind, type_limit}
+use Rattle.rules_types.specs.Reading.{any_kind}
 use Rattle.rules_instructions.specs.Arguments.{Found, found, and_then, type_argument}
 use Rattle.rules_instructions.specs.Control.{Arrow, call_kinds}
 use Rattle.rules_typing.specs.Typing.{Typing, ends, made, shift}

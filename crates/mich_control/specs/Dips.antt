@@ -1,8 +1,9 @@
 -- What is read of DIP, and what is made of it.
 use Rattle.std.specs.Prelude.{◌≡◌, ℕ, ◌+◌, nat_le, true, false, List, [], ◌∷◌, take, drop, length, Option, Some, None, Result, Ok, Err}
+use Rattle.rules_base.specs.Limits.{count_limit}
 use Rattle.rules_base.specs.Tree.{Trees, none, more, size}
 use Rattle.rules_types.specs.Kind.{Kind}
-use Rattle.rules_instructions.specs.Arguments.{found, count_argument, count_limit}
+use Rattle.rules_instructions.specs.Arguments.{found, count_argument}
 use Rattle.rules_instructions.specs.Control.{dip_of}
 use Rattle.rules_typing.specs.Typing.{goes, shift, under}
 use Rattle.mich_base.specs.declared.node.Node.{Node}

@@ -6,7 +6,7 @@ use Rattle.std.specs.List.{AllByRecursion}
 use Rattle.rules_gas.specs.Prices.{nothing_listed}
 use Rattle.rules_base.specs.Tree.{Tree}
 use Rattle.rules_gas.specs.Tables.{table_of}
-use Rattle.rules_values.specs.ByteForms.{is_chain_id, is_key_hash}
+use Rattle.rules_forms.specs.Spelling.{is_chain_id, is_key_hash}
 use Rattle.rules_world.specs.Balances.{Grant, Granted, Repeated, TooMuch, granted_to}
 use Rattle.rules_world.specs.Contents.{Content}
 use Rattle.rules_world.specs.Forms.{is_moment}

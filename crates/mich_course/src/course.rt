@@ -7,7 +7,7 @@ ghost use Rattle.rules_gas.specs.Tables.{is_table};
 ghost use Rattle.rules_statements.specs.Statements.{Group as PlainGroup};
 ghost use Rattle.rules_world.specs.Balances.{granted_to};
 ghost use Rattle.rules_world.specs.Forms.{is_moment};
-ghost use Rattle.rules_values.specs.ByteForms.{is_key_hash};
+ghost use Rattle.rules_forms.specs.Spelling.{is_key_hash};
 ghost use Rattle.mich_base.specs.View.{tree};
 ghost use Rattle.mich_ops.specs.View.{contents as contents_of};
 ghost use Rattle.mich_course.specs.Following.{Follows, Goes};

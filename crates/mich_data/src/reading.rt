@@ -5,7 +5,7 @@ ghost use Rattle.rules_base.specs.Tree.{size, sizes};
 ghost use Rattle.rules_types.specs.Kind as k;
 ghost use Rattle.rules_values.specs.Literals.{is_behind, mapped, parts_of, read, read_binding, read_body, read_contract, read_elements, read_entries, read_entry, read_increasing, read_lambda, read_list, read_option, read_or, read_parts, read_rest, read_set, read_simple, read_table, with_pending};
 ghost use Rattle.rules_values.specs.Val.{big_table, list, set, table};
-ghost use Rattle.rules_values.specs.ByteForms.{is_address};
+ghost use Rattle.rules_forms.specs.Spelling.{is_address};
 ghost use Rattle.mich_base.specs.View.{tree, trees};
 ghost use Rattle.mich_forms.specs.Spelled.{address_bytes};
 ghost use Rattle.mich_base.specs.TypeView.{kind};

@@ -120,7 +120,7 @@ fn text_value(alloc: Global, node: &Node) -> Result<Option<Value>, Memory>
 }
 
 // Whether these bytes are a literal of a type whose literals are bytes.
-#[tactic(auto, using(laws_values::proofs::Tests::key, laws_values::proofs::Tests::key_hash, crate::proofs::Spellings::address_told))]
+#[tactic(auto, using(crate::proofs::Spellings::address_told))]
 fn passes(simple: Simple, bytes: &[u8]) -> bool
     ensures { result ≡ byte_test simple bytes.now }
 {

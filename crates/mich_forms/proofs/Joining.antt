@@ -1,23 +1,19 @@
 -- Lists put together and taken apart.
-use Rattle.std.proofs.Common.{◌≡◌, ◌≤◌, ◌+◌, ◌-◌, ℕ, List, [], ◌∷◌, ◌++◌, length, take, drop, replicate, slice_index, arith, refl, inl, inr, length-append, drop-cons}
+use Rattle.std.proofs.Common.{◌≡◌, ◌≤◌, ◌+◌, ◌-◌, ℕ, true, List, [], ◌∷◌, ◌++◌, length, take, drop, replicate, slice_index, arith, refl, length-append, drop-cons}
 use Rattle.std.proofs.lemmas.List.{take-append-drop, length-replicate, drop-replicate, append_assoc, drop_all, take_at, drop_at}
-use Rattle.rules_forms.specs.Spelling.{IsPlace, IsWrittenEntrypoint, IsAddress}
+use Rattle.rules_forms.specs.Spelling.{IsPlace, IsAddress, is_place, is_written_entrypoint}
+use Rattle.laws_forms.proofs.Places.{place_length}
 use Rattle.mich_forms.specs.Padded.{IsPadded}
+use Rattle.std.specs.Cmp.Derive.{both_true}
 use borrow.Rule.Slice.PartMut.{put_mid}
 
--- a place has 22 bytes
-pub IsPlace-length : (place : List ℕ) → IsPlace place → length place ≡ 22
-IsPlace-length [] h = elim h [ inl a ↦ absurd a | inr b ↦ absurd b ]
-IsPlace-length (kind ∷ []) h = elim h [ inl a ↦ absurd a.1 | inr b ↦ omega (arith, b.1) ]
-IsPlace-length (kind ∷ tag ∷ hash) h = elim h [ inl a ↦ omega (arith, a.1.1) | inr b ↦ omega (arith, b.1) ]
-
 -- the bytes of an address, of its parts
-pub joined_parts : (place written : List ℕ) → IsPlace place → IsWrittenEntrypoint written → IsAddress (place ++ written)
+pub joined_parts : (place written : List ℕ) → IsPlace place → is_written_entrypoint written ≡ true → IsAddress (place ++ written)
 joined_parts place written p w =
-    let len : length place ≡ 22 = IsPlace-length place p in
+    let len : length place ≡ 22 = place_length place p in
     let front : take 22 (place ++ written) ≡ place = take_at place written 22 len in
     let back : drop 22 (place ++ written) ≡ written = drop_at place written 22 len in
-    (rw front p, rw back w)
+    both_true {s = is_place (take 22 (place ++ written))} {t = is_written_entrypoint (drop 22 (place ++ written))} (rw front p) (rw back w)
 
 -- 20 bytes and a 0
 pub zero_ended : (bytes : List ℕ) → length bytes ≡ 21 → slice_index bytes 20 ≡ 0 → take 20 bytes ++ 0 ∷ [] ≡ bytes
@@ -51,8 +47,8 @@ padded_is room bytes len at fits = (
 
 -- an address taken apart
 pub split_address : (bytes place written p w : List ℕ) → place ≡ take 22 bytes → written ≡ drop 22 bytes
-    → IsPlace place → IsWrittenEntrypoint written → p ≡ place → w ≡ written → IsAddress bytes × (p ++ w ≡ bytes)
-split_address bytes place written p w front back is_place is_written same_place same_written = (
-  (rw (← front) is_place, rw (← back) is_written),
+    → IsPlace place → is_written_entrypoint written ≡ true → p ≡ place → w ≡ written → IsAddress bytes × (p ++ w ≡ bytes)
+split_address bytes place written p w front back a_place is_written same_place same_written = (
+  both_true {s = is_place (take 22 bytes)} {t = is_written_entrypoint (drop 22 bytes)} (rw (← front) a_place) (rw (← back) is_written),
   rw (same_place, same_written, front, back) (take-append-drop 22 bytes),
 )

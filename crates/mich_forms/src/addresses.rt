@@ -1,7 +1,7 @@
 // Addresses: a place and an entrypoint.
-ghost use Rattle.std.specs.Prelude.{◌≡◌, option_map};
+ghost use Rattle.std.specs.Prelude.{◌≡◌, option_map, true};
 ghost use Rattle.std.specs.Option.{IfSome, SomeIff};
-ghost use Rattle.rules_forms.specs.Spelling.{IsAddress, IsEntrypoint, IsPlace, IsWrittenEntrypoint, entrypoint_of, place_of, written_entrypoint};
+ghost use Rattle.rules_forms.specs.Spelling.{IsAddress, IsEntrypoint, IsPlace, entrypoint_of, is_written_entrypoint, place_of, written_entrypoint};
 ghost use Rattle.mich_forms.specs.Spelled.{address_bytes, place_bytes};
 ghost use Rattle.mich_forms.specs.declared.addresses.Address.{Address};
 
@@ -18,7 +18,7 @@ pub struct Address {
 
 // The entrypoint that an address names by these bytes after its place.
 fn named_entrypoint(written: &[u8]) -> Option<Entrypoint>
-    ensures written { SomeIff (option_map written_entrypoint result) (IsWrittenEntrypoint written.now) written.now }
+    ensures written { SomeIff (option_map written_entrypoint result) (is_written_entrypoint written.now ≡ true) written.now }
     ensures name { IfSome result (λ e. IsEntrypoint e) }
 {
     if written.is_empty() {

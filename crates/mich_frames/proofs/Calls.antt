@@ -1,6 +1,7 @@
 -- EXEC and APPLY, FAILWITH and NEVER.
 use Rattle.std.proofs.Common.{◌≡◌, ◌<◌, ◌≤◌, ℕ, Bool, true, false, List, [], ◌∷◌, ◌++◌, Some, None, refl, sym, ap, ◌∙◌, arith}
 use Rattle.std.specs.Prelude.{nat_le}
+use Rattle.rules_base.specs.Limits.{applied_size, applied_depth}
 use Rattle.rules_base.specs.Tree.{Tree, prim, seq, Trees, none}
 use Rattle.rules_gas.specs.declared.Kind.TheVariants as g
 use Rattle.rules_types.specs.Kind.{Kind}
@@ -40,7 +41,7 @@ use Rattle.rules_instructions.specs.Control.{call_kinds}
 use Rattle.rules_values.specs.Weight.{weight}
 use Rattle.rules_evaluation.specs.Outcome.{charge}
 use Rattle.rules_evaluation.specs.Branches.{paid}
-use Rattle.rules_evaluation.specs.Calls.{call_values, applied, applied_size, applied_depth, shallow_enough, small_enough, within_bounds}
+use Rattle.rules_evaluation.specs.Calls.{call_values, applied, shallow_enough, small_enough, within_bounds}
 use Rattle.rules_evaluation.specs.Evaluation.{node}
 use Rattle.laws_evaluation.proofs.Levels.{eval_is}
 use Rattle.laws_types.proofs.SameKinds.{same_kind_refl, same_kinds_true}

@@ -1,6 +1,7 @@
 -- Blocks that open and end, what is under DIP, calls that end, and where a run begins and ends.
 use Rattle.std.proofs.Common.{◌≡◌, ◌<◌, ◌≤◌, ◌+◌, ℕ, suc, Bool, true, false, List, [], ◌∷◌, Option, Some, None, ◌++◌, refl, sym, ap, ◌∙◌, subst, arith}
 use Rattle.std.specs.Prelude.{nat_lt}
+use Rattle.rules_base.specs.Limits.{block_limit}
 use Rattle.rules_base.specs.Tree.{seq, Trees, none}
 use Rattle.rules_types.specs.Kind.{Kind}
 use Rattle.rules_instructions.specs.Context.{Context}
@@ -34,7 +35,7 @@ use Rattle.mich_frames.proofs.Fine.{over_rest, behind_rest, off_rest, back, call
 use Rattle.laws_code.proofs.Leading.{next_leads, leads_seq}
 use Rattle.laws_stock.proofs.Nodes.{node_sound}
 use Rattle.std.proofs.lemmas.Bool.{lt-ltb, ltb-true}
-use Rattle.rules_evaluation.specs.Outcome.{block_limit, opened}
+use Rattle.rules_evaluation.specs.Outcome.{opened}
 use Rattle.rules_evaluation.specs.Evaluation.{node, trees_run, eval}
 use Rattle.std.specs.Prelude.{◌^◌, ℤ}
 use Rattle.rules_values.specs.Tickets.{Identity}

@@ -1,5 +1,6 @@
 -- Instructions on contracts and operations.
 use Rattle.std.proofs.Common.{◌≡◌, ℕ, List, [], ◌∷◌, Some, None, refl, sym, ap, ◌∙◌, subst, Bool, true, false, ◌^◌}
+use Rattle.rules_base.specs.Limits.{operation_limit}
 use Rattle.rules_base.specs.Tree.{Tree, seq, Trees}
 use Rattle.rules_types.specs.Kind.{Kind}
 use Rattle.rules_types.specs.Kind as k
@@ -44,7 +45,7 @@ use Rattle.std.specs.Prelude.{option_map, pos, ◌<◌, ◌≤◌}
 use Rattle.rules_forms.specs.Spelling.{implicit_place}
 use Rattle.rules_evaluation.specs.Operations.{transfer, event}
 use Rattle.rules_evaluation.specs.Contracts.{contract_of}
-use Rattle.rules_evaluation.specs.Issuing.{operation_limit, with_operation}
+use Rattle.rules_evaluation.specs.Issuing.{with_operation}
 use Rattle.mich_frames.specs.Shapes.{HasTop, HasBytes, HasTransfer, HasViewing}
 use Rattle.mich_frames.specs.Rows.{IsPlace, placed}
 use Rattle.mich_frames.proofs.Creating.{issue_is, issue_over}

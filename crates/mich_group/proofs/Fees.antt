@@ -4,10 +4,8 @@ use Rattle.std.specs.Prelude.{IfOk, Result, Ok, Err, nat_lt, not, unwrap_or, ifâ
 use Rattle.std.specs.declared.option.Option.{Option}
 use Rattle.std.specs.List.{All, list_any, sum_by}
 use Rattle.std.proofs.lemmas.Bool.Decides.{nat_tests}
-use Rattle.rules_forms.specs.Spelling.{implicit_place}
+use Rattle.rules_forms.specs.Spelling.{implicit_place, is_implicit, is_key_hash, is_place}
 use Rattle.rules_gas.specs.Prices.{Listed}
-use Rattle.rules_typing.specs.Fits.{is_place}
-use Rattle.rules_values.specs.ByteForms.{is_implicit, is_key_hash}
 use Rattle.rules_world.specs.Balances as rules
 use Rattle.rules_world.specs.Contents.{Content}
 use Rattle.rules_world.specs.Groups.{all_fees, is_over_gas, refusal_of, fees_taken, setting_of, settled_by, group, unless_refused, admitted, in_turn}

@@ -6,10 +6,11 @@ use Rattle.std.specs.Prelude.{◌||◌, ◌≤ℤ◌, ◌<ℤ◌}
 use Rattle.std.proofs.lemmas.Int.{ints}
 use Rattle.std.proofs.lemmas.List.Elements.{All-head, All-tail}
 use Rattle.std.proofs.lemmas.List.{append_assoc, append-nil, map-append, length-map, replicate-append-replicate}
+use Rattle.rules_base.specs.Limits.{most_gas}
 use Rattle.rules_world.specs.Contents.{Content}
 use Rattle.rules_world.specs.Forms.{IsContent}
 use Rattle.rules_gas.specs.Prices.{Listed}
-use Rattle.rules_world.specs.Groups.{setting_of, is_over_gas, most_gas, Turn, all_applied, one_failed, stuck_turn, behind_applied, with_tree, skipped, in_turn}
+use Rattle.rules_world.specs.Groups.{setting_of, is_over_gas, Turn, all_applied, one_failed, stuck_turn, behind_applied, with_tree, skipped, in_turn}
 use Rattle.rules_world.specs.Outcomes.{Setting, Waiting, ordered, Counts as PlainCounts}
 use Rattle.rules_world.specs.Receipts.{Status, Applied, Backtracked, Failed}
 use Rattle.rules_world.specs.Trees.{Walk, completed, broken_off, stuck_walk, tree}

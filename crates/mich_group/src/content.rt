@@ -1,6 +1,7 @@
 // One content.
 ghost use Rattle.std.specs.Prelude.{◌≡◌, ◌∷◌, [], ◌≤◌, pos, ◌≤ℤ◌, unsigned_abs, IfOk, OnOk, ℕ};
-ghost use Rattle.rules_world.specs.Groups.{setting_of, most_gas};
+ghost use Rattle.rules_base.specs.Limits.{most_gas};
+ghost use Rattle.rules_world.specs.Groups.{setting_of};
 ghost use Rattle.rules_world.specs.Outcomes.{ordered};
 ghost use Rattle.rules_world.specs.Trees.{tree};
 ghost use Rattle.rules_world.specs.World.{World as PlainWorld};

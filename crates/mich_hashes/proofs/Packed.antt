@@ -2,6 +2,7 @@
 use Rattle.std.proofs.Common.{◌≡◌, ℕ, ◌<◌, ◌≤◌, true, false, List, ◌∷◌, length, drop, sym, ap, ◌∙◌, subst, arith}
 use Rattle.std.specs.Prelude.{nat_le, if◌then◌else◌}
 use Rattle.std.proofs.lemmas.Bool.Decides.{nat_tests}
+use Rattle.rules_base.specs.Limits.{byte_limit}
 use Rattle.laws_packing.specs.Names.{IsPackable}
 use Rattle.laws_sights.specs.Sights.{is_plain}
 use Rattle.laws_sights.proofs.Parts.{plain_tells, plain_seen}
@@ -10,7 +11,6 @@ use Rattle.rules_steps.specs.Costs.{hash_weight}
 use Rattle.rules_steps.specs.Failure as why
 use Rattle.rules_steps.specs.Packing.{Trial, packed, hash_step}
 use Rattle.rules_steps.specs.Step.{kept, fails}
-use Rattle.rules_values.specs.Literals.{byte_limit}
 use Rattle.rules_values.specs.Val.{Val, Pairs, text, bytes}
 use Rattle.mich_term.specs.ValueView.{val, value_step}
 use Rattle.mich_term.specs.declared.value.Value.{Value, fold-roll-Value}

@@ -1,6 +1,7 @@
 -- What code is the typed code of a node in a context, from these types to those: each instruction is the rule that the node has
 -- there. What fails leads to any types (Michelson reference, "Instructions").
 use Rattle.std.specs.Prelude.{◌≡◌, ℕ, Bool, true, false, List, [], ◌∷◌, ◌++◌, length, take, drop, ◌≤◌, Some}
+use Rattle.rules_base.specs.Limits.{count_limit}
 use Rattle.rules_base.specs.Tree.{Tree, prim, seq, Trees, none, more}
 use Rattle.rules_base.specs.Primitives.{primitive_of_name}
 use Rattle.rules_types.specs.Kind.{Kind, operation, option, or, pair, list, lambda}
@@ -11,7 +12,7 @@ use Rattle.rules_instructions.specs.Types as t
 use Rattle.rules_instructions.specs.Straight.{Straight}
 use Rattle.rules_instructions.specs.Context.{Context, main}
 use Rattle.rules_instructions.specs.Context as place
-use Rattle.rules_instructions.specs.Arguments.{found, count_argument, count_limit}
+use Rattle.rules_instructions.specs.Arguments.{found, count_argument}
 use Rattle.rules_instructions.specs.Rules.{ruled, rule}
 use Rattle.rules_instructions.specs.Control.{Pushed, push_of, Arrow, lambda_of, call_kinds, self_of}
 use Rattle.rules_instructions.specs.Forms.{Form, form_of}

@@ -1,7 +1,8 @@
 -- Blocks that open.
 use Rattle.std.proofs.Common.{◌≡◌, ◌≤◌, ◌+◌, ℕ, List, ◌∷◌, ◌++◌, drop, Option, sym, subst}
+use Rattle.rules_base.specs.Limits.{block_limit}
 use Rattle.rules_types.specs.Kind.{Kind}
-use Rattle.rules_evaluation.specs.Outcome.{Outcome, failed, block_limit}
+use Rattle.rules_evaluation.specs.Outcome.{Outcome, failed}
 use Rattle.rules_steps.specs.Failure as f
 use Rattle.mich_gas.specs.declared.costs.Costs.{Costs}
 use Rattle.mich_instr.specs.View.{codes}

@@ -1,5 +1,6 @@
 -- Values that lambdas capture.
 use Rattle.std.proofs.Common.{◌≡◌, ◌<◌, ◌≤◌, ℕ, Bool, true, false, List, [], ◌∷◌, ap, sym, ◌∙◌}
+use Rattle.rules_base.specs.Limits.{applied_size, applied_depth}
 use Rattle.rules_base.specs.Tree.{Tree, int, str, bytes, prim, seq, Trees, none, size}
 use Rattle.rules_base.specs.Tree.{depth as levels}
 use Rattle.rules_gas.specs.declared.Kind.TheVariants as g
@@ -11,7 +12,7 @@ use Rattle.rules_values.specs.Val as v
 use Rattle.rules_values.specs.Weight.{weight}
 use Rattle.rules_steps.specs.Failure as f
 use Rattle.rules_typing.specs.Fits.{Fits}
-use Rattle.rules_evaluation.specs.Calls.{applied, applied_size, applied_depth, within_bounds}
+use Rattle.rules_evaluation.specs.Calls.{applied, within_bounds}
 use Rattle.rules_evaluation.specs.Operations.{Tally}
 use Rattle.rules_evaluation.specs.Outcome.{Outcome, stack, failed, after, only_if, charge}
 use Rattle.laws_evaluation.specs.Laws.{known}

@@ -1,6 +1,7 @@
 -- Originations by scripts.
 use Rattle.std.proofs.Common.{◌≡◌, ◌≤◌, ◌<◌, ◌+◌, ℕ, suc, List, [], ◌∷◌, Option, Some, None, refl, subst}
 use Rattle.std.specs.Prelude.{pos}
+use Rattle.rules_base.specs.Limits.{operation_limit}
 use Rattle.rules_base.specs.Tree.{Tree}
 use Rattle.rules_gas.specs.declared.Kind.TheVariants as g
 use Rattle.rules_types.specs.Kind.{Kind}
@@ -8,7 +9,7 @@ use Rattle.rules_values.specs.Val.{Val}
 use Rattle.rules_values.specs.Val as v
 use Rattle.rules_forms.specs.Spelling.{contract_place}
 use Rattle.rules_steps.specs.Failure as f
-use Rattle.rules_evaluation.specs.Issuing.{operation_limit, with_operation, with_origination}
+use Rattle.rules_evaluation.specs.Issuing.{with_operation, with_origination}
 use Rattle.rules_evaluation.specs.Operations.{Tally, new_contract}
 use Rattle.rules_evaluation.specs.Outcome.{Outcome, failed}
 use Rattle.mich_instr.specs.Code.{Code, ScriptCode}

@@ -6,9 +6,10 @@ use Rattle.rules_gas.specs.Prices.{cost}
 use Rattle.rules_types.specs.Kind.{Kind}
 use Rattle.rules_values.specs.Val.{Val, number, bytes, operation}
 use Rattle.std.specs.Prelude.{pos, MatchOption}
+use Rattle.rules_base.specs.Limits.{operation_limit}
 use Rattle.rules_evaluation.specs.Operations.{Operation}
 use Rattle.rules_evaluation.specs.Operations as rules
-use Rattle.rules_evaluation.specs.Issuing.{operation_limit, with_operation}
+use Rattle.rules_evaluation.specs.Issuing.{with_operation}
 use Rattle.rules_evaluation.specs.Outcome.{Outcome}
 use Rattle.mich_gas.specs.declared.costs.Costs.{Costs}
 use Rattle.mich_gas.specs.View.{listed}

@@ -2,10 +2,9 @@
 use Rattle.std.proofs.Common.{◌≡◌, ℕ, Bool, true, false, List, Some, None, length, refl, sym, ap, ◌∙◌}
 use Rattle.std.specs.Prelude.{option_and_then, option_map}
 use Rattle.std.specs.declared.option.Option.{Option}
-use Rattle.rules_forms.specs.Spelling.{IsPlace, contract_place, entrypoint_of, spelled_address}
+use Rattle.rules_forms.specs.Spelling.{IsPlace, contract_place, entrypoint_of, spelled_address, is_entrypoint}
 use Rattle.rules_types.specs.Kind.{Kind}
 use Rattle.rules_types.specs.Entrypoints.{find_entry}
-use Rattle.rules_values.specs.ByteForms.{is_entrypoint}
 use Rattle.rules_evaluation.specs.Contracts.{Lookup, address_where, chosen_entrypoint, contract_named, contract_of, entry_in, has_kind, hash_in, takes}
 use Rattle.rules_evaluation.specs.Surroundings.{Contract as PlainContract}
 use Rattle.laws_stacks.proofs.Addresses.{name_back, place_back}

@@ -2,6 +2,7 @@
 use Rattle.std.proofs.Common.{◌≡◌, ◌<◌, ◌≤◌, ◌^◌, ℕ, true, false, List, [], ◌∷◌, Option, Some, None, length, refl, sym, ap, ◌∙◌, subst, arith}
 use Rattle.std.specs.Prelude.{IfSome, option_map}
 use Rattle.std.proofs.lemmas.Bool.{leb-true}
+use Rattle.rules_base.specs.Limits.{byte_limit}
 use Rattle.rules_base.specs.Tree.{Tree}
 use Rattle.rules_gas.specs.declared.Kind.TheVariants as g
 use Rattle.rules_gas.specs.Prices.{cost}
@@ -12,7 +13,7 @@ use Rattle.rules_instructions.specs.Change.{Change}
 use Rattle.rules_instructions.specs.OtherChanges.{hash_change}
 use Rattle.rules_instructions.specs.Straight.{on_hashes}
 use Rattle.rules_instructions.specs.Straight as i
-use Rattle.rules_values.specs.Literals.{byte_limit, is_short}
+use Rattle.rules_values.specs.Literals.{is_short}
 use Rattle.rules_values.specs.Val.{Val, bytes}
 use Rattle.rules_typing.specs.Fits.{Known, AllFit}
 use Rattle.rules_steps.specs.Costs.{hash_weight}

@@ -11,9 +11,8 @@ use Rattle.rules_types.specs.Kind.{Kind}
 use Rattle.rules_types.specs.Kind as k
 use Rattle.rules_instructions.specs.Context as place
 use Rattle.rules_instructions.specs.Same.{same_kind}
-use Rattle.rules_forms.specs.Spelling.{IsPlace, contract_place, implicit_place, spelled_address}
+use Rattle.rules_forms.specs.Spelling.{IsPlace, contract_place, implicit_place, spelled_address, is_key_hash}
 use Rattle.rules_typing.specs.Scripts.{Outline, TypedView}
-use Rattle.rules_values.specs.ByteForms.{is_key_hash}
 use Rattle.rules_values.specs.Val.{Val}
 use Rattle.rules_evaluation.specs.Contracts.{Lookup, Viewed, contract_in, hash_in, outline_in, view_named, viewed, viewed_of, viewed_with}
 use Rattle.rules_evaluation.specs.Surroundings.{Contract as PlainContract}

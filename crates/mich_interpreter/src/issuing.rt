@@ -1,11 +1,11 @@
 // TRANSFER_TOKENS, EMIT, CONTRACT and VIEW.
 ghost use Rattle.std.specs.Prelude.{false, ◌≡◌, ◌≤◌, ◌<◌, ◌+◌, ◌∷◌, pos, MatchOption, IfSome, IfOk, option_map};
+ghost use Rattle.rules_base.specs.Limits.{operation_limit};
 ghost use Rattle.rules_base.specs.Tree.{Tree};
 ghost use Rattle.rules_values.specs.Val.{number, bytes};
 ghost use Rattle.rules_instructions.specs.Straight.{on_operations};
 ghost use Rattle.rules_instructions.specs.Straight as i;
 ghost use Rattle.rules_steps.specs.Step.{optional};
-ghost use Rattle.rules_evaluation.specs.Issuing.{operation_limit};
 ghost use Rattle.mich_base.specs.TypeView.{kind};
 ghost use Rattle.mich_forms.specs.Spelled.{address_bytes};
 ghost use Rattle.mich_instr.specs.Code as made;

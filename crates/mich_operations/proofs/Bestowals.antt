@@ -5,13 +5,12 @@ use Rattle.std.specs.declared.option.Option.{Option}
 use Rattle.std.proofs.lemmas.List.Elements.{All-head}
 use Rattle.rules_base.specs.Tree.{Tree, size}
 use Rattle.rules_evaluation.specs.Contracts.{hash_in}
-use Rattle.rules_forms.specs.Spelling.{contract_place, implicit_place}
+use Rattle.rules_forms.specs.Spelling.{contract_place, implicit_place, is_contract, is_implicit}
 use Rattle.rules_gas.specs.Prices.{Listed}
 use Rattle.rules_instructions.specs.Same.{same_kind}
 use Rattle.rules_steps.specs.Changes.{amount_of}
 use Rattle.rules_steps.specs.Failure.{Failure, bad_parameter, no_contract, no_entrypoint, ticket_short}
 use Rattle.rules_types.specs.Kind as k
-use Rattle.rules_values.specs.ByteForms.{is_contract, is_implicit}
 use Rattle.rules_values.specs.Forms.{is_ticket_amount}
 use Rattle.rules_values.specs.Tickets.{Held}
 use Rattle.rules_values.specs.Val.{Val}

@@ -1,17 +1,16 @@
 -- Calls of contracts that a source orders.
 use Rattle.std.proofs.Common.{◌≡◌, ◌≤◌, ◌<◌, ◌^◌, ℕ, pos, true, List, Err, Result, refl, sym, ap, ◌∙◌, subst, is_some}
 use Rattle.std.proofs.lemmas.List.Elements.{All-head}
+use Rattle.rules_base.specs.Limits.{most_mutez}
 use Rattle.rules_base.specs.Tree.{Tree, size}
 use Rattle.rules_evaluation.specs.Contracts.{hash_in}
-use Rattle.rules_forms.specs.Spelling.{contract_place}
+use Rattle.rules_forms.specs.Spelling.{contract_place, is_implicit}
 use Rattle.rules_instructions.specs.Arguments.{Found, found}
 use Rattle.rules_steps.specs.Changes.{amount_among}
 use Rattle.rules_steps.specs.Failure.{Failure, no_contract, no_entrypoint, bad_parameter}
-use Rattle.rules_values.specs.ByteForms.{is_implicit}
 use Rattle.rules_values.specs.Val.{Val}
 use Rattle.rules_world.specs.Application.{ordered_transaction}
 use Rattle.rules_world.specs.Arguments.{node, literal_in}
-use Rattle.rules_world.specs.Balances.{most_mutez}
 use Rattle.rules_world.specs.Contents.{Call}
 use Rattle.rules_world.specs.Forms.{AreDestination, IsSmall}
 use Rattle.rules_world.specs.Good.{IsGoodWaiting}

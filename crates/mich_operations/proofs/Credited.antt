@@ -9,10 +9,9 @@ use Rattle.std.specs.declared.cmp.Ordering.{Ordering}
 use Rattle.std.specs.declared.cmp.Ordering.TheVariants.{Less, Equal, Greater}
 use Rattle.std.specs.declared.option.Option.{Option}
 use Rattle.std.proofs.lemmas.List.Elements.{All-head}
-use Rattle.rules_forms.specs.Spelling.{implicit_place, spelled_address}
+use Rattle.rules_forms.specs.Spelling.{implicit_place, spelled_address, is_key_hash}
 use Rattle.rules_steps.specs.Changes.{amount_of}
 use Rattle.rules_steps.specs.Failure.{Failure, empty_transaction, balance_too_low}
-use Rattle.rules_values.specs.ByteForms.{is_key_hash}
 use Rattle.rules_values.specs.Canonical.{canonical}
 use Rattle.rules_values.specs.Val.{Val, Pairs}
 use Rattle.rules_world.specs.Arguments.{Argument}

@@ -13,12 +13,12 @@ use Rattle.rules_world.specs.Targets.{Target, met, with_entry, in_script, in_con
 use Rattle.rules_world.specs.World.{World, contract_at}
 use Rattle.laws_runs.proofs.Scripts.{entry_of_script}
 use Rattle.laws_runs.proofs.Worlds.{IsOrderly, contract_stores}
-use Rattle.mich_forms.proofs.Joining.{IsPlace-length}
+use Rattle.laws_forms.proofs.Places.{place_length}
 use Rattle.mich_forms.proofs.OneSpelling.{entrypoint_of-spelled}
 
 module _ (place name : List ℕ) (is_place : IsPlace place) (is_name : IsEntrypoint name) where
   pub place_is : place_of (spelled_address place name) ≡ place
-  place_is = take_at place (written_entrypoint name) 22 (IsPlace-length place is_place)
+  place_is = take_at place (written_entrypoint name) 22 (place_length place is_place)
 
   pub name_is : entrypoint_of (spelled_address place name) ≡ name
   name_is = sym (entrypoint_of-spelled place name is_place is_name)

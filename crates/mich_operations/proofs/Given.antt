@@ -4,12 +4,10 @@ use Rattle.std.specs.Prelude.{if◌then◌else◌, int_lt, neg_ℤ}
 use Rattle.std.specs.List.{AllByRecursion}
 use Rattle.std.specs.Str.{bytes_eq}
 use Rattle.std.proofs.lemmas.Int.{ints}
-use Rattle.rules_forms.specs.Spelling.{default_name, implicit_place}
+use Rattle.rules_forms.specs.Spelling.{default_name, implicit_place, is_key_hash, is_place}
 use Rattle.rules_gas.specs.Prices.{Listed}
 use Rattle.rules_steps.specs.Changes.{amount_of, identity_of}
 use Rattle.rules_steps.specs.Failure.{no_entrypoint, ticket_short}
-use Rattle.rules_typing.specs.Fits.{is_place}
-use Rattle.rules_values.specs.ByteForms.{is_key_hash}
 use Rattle.rules_values.specs.Tickets.{Held}
 use Rattle.rules_world.specs.Gives.{as_value, give_account, give_effect, given_to_account, is_short}
 use Rattle.rules_world.specs.Good.{MayRun}
@@ -33,7 +31,7 @@ use Rattle.mich_ops.specs.View.{effect as effect_of}
 use Rattle.mich_ops.specs.declared.failure.Failure.TheVariants as failures
 use Rattle.mich_standing.proofs.Agreement.{credits_agree, debits_agree}
 use Rattle.mich_standing.proofs.Opening.{credits_make_accounts}
-use Rattle.mich_standing.proofs.Owners.{account_is_place}
+use Rattle.laws_forms.proofs.Places.{implicit_is}
 use Rattle.mich_term.specs.TicketView.{held, identity}
 use Rattle.mich_term.specs.declared.ticket.Ticket.{Ticket}
 use Rattle.mich_term.specs.declared.ticket.TicketId.{TicketId}
@@ -76,7 +74,7 @@ module _ (v : World) (w : PlainWorld) (who : List ℕ) (id : TicketId) (n : ℤ)
   positive = ticket_positive t given.ticket.1
 
   source_place : is_place (implicit_place who) ≡ true
-  source_place = account_is_place who given.key
+  source_place = implicit_is who given.key
 
   held_here : held_of v.ledger.books.present (identity id) (implicit_place who) ≡ held_by w (identity_of t) (implicit_place who)
   held_here = given.stands.those.held (identity id) (implicit_place who) source_place

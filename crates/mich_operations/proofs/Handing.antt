@@ -3,21 +3,19 @@ use Rattle.std.proofs.Common.{◌≡◌, ◌≤◌, ◌<◌, ◌^◌, ◌||◌, 
 use Rattle.std.specs.Prelude.{if◌then◌else◌, int_lt}
 use Rattle.std.specs.declared.option.Option.{Option}
 use Rattle.std.proofs.lemmas.Int.{ints}
+use Rattle.rules_base.specs.Limits.{most_mutez}
 use Rattle.rules_base.specs.Tree.{size}
-use Rattle.rules_forms.specs.Spelling.{implicit_place}
+use Rattle.rules_forms.specs.Spelling.{implicit_place, is_contract, is_implicit, is_key_hash, is_place}
 use Rattle.rules_instructions.specs.Same.{same_kind}
 use Rattle.rules_steps.specs.Changes.{amount_of, amount_in, identity_of}
 use Rattle.rules_types.specs.Attributes.{comparable}
 use Rattle.rules_types.specs.Kind.{Kind}
 use Rattle.rules_types.specs.Kind as k
 use Rattle.rules_types.specs.Reading.{Reading, a_type, bad_type, too_large, type_at}
-use Rattle.rules_typing.specs.Fits.{is_place}
-use Rattle.rules_values.specs.ByteForms.{is_contract, is_implicit, is_key_hash}
 use Rattle.rules_values.specs.Forms.{is_ticket_amount}
 use Rattle.rules_values.specs.Literals.{Literal, good, bad, read}
 use Rattle.rules_values.specs.Tickets.{Held}
 use Rattle.rules_values.specs.Val.{Val}
-use Rattle.rules_world.specs.Balances.{most_mutez}
 use Rattle.rules_world.specs.Contents.{Action}
 use Rattle.rules_world.specs.Forms.{IsTicket}
 use Rattle.rules_world.specs.Gives.{Offer, as_value, offered, ticket_by, ticket_with}

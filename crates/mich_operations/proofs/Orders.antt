@@ -1,6 +1,7 @@
 -- Contracts that a source makes.
 use Rattle.std.proofs.Common.{◌≡◌, ◌≤◌, ◌<◌, ◌+◌, ◌^◌, ℕ, List, false, is_some, refl, sym, ap, ◌∙◌, subst, arith, Ok, Err, Result}
 use Rattle.std.proofs.lemmas.List.Elements.{All-head}
+use Rattle.rules_base.specs.Limits.{most_mutez}
 use Rattle.rules_base.specs.Tree.{Tree, size}
 use Rattle.rules_evaluation.specs.Operations.{new_contract}
 use Rattle.rules_instructions.specs.Arguments.{Found, found, fault}
@@ -12,7 +13,6 @@ use Rattle.rules_types.specs.Kind.{Kind}
 use Rattle.rules_values.specs.Tickets.{tickets}
 use Rattle.rules_values.specs.Val.{Val}
 use Rattle.rules_world.specs.Arguments.{literal_in}
-use Rattle.rules_world.specs.Balances.{most_mutez}
 use Rattle.rules_world.specs.Contents.{Originate}
 use Rattle.rules_world.specs.Forms.{IsSmall}
 use Rattle.rules_world.specs.Good.{IsGoodWaiting}
@@ -39,7 +39,7 @@ use Rattle.mich_interpreter.specs.declared.state.Counts.{Counts}
 use Rattle.mich_machine.specs.Calls.{counts_of}
 use Rattle.mich_ops.specs.declared.failure.Failure.TheVariants as failures
 use Rattle.mich_standing.proofs.Agreement.{contracts_agree}
-use Rattle.mich_standing.proofs.Owners.{account_is_place}
+use Rattle.laws_forms.proofs.Places.{implicit_is}
 use Rattle.mich_term.specs.Layers.{AreFormed}
 use Rattle.mich_term.specs.ValueView.{val}
 use Rattle.mich_term.specs.declared.value.Value.{Value}
@@ -103,7 +103,7 @@ module _ (v : World) (w : PlainWorld) (s : Setting) (balance : ℕ) (t u : Tree)
   source_pays = record {
     stands = b.stands;
     form = b.next.going.good.sound.form;
-    payer = account_is_place s.source b.next.setting.source;
+    payer = implicit_is s.source b.next.setting.source;
   }
 
   -- its storage holds no ticket

@@ -5,7 +5,7 @@ use Rattle.std.specs.declared.option.Option.{Option}
 use Rattle.std.specs.List.{AllByRecursion}
 use Rattle.std.specs.Str.{bytes_eq}
 use Rattle.std.proofs.lemmas.Bool.Decides.{nat_tests}
-use Rattle.rules_forms.specs.Spelling.{default_name, spelled_address, implicit_place}
+use Rattle.rules_forms.specs.Spelling.{default_name, spelled_address, implicit_place, is_implicit, is_key_hash, is_place}
 use Rattle.rules_gas.specs.declared.Kind.{Kind}
 use Rattle.rules_gas.specs.Prices.{Listed, cost}
 use Rattle.rules_steps.specs.Failure.{Failure, out_of_gas, empty_transaction, balance_too_low, no_entrypoint}
@@ -13,8 +13,6 @@ use Rattle.rules_values.specs.Canonical.{canonical}
 use Rattle.rules_values.specs.Val.{Val, Pairs, unit}
 use Rattle.rules_base.specs.Tree.{Tree}
 use Rattle.rules_types.specs.declared.Simple.TheVariants as simple
-use Rattle.rules_typing.specs.Fits.{is_place}
-use Rattle.rules_values.specs.ByteForms.{is_implicit, is_key_hash}
 use Rattle.rules_values.specs.Literals.{simple_value}
 use Rattle.rules_world.specs.Application.{ordered_transaction}
 use Rattle.rules_world.specs.Arguments.{Argument, node}

@@ -5,12 +5,11 @@ use Rattle.std.specs.declared.option.Option.{Option}
 use Rattle.std.specs.List.{AllByRecursion}
 use Rattle.std.proofs.lemmas.Bool.Decides.{nat_tests}
 use Rattle.rules_evaluation.specs.Surroundings.{Contract as PlainContract}
-use Rattle.rules_forms.specs.Spelling.{contract_place, spelled_address}
+use Rattle.rules_forms.specs.Spelling.{contract_place, spelled_address, is_place}
 use Rattle.rules_gas.specs.Prices.{Listed}
 use Rattle.rules_steps.specs.Changes.{Change as PlainChange}
 use Rattle.rules_steps.specs.Environment.{Environment}
 use Rattle.rules_steps.specs.Failure.{balance_too_low}
-use Rattle.rules_typing.specs.Fits.{is_place}
 use Rattle.rules_values.specs.Canonical.{canonical}
 use Rattle.rules_values.specs.Val.{Val}
 use Rattle.rules_world.specs.Arguments.{Argument, value}
@@ -49,7 +48,7 @@ use Rattle.mich_ops.specs.declared.failure.Failure.{Failure as Why}
 use Rattle.mich_ops.specs.declared.receipt.Effect.TheVariants as effects
 use Rattle.mich_standing.proofs.Agreement.{contracts_agree}
 use Rattle.mich_standing.proofs.Contracts.{length_is}
-use Rattle.mich_standing.proofs.Owners.{contract_is_place}
+use Rattle.laws_forms.proofs.Places.{contract_is}
 use Rattle.mich_step.specs.Views.{environment}
 use Rattle.mich_step.specs.declared.environment.Env.{Env}
 use Rattle.mich_term.specs.declared.ticket.Change.{Change}
@@ -104,7 +103,7 @@ surrounds v w prices group source from to amount t x chain level now balance s h
   own = sym hash i;
   amount = amount;
   balance = (is_balance
-      ∙ balance_or_none_is v.funds.present v.store.bases.present v.ledger.books.present w (place.Contract to) s.those (contract_is_place to twenty)
+      ∙ balance_or_none_is v.funds.present v.store.bases.present v.ledger.books.present w (place.Contract to) s.those (contract_is to twenty)
       ∙ ap (λ (h : List ℕ). balance_or_none w (contract_place h)) (sym hash)) i;
 })
 
@@ -233,7 +232,7 @@ module _ (v : World) (w : PlainWorld) (s : Setting) (counts : PlainCounts) (from
   balance_here = balance_or_none_is v.funds.present bs v.ledger.books.present w from due.stands.those due.sender
 
   receiver : is_place (contract_place to) ≡ true
-  receiver = contract_is_place to (twenty_of v w to due.stands due.form due.there)
+  receiver = contract_is to (twenty_of v w to due.stands due.form due.there)
 
   module _ (payer : may_receive v.funds.present from ≡ true) (enough : amount ≤ balance_in v.funds.present from) (z : World) (same : z ≡ with_funds v z.funds)
       (moves : z.funds.present ≡ moved_in v.funds.present from (place.Contract to) amount) where

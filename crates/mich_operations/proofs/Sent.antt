@@ -7,13 +7,11 @@ use Rattle.std.proofs.lemmas.Bool.Decides.{nat_tests}
 use Rattle.std.proofs.lemmas.List.Elements.{All-head}
 use Rattle.rules_evaluation.specs.Contracts.{hash_in, takes}
 use Rattle.rules_evaluation.specs.Operations.{transfer}
-use Rattle.rules_forms.specs.Spelling.{IsPlace, IsKeyHash, IsEntrypoint, contract_place, default_name, implicit_place, spelled_address, place_of, entrypoint_of}
+use Rattle.rules_forms.specs.Spelling.{IsPlace, IsKeyHash, IsEntrypoint, contract_place, default_name, implicit_place, spelled_address, place_of, entrypoint_of, is_implicit, is_key_hash, is_place}
 use Rattle.rules_instructions.specs.Arguments.{found}
 use Rattle.rules_steps.specs.Changes.{amount_in}
 use Rattle.rules_steps.specs.Failure.{no_entrypoint}
 use Rattle.rules_types.specs.Kind.{Kind}
-use Rattle.rules_typing.specs.Fits.{is_place}
-use Rattle.rules_values.specs.ByteForms.{is_implicit, is_key_hash}
 use Rattle.rules_values.specs.Tickets.{Held}
 use Rattle.rules_values.specs.Val.{Val}
 use Rattle.rules_world.specs.Application.{issued_transaction}
@@ -31,12 +29,13 @@ use Rattle.laws_world.proofs.Taken.{taken_transfer}
 use Rattle.mich_bigmap.specs.Standing.{val_in}
 use Rattle.mich_conditions.proofs.Waiting.{transfers_may_run}
 use Rattle.mich_forms.specs.Spelled.{place_bytes}
-use Rattle.mich_forms.proofs.Joining.{IsPlace-length}
+use Rattle.laws_forms.proofs.Places.{place_length}
 use Rattle.mich_forms.specs.declared.places.Place.{Place}
 use Rattle.mich_forms.specs.declared.places.Place.TheVariants as place
 use Rattle.mich_interpreter.specs.declared.state.Counts.{Counts}
 use Rattle.mich_machine.specs.Calls.{counts_of}
-use Rattle.mich_standing.proofs.Owners.{account_is_place, hash_of, implicit_of}
+use Rattle.laws_forms.proofs.Places.{implicit_is}
+use Rattle.mich_standing.proofs.Owners.{hash_of, implicit_of}
 use Rattle.mich_term.specs.TicketView.{held}
 use Rattle.mich_term.specs.declared.ticket.Ticket.{Ticket}
 use Rattle.mich_term.specs.declared.value.Value.{Value}
@@ -83,17 +82,10 @@ no_held (Some t) h = absurd cc
 pub no_ticket : (x : Val) {b : Bool} → b ≡ false → b ≡ is_some (as_ticket x) → as_ticket x ≡ None
 no_ticket x f e = no_held (as_ticket x) (sym e ∙ f)
 
-key_hash_so : (who : List ℕ) → IsKeyHash who → is_key_hash who ≡ true
-key_hash_so [] h = absurd h
-key_hash_so (tag ∷ hash) h = let low : tag ≤ 3 = h.0 in let long : length hash ≡ 20 = h.1 in grind (arith, nat_tests)
-
-account_so : (who : List ℕ) → IsPlace (implicit_place who) → is_place (implicit_place who) ≡ true
-account_so who h = elim h [ inl a ↦ account_is_place who (key_hash_so who a.1) | inr b ↦ let no : ◌≡◌ {A = ℕ} 0 1 = b.0 in let none : ⊥ = omega arith in absurd none ]
-
 -- ---- to a place
 
 twenty_so : (hash : List ℕ) → IsPlace (contract_place hash) → length hash ≡ 20
-twenty_so hash h = let long : length (contract_place hash) ≡ 22 = IsPlace-length (contract_place hash) h in omega (arith, long, length-append hash (0 ∷ []))
+twenty_so hash h = let long : length (contract_place hash) ≡ 22 = place_length (contract_place hash) h in omega (arith, long, length-append hash (0 ∷ []))
 
 module _ (v : World) (w : PlainWorld) (s : Setting) (by : List ℕ) (to : Place) (name : List ℕ) (amount : ℕ) (argument : Value) (counts : PlainCounts) (address : List ℕ)
     (spelled : spelled_address (place_bytes to) name ≡ address) (is_target : IsPlace (place_bytes to)) (is_name : IsEntrypoint name)
@@ -127,7 +119,7 @@ module _ (v : World) (w : PlainWorld) (s : Setting) (by : List ℕ) (to : Place)
 
   module _ (who : List ℕ) (is : to ≡ place.Implicit who) where
     account : is_place (implicit_place who) ≡ true
-    account = account_so who (subst (λ (p : Place). IsPlace (place_bytes p)) is is_target)
+    account = subst (λ (p : Place). IsPlace (place_bytes p)) is is_target
 
     sent_between : AreBetween v w (place.Contract by) (place.Implicit who)
     sent_between = record { stands = b.stands; form = b.next.going.good.sound.form; sender = first.0; receiver = account }

@@ -1,10 +1,9 @@
 -- Mutez that go to a contract, which is called with them (Octez "Operations", transactions).
 use Rattle.std.specs.Prelude.{◌≡◌, ◌≤◌, ℕ, nat_le, true, is_some, List, Result, Ok, Err}
 use Rattle.rules_base.specs.Tree.{Tree}
-use Rattle.rules_forms.specs.Spelling.{contract_place}
+use Rattle.rules_forms.specs.Spelling.{contract_place, is_place}
 use Rattle.rules_instructions.specs.Arguments.{fault}
 use Rattle.rules_steps.specs.Failure.{no_contract, no_entrypoint}
-use Rattle.rules_typing.specs.Fits.{is_place}
 use Rattle.rules_values.specs.Val.{Val}
 use Rattle.rules_world.specs.Arguments.{literal_in}
 use Rattle.rules_world.specs.Balances.{balance_or_none, moved}

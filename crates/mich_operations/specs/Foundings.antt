@@ -2,7 +2,7 @@
 use Rattle.std.specs.Prelude.{◌≡◌, ℕ, true, List, Result, Ok, Err}
 use Rattle.rules_base.specs.Tree.{Tree}
 use Rattle.rules_instructions.specs.Arguments.{Found, found, fault}
-use Rattle.rules_typing.specs.Fits.{is_place}
+use Rattle.rules_forms.specs.Spelling.{is_place}
 use Rattle.rules_typing.specs.Nodes.{script}
 use Rattle.rules_values.specs.Val.{Val}
 use Rattle.rules_world.specs.Forms.{IsWorld}

@@ -1,6 +1,6 @@
 -- Gifts of tickets (this host's own operation, after Octez "Tickets", transfers of tickets).
 use Rattle.std.specs.Prelude.{◌≡◌, ℕ, ℤ, neg_ℤ, ◌≤ℤ◌, ◌<ℤ◌, true, false, List, Option, Some, None, Result, Ok, Err, if◌then◌else◌}
-use Rattle.rules_forms.specs.Spelling.{implicit_place}
+use Rattle.rules_forms.specs.Spelling.{implicit_place, is_key_hash, is_place}
 use Rattle.rules_instructions.specs.Same.{same_kind}
 use Rattle.rules_steps.specs.Changes.{amount_of}
 use Rattle.rules_steps.specs.Failure.{no_contract, no_entrypoint}
@@ -8,8 +8,6 @@ use Rattle.rules_types.specs.Attributes.{comparable}
 use Rattle.rules_types.specs.Kind.{Kind}
 use Rattle.rules_types.specs.Kind as k
 use Rattle.rules_types.specs.Reading.{Reading, a_type, bad_type, too_large}
-use Rattle.rules_typing.specs.Fits.{is_place}
-use Rattle.rules_values.specs.ByteForms.{is_key_hash}
 use Rattle.rules_values.specs.Literals.{Literal, good, bad}
 use Rattle.rules_values.specs.Tickets.{Held}
 use Rattle.rules_values.specs.Val.{Val}

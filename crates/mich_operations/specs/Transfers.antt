@@ -3,7 +3,7 @@ use Rattle.std.specs.Prelude.{◌≡◌, ◌-◌, ℕ, nat_lt, true, false, List
 use Rattle.rules_gas.specs.declared.Kind.{Kind}
 use Rattle.rules_gas.specs.Prices.{Listed, cost}
 use Rattle.rules_types.specs.Kind.{Kind as TypeKind}
-use Rattle.rules_typing.specs.Fits.{is_place}
+use Rattle.rules_forms.specs.Spelling.{is_place}
 use Rattle.rules_values.specs.Val.{Val}
 use Rattle.rules_world.specs.Arguments.{Argument}
 use Rattle.rules_world.specs.Forms.{IsWorld}

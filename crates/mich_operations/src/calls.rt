@@ -1,6 +1,6 @@
 // Calls that a source orders.
 ghost use Rattle.std.specs.Prelude.{IfOk, ℕ};
-ghost use Rattle.rules_values.specs.ByteForms.{is_implicit};
+ghost use Rattle.rules_forms.specs.Spelling.{is_implicit};
 ghost use Rattle.rules_world.specs.Application.{ordered_transaction};
 ghost use Rattle.rules_world.specs.Contents.{Call};
 ghost use Rattle.rules_world.specs.Groups.{setting_of};

@@ -1,6 +1,6 @@
 // Gifts that a source orders.
 ghost use Rattle.std.specs.Prelude.{◌≡◌, true, is_some, IfOk, ℤ};
-ghost use Rattle.rules_values.specs.ByteForms.{is_implicit};
+ghost use Rattle.rules_forms.specs.Spelling.{is_implicit};
 ghost use Rattle.rules_world.specs.Contents.{Give};
 ghost use Rattle.rules_instructions.specs.Same as same;
 ghost use Rattle.rules_types.specs.Kind as kinds;

@@ -1,8 +1,7 @@
 // Transfers that contracts issue.
 ghost use Rattle.std.specs.Prelude.{◌≡◌, is_some, true, IfOk};
 ghost use Rattle.rules_evaluation.specs.Operations.{transfer};
-ghost use Rattle.rules_forms.specs.Spelling.{IsEntrypoint, IsPlace, contract_place, place_of, spelled_address};
-ghost use Rattle.rules_values.specs.ByteForms.{is_implicit};
+ghost use Rattle.rules_forms.specs.Spelling.{IsEntrypoint, IsPlace, contract_place, place_of, spelled_address, is_implicit};
 ghost use Rattle.rules_world.specs.Application.{issued_transaction};
 ghost use Rattle.rules_world.specs.Groups.{setting_of};
 ghost use Rattle.rules_world.specs.Outcomes.{issued};

@@ -2,10 +2,10 @@
 use Rattle.std.proofs.Common.{◌≡◌, ℕ, ◌+◌, ◌<◌, ◌≤◌, ◌^◌, List, Bool, true, false, cond, length, None, Ok, Err, refl, sym, ap, ◌∙◌, arith, nat_lt, nat_eq}
 use Rattle.std.specs.List.{position}
 use Rattle.std.proofs.lemmas.Bool.Decides.{nat_tests}
+use Rattle.rules_base.specs.Limits.{encoded_limit, byte_limit}
 use Rattle.rules_base.specs.Tree.{Tree, int, str, bytes, prim, seq, Trees, none, more, size, sizes, preorder, preorders}
 use Rattle.rules_binary.specs.Spelling.{joined, count, spelling}
-use Rattle.rules_binary.specs.Encoding.{Refusal, lacks_code, encoded_limit, encoded_by, encoded}
-use Rattle.rules_values.specs.Literals.{byte_limit}
+use Rattle.rules_binary.specs.Encoding.{Refusal, lacks_code, encoded_by, encoded}
 use Rattle.mich_binary.specs.Scanning.{scanned}
 use Rattle.mich_binary.proofs.Scans.{onward, scan_append, none_found}
 use Rattle.mich_pack.specs.Lengths.{node_length, nodes_length}

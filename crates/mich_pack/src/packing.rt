@@ -1,8 +1,8 @@
 // Values as bytes.
 ghost use Rattle.std.specs.Prelude.{◌≡◌, ◌∷◌, ◌≤◌, ◌+◌, length};
+ghost use Rattle.rules_base.specs.Limits.{byte_limit};
 ghost use Rattle.rules_binary.specs.Spelling.{spelling};
 ghost use Rattle.rules_values.specs.Canonical.{canonical};
-ghost use Rattle.rules_values.specs.Literals.{byte_limit};
 ghost use Rattle.rules_steps.specs.Packing.{packed};
 ghost use Rattle.mich_base.specs.View.{tree};
 ghost use Rattle.mich_term.specs.ValueView.{val};

@@ -1,9 +1,9 @@
 -- How a file that comes in pieces is read, statement by statement.
 use Rattle.std.proofs.Common.{◌≡◌, ℕ, ◌+◌, ◌-◌, ◌≤◌, ◌<◌, Bool, true, false, ◌||◌, List, [], ◌∷◌, ◌++◌, length, take, drop, Option, Some, None, Result, Ok, Err, refl, sym, ap, ◌∙◌, subst, inl, inr, append_assoc, append-nil, arith}
 use Rattle.std.proofs.lemmas.List.{drop-append-le, drop-drop, length-append, length-drop, length-take-le, take-append-drop}
+use Rattle.rules_base.specs.Limits.{file_limit}
 use Rattle.rules_base.specs.Tree.{Tree, size}
 use Rattle.rules_course.specs.Course.{Course as PlainCourse}
-use Rattle.rules_text.specs.Fault.{file_limit}
 use Rattle.rules_text.specs.declared.TextKind.{TextKind}
 use Rattle.rules_replay.specs.Places.{Placed, IsNodeAt, IsEndAt, IsFaultAt, AreStatements}
 use Rattle.rules_replay.specs.Replay.{Replay, IsReplay, Closes, FileFault, TextFault, RefusedAt, Run, going, stopped, taken, run_one, run_all}

@@ -5,10 +5,10 @@ use Rattle.std.specs.declared.option.Option.{Option}
 use Rattle.std.specs.List.{AllByRecursion}
 use Rattle.std.proofs.lemmas.Int.{ints}
 use Rattle.std.proofs.lemmas.List.{length-append, length-drop}
+use Rattle.rules_base.specs.Limits.{file_limit}
 use Rattle.rules_base.specs.Tree.{size}
 use Rattle.rules_course.specs.Course.{Course, Step, goes_on, stops, stuck_step}
 use Rattle.rules_course.specs.Ranges.{IsStatement}
-use Rattle.rules_text.specs.Fault.{file_limit}
 use Rattle.rules_replay.specs.Places.{Placed, IsEndAt, AreStatements}
 use Rattle.rules_replay.specs.Replay.{Replay, Closes, FileFault, TextFault, BadOrder, State, RefusedAt, IsReplay, Run, going, stopped, stuck_run, step, continued, taken, run_one, run_all, ending_of}
 use Rattle.rules_statements.specs.Statements.{Statement, form}

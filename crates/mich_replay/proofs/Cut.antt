@@ -3,7 +3,7 @@ use Rattle.std.proofs.Common.{◌≡◌, ℕ, ◌≤◌, ◌<◌, inl, inr, List
 use Rattle.std.proofs.lemmas.List.{append-nil}
 use Rattle.std.specs.Prelude.{IfOk, IsSome}
 use Rattle.std.specs.Io.KnownBytes.{Consumes, IsAtEnd}
-use Rattle.rules_text.specs.Fault.{file_limit}
+use Rattle.rules_base.specs.Limits.{file_limit}
 use Rattle.rules_replay.specs.Answers.{Answer, status_of, usage_answer}
 use Rattle.rules_replay.specs.Codec.{encode_node, decode_node}
 use Rattle.rules_replay.specs.Packs.{pack_node}

@@ -2,12 +2,13 @@
 use Rattle.std.proofs.Common.{ℕ, ◌+◌, Bool, true, false, List, [], ◌∷◌, length, Option, Some, None, Result, Ok, Err, IfOk, inl, inr, refl, sym, subst}
 use Rattle.std.specs.Prelude.{nat_le, if◌then◌else◌, codes}
 use Rattle.std.specs.Str.{bytes_eq}
+use Rattle.rules_base.specs.Limits.{byte_limit}
 use Rattle.rules_base.specs.Tree.{Tree, int, str, bytes, prim, seq, size}
 use Rattle.rules_text.specs.declared.TextKind.{TextKind}
 use Rattle.rules_types.specs.Attributes.{packable}
 use Rattle.rules_types.specs.Reading.{Reading, a_type, bad_type, too_large, type_at}
 use Rattle.rules_values.specs.Val.{Val}
-use Rattle.rules_values.specs.Literals.{read, byte_limit}
+use Rattle.rules_values.specs.Literals.{read}
 use Rattle.rules_instructions.specs.Arguments.{Found, found, fault}
 use Rattle.rules_typing.specs.Literals.{Checked, of_reading}
 use Rattle.rules_steps.specs.Packing.{packed}

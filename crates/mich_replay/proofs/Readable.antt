@@ -3,8 +3,9 @@ use Rattle.std.proofs.Common.{◌≡◌, ℕ, zero, suc, ◌+◌, ◌-◌, ◌�
 use Rattle.std.proofs.lemmas.Bool.{eqb-true, eqb-false, ltb-true, ltb-false}
 use Rattle.std.specs.List.{prefix_len}
 use Rattle.std.specs.Char.{is_ascii_hexdigit}
+use Rattle.rules_base.specs.Limits.{depth_limit, statement_limit, file_limit}
 use Rattle.rules_base.specs.Tree.{Tree, Trees}
-use Rattle.rules_text.specs.Fault.{Flaw, depth_limit, statement_limit, file_limit}
+use Rattle.rules_text.specs.Fault.{Flaw}
 use Rattle.rules_text.specs.Lexical.{after_gap, token_at, first_shape}
 use Rattle.rules_text.specs.Text.{IsStatementLimit, IsFileLimit}
 use Rattle.rules_text.specs.Text as within

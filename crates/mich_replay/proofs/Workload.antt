@@ -6,9 +6,10 @@ use Rattle.std.proofs.lemmas.List.{length-append, length-drop, drop-drop, append
 use Rattle.std.proofs.Math.Seq.{drop-append_seam}
 use Rattle.std.specs.Prelude.{◌==◌}
 use Rattle.std.specs.Fmt.{decimal}
+use Rattle.rules_base.specs.Limits.{depth_limit}
 use Rattle.rules_base.specs.Tree.{Tree, Trees}
 use Rattle.rules_course.specs.Course.{Course, numbered}
-use Rattle.rules_text.specs.Fault.{Flaw, depth_limit}
+use Rattle.rules_text.specs.Fault.{Flaw}
 use Rattle.rules_text.specs.Lexical.{after_gap, token_at, name_at, string_at, bytes_at, number_at}
 use Rattle.rules_text.specs.Text.{Leads, IsLimit, IsNode, IsEnd}
 use Rattle.rules_text.specs.Token.{Token}

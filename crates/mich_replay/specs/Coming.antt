@@ -1,9 +1,9 @@
 -- A file that comes in pieces, and what was told of it so far.
 use Rattle.std.specs.Prelude.{◌≡◌, ◌≤◌, ◌<◌, ℕ, List, [], ◌∷◌, ◌++◌, length, drop, Bool, true, false, Option, Some, None, Result, Ok, Err}
 use Rattle.std.specs.Io.KnownBytes.{Appends, Consumes}
+use Rattle.rules_base.specs.Limits.{file_limit}
 use Rattle.rules_course.specs.Course.{Course as PlainCourse}
 use Rattle.rules_io.specs.Known.{AppendsFront}
-use Rattle.rules_text.specs.Fault.{file_limit}
 use Rattle.rules_replay.specs.Answers.{Answer, status_of}
 use Rattle.rules_replay.specs.Commands.{Command, IsTold, IsAnswer, IsOwn}
 use Rattle.rules_replay.specs.Lines.{group_lines, ending_lines, text_of}

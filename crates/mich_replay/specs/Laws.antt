@@ -1,10 +1,11 @@
 -- Laws of what a file comes to.
 use Rattle.std.specs.Prelude.{◌≡◌, ◌≢◌, ◌≤◌, ℕ, ◌+◌, ◌-ℤ◌, List, [], ◌∷◌, Some, None}
 use Rattle.std.specs.declared.option.Option.{Option}
+use Rattle.rules_base.specs.Limits.{most_mutez}
 use Rattle.rules_replay.specs.Places.{Placed, AreStatements, IsEndAt}
 use Rattle.rules_statements.specs.Statements.{Statement, form}
 use Rattle.rules_values.specs.Tickets.{Identity}
-use Rattle.rules_world.specs.Balances.{most_mutez, supply}
+use Rattle.rules_world.specs.Balances.{supply}
 use Rattle.rules_world.specs.Holdings.{held, minted_ever, burnt_ever}
 use Rattle.rules_world.specs.World.{World}
 use Rattle.rules_replay.specs.Replay.{Replay, State, IsReplay, going, stuck_run, run_all}

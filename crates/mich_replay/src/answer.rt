@@ -1,8 +1,8 @@
 // The commands that read their file whole before they write.
 ghost use Rattle.std.specs.Prelude.{◌≡◌, ◌≤◌, ◌<◌, ◌++◌, ℕ, List, Option, length, Contains, IfOk, IsErrOf};
 ghost use Rattle.std.specs.Io.KnownBytes.{IsAtEnd};
+ghost use Rattle.rules_base.specs.Limits.{file_limit};
 ghost use Rattle.rules_io.specs.Causes.{HasCause};
-ghost use Rattle.rules_text.specs.Fault.{file_limit};
 ghost use Rattle.rules_replay.specs.Answers.{usage_answer};
 ghost use Rattle.rules_replay.specs.Commands.{OnFile, NoCommand, IsVerbAnswer, IsTold, IsAnswer};
 ghost use Rattle.mich_answers.specs.View.{answer_seen, IsDoneOrRefused};

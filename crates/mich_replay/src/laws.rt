@@ -1,7 +1,7 @@
 // Laws of what a file comes to.
 ghost use Rattle.std.specs.Prelude.{◌≡◌, ◌<◌, ◌++◌, ℕ, List, length, Option};
+ghost use Rattle.rules_base.specs.Limits.{file_limit};
 ghost use Rattle.rules_base.specs.Tree.{Tree};
-ghost use Rattle.rules_text.specs.Fault.{file_limit};
 ghost use Rattle.rules_replay.specs.Answers.{Answer};
 ghost use Rattle.rules_replay.specs.Codec.{IsCodecAnswer};
 ghost use Rattle.rules_replay.specs.Replay.{Replay, State, IsReplay};

@@ -20,10 +20,8 @@ use Rattle.std.proofs.lemmas.Map.Lookups.{exact_bytes}
 use Rattle.std.proofs.lemmas.Map.Made.{lookup-map_values}
 use Rattle.rules_base.specs.Tree.{Tree, int}
 use Rattle.rules_evaluation.specs.Contracts.{hash_in}
-use Rattle.rules_forms.specs.Spelling.{implicit_place}
+use Rattle.rules_forms.specs.Spelling.{implicit_place, is_contract, is_key_hash, is_place}
 use Rattle.rules_lines.specs.Nodes.{account_node, contract_node, line, number, over, state_nodes, ticket_fields, ticket_node}
-use Rattle.rules_typing.specs.Fits.{is_place}
-use Rattle.rules_values.specs.ByteForms.{is_contract, is_key_hash}
 use Rattle.rules_values.specs.Tickets.{Identity}
 use Rattle.rules_world.specs.Balances.{supply}
 use Rattle.rules_world.specs.Forms.{IsWorld, IsAccount, IsHolding}

@@ -5,12 +5,14 @@ use Rattle.std.specs.Str.{bytes_eq}
 use Rattle.mich_types.specs.Entered.{IsParameterFault}
 use Rattle.mich_types.specs.declared.error.TypeError.{TypeError}
 use Rattle.mich_types.specs.declared.error.TypeError.TheVariants as error
+use Rattle.rules_base.specs.Limits.{type_limit}
 use Rattle.rules_base.specs.Tree.{Tree, int, str, bytes, prim, seq, Trees, none, more, size, sizes}
 use Rattle.rules_types.specs.Kind.{Kind, nodes}
 use Rattle.rules_types.specs.Kind as k
 use Rattle.rules_types.specs.Attributes.{passable}
-use Rattle.rules_types.specs.Reading.{Former, simple_type, operation_type, one_argument, two_arguments, pair_type, no_type, former_of_name, any_kind, asked_of_argument, of_argument, asked_of_first, asked_of_second, of_arguments, Read, good, bad, Part, part, with_part, on_good, paired, applied, typed, parts, Reading, a_type, bad_type, too_large, limited, type_at, type_limit}
-use Rattle.rules_types.specs.Entrypoints.{Entry, Branch, branch, field_name, in_order, below, find_entry, Entries, entries, bad_name, repeated, then_entries, with_new, with_named, with_branch, with_branches, root_by, with_default, entries_of, is_entrypoint_name, Parameter, a_parameter, bad_parameter, large_parameter, repeated_entrypoint, of_entries, of_reading, of_section, parameter}
+use Rattle.rules_types.specs.Reading.{Former, simple_type, operation_type, one_argument, two_arguments, pair_type, no_type, former_of_name, any_kind, asked_of_argument, of_argument, asked_of_first, asked_of_second, of_arguments, Read, good, bad, Part, part, with_part, on_good, paired, applied, typed, parts, Reading, a_type, bad_type, too_large, limited, type_at}
+use Rattle.rules_forms.specs.Spelling.{is_entrypoint}
+use Rattle.rules_types.specs.Entrypoints.{Entry, Branch, branch, field_name, in_order, below, find_entry, Entries, entries, bad_name, repeated, then_entries, with_new, with_named, with_branch, with_branches, root_by, with_default, entries_of, Parameter, a_parameter, bad_parameter, large_parameter, repeated_entrypoint, of_entries, of_reading, of_section, parameter}
 
 -- ---- types
 
@@ -146,7 +148,7 @@ new_within n at (Some e) es name path a h = h
 
 named_within : (n at : ℕ) (es : List Entry) (o : Option (List ℕ)) (path : List Bool) (a : Kind) → at < n → FaultWithin n (with_named es at o path a)
 named_within n at es None path a h = tt
-named_within n at es (Some name) path a h = by (is_entrypoint_name name)
+named_within n at es (Some name) path a h = by (is_entrypoint name)
   where
     by : (b : Bool) → FaultWithin n (if b then with_new (find_entry name es) es at name path a else bad_name at)
     by true = new_within n at (find_entry name es) es name path a h

@@ -2,11 +2,10 @@
 ghost use Rattle.std.specs.Prelude.{◌≡◌, ◌+◌, ◌<◌, ◌^◌, [], MatchOption};
 ghost use Rattle.std.specs.List.{list_all};
 ghost use Rattle.rules_base.specs.Tree.{size, sizes, str};
-ghost use Rattle.rules_forms.specs.Spelling.{default_name, is_name_byte};
+ghost use Rattle.rules_forms.specs.Spelling.{default_name, is_name_byte, is_entrypoint};
 ghost use Rattle.rules_instructions.specs.Arguments.{annotated, is_view_name};
 ghost use Rattle.rules_instructions.specs.Instructions.{emit_of, instruction, view_of};
 ghost use Rattle.rules_base.specs.declared.Primitive.TheVariants.{OpContract, OpEmit};
-ghost use Rattle.rules_types.specs.Entrypoints.{is_entrypoint_name};
 ghost use Rattle.mich_base.specs.View.{tree, trees};
 ghost use Rattle.mich_stackrules.specs.Answers.{IsFound, found_from};
 ghost use Rattle.mich_stackrules.specs.View.{IsNoText, written};
@@ -56,8 +55,8 @@ pub fn named_entrypoint(annots: &Texts, at: u32) -> Result<Entrypoint, RuleError
     }
 }
 
-fn is_entrypoint_name(name: &[u8]) -> bool
-    ensures { result ≡ is_entrypoint_name name.now }
+fn is_entrypoint(name: &[u8]) -> bool
+    ensures { result ≡ is_entrypoint name.now }
 {
     1 <= name.len() && name.len() <= 31 && all_name_bytes(name)
 }
@@ -69,7 +68,7 @@ fn tag(alloc: Global, annots: &Texts, at: u32) -> Result<Text, RuleError>
     let Some(name) = field_name(annots) else {
         return Ok(Text::from_vec(Vec::new(alloc)));
     };
-    if is_entrypoint_name(name) {
+    if is_entrypoint(name) {
         Ok(Text::from_slice(alloc, name)?)
     } else {
         Err(RuleError::Fault(at))

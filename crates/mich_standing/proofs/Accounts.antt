@@ -14,10 +14,8 @@ use Rattle.std.specs.List.Sorted.{IsStrictlySortedBy}
 use Rattle.std.proofs.lemmas.Cmp.{nat_list_cmp_total}
 use Rattle.std.proofs.lemmas.List.Elements.{All-nil}
 use Rattle.std.proofs.lemmas.Slice.Eq.{bytes_eq-Decides}
-use Rattle.rules_forms.specs.Spelling.{implicit_place}
+use Rattle.rules_forms.specs.Spelling.{implicit_place, is_key_hash, is_implicit, is_place}
 use Rattle.rules_steps.specs.Changes.{amount_of, identity_of}
-use Rattle.rules_typing.specs.Fits.{is_place}
-use Rattle.rules_values.specs.ByteForms.{is_key_hash, is_implicit}
 use Rattle.rules_values.specs.Tickets.{Identity, Held}
 use Rattle.rules_world.specs.Forms.{IsWorld, IsAccount, IsHolding}
 use Rattle.rules_world.specs.Holdings.{amount_held, with_amount, credited_account, debited_account, held_by, held_by_account}

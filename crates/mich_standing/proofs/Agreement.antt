@@ -7,16 +7,14 @@ use Rattle.std.specs.Map.{keys_of}
 use Rattle.std.specs.List.{All, AllByRecursion}
 use Rattle.std.proofs.lemmas.Bool.{leb-true, le-leb}
 use Rattle.std.proofs.lemmas.List.Elements.{All-append}
+use Rattle.rules_base.specs.Limits.{most_mutez}
 use Rattle.rules_evaluation.specs.Contracts.{hash_in}
 use Rattle.rules_evaluation.specs.Surroundings.{Contract as PlainContract}
-use Rattle.rules_forms.specs.Spelling.{implicit_place, contract_place}
+use Rattle.rules_forms.specs.Spelling.{implicit_place, contract_place, is_implicit, is_key_hash, is_place}
 use Rattle.rules_steps.specs.Changes.{Change, minted_in, burnt_in, identity_of}
-use Rattle.rules_typing.specs.Fits.{is_place}
-use Rattle.rules_values.specs.ByteForms.{is_implicit, is_key_hash}
 use Rattle.rules_values.specs.Tickets.{Identity, tickets}
 use Rattle.rules_values.specs.Val.{Val}
 use Rattle.rules_world.specs.Balances as rules
-use Rattle.rules_world.specs.Balances.{most_mutez}
 use Rattle.rules_world.specs.Forms.{IsWorld, IsChange}
 use Rattle.rules_world.specs.Holdings.{amount_held, held_by_account, held_by_contract, credited, debited}
 use Rattle.rules_world.specs.World.{World as PlainWorld, new_world, Account, account_at as plain_account_at, account_or_none, contract_at as plain_contract_at, with_contract, key_hash_in}
@@ -46,7 +44,8 @@ use Rattle.mich_world.proofs.Moves.{contracts_there}
 use Rattle.mich_standing.specs.Laws.{NewWorldsAgree, ClocksAgree, ContractsAgree, AccountsAgree, ReceiversAgree, Grants, GrantsAgree, InstallsAgree, CommitsAgree, RunsAgree, RunsKeepStored, RunEndsAgree, CreditsAgree, DebitsAgree, SameWorldsAgree, MarksAgree, KeepingAgrees}
 use Rattle.mich_standing.proofs.Accounts.{keys_seen, account_is, account_held, credit_those, debit_those, balance_those, holder_there}
 use Rattle.mich_standing.proofs.Contracts.{contract_is, later, standing, balance_same, nobody, length_is, amounts, before_held, contract_those, made_held, replaced_held, made_contracts, replaced_contracts}
-use Rattle.mich_standing.proofs.Owners.{contract_is_place, account_is_place, place_length, implicit_of, hash_of}
+use Rattle.laws_forms.proofs.Places.{contract_is, implicit_is}
+use Rattle.mich_standing.proofs.Owners.{place_length, implicit_of, hash_of}
 
 -- ---- new worlds and the clock
 
@@ -245,7 +244,7 @@ installs_agree u v w from hash mutez script given s i stored ticketless is there
     (made_contracts bs ns (with_less h from mutez) x.contracts hash c d less.contracts same
     (ap (λ (y : Val). record { balance = mutez; script = script_node script; storage = y }) installs.settles.same))
     (λ id o p. made_held b v.ledger.books.present x hash (tickets (val given)) storage twenty none
-    (λ j. less.held j (contract_place hash) (contract_is_place hash twenty)) (λ j. amounts bs given j ticketless formed) installs.enters id o)
+    (λ j. less.held j (contract_place hash) (contract_is hash twenty)) (λ j. amounts bs given j ticketless formed) installs.enters id o)
     installs.enters.totals))
 
 pub commits_agree : CommitsAgree
@@ -273,7 +272,7 @@ commits_agree u v w hash given before s i stored ticketless there formed commits
     (contract_those h (committed h hash commits.storage) bs ns b c w hash d twenty t refl refl refl
     (replaced_contracts bs ns h b w hash before commits.storage storage t i there same commits.settles.same)
     (λ id o p. replaced_held b c w hash (stored_tickets (contract_at h hash)) (tickets (val given)) before storage twenty there
-    (λ j. t.held j (contract_place hash) (contract_is_place hash twenty)) (λ j. before_held h bs b w hash before j t stored ticketless there)
+    (λ j. t.held j (contract_place hash) (contract_is hash twenty)) (λ j. before_held h bs b w hash before j t stored ticketless there)
     (λ j. amounts bs given j ticketless formed) commits.replaces id o)
     (λ id. commits.replaces.entered.totals id ∙ commits.replaces.left.totals id)))
 
@@ -345,7 +344,7 @@ pub debits_agree : DebitsAgree
 debits_agree u w l who t s i key positive enough m =
     let h = u.funds.present in
     let b = u.ledger.books.present in
-    let place_is : is_place (implicit_place who) ≡ true = account_is_place who key in
+    let place_is : is_place (implicit_place who) ≡ true = implicit_is who key in
     let has : t.amount ≤ℤ amount_held (account_or_none w who) (identity_of t)
     = subst (λ (z : ℤ). t.amount ≤ℤ z) (s.those.held (identity_of t) (implicit_place who) place_is ∙ account_held w who (identity_of t) key) enough in
     let there = holder_there h u.store.bases.present b w who t s.those positive has in

@@ -12,9 +12,8 @@ use Rattle.std.specs.List.{AllByRecursion}
 use Rattle.std.proofs.lemmas.Cmp.{nat_list_cmp_total}
 use Rattle.std.proofs.lemmas.Slice.Eq.{bytes_eq-Decides}
 use Rattle.rules_evaluation.specs.Surroundings.{Contract as PlainContract}
-use Rattle.rules_forms.specs.Spelling.{contract_place}
+use Rattle.rules_forms.specs.Spelling.{contract_place, is_place}
 use Rattle.rules_steps.specs.Changes.{amount_among, amount_in}
-use Rattle.rules_typing.specs.Fits.{is_place}
 use Rattle.rules_values.specs.Tickets.{Identity, Held, tickets}
 use Rattle.rules_values.specs.Val.{Val}
 use Rattle.rules_world.specs.Forms.{IsWorld, IsTwentyBytes}

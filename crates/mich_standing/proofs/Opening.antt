@@ -8,8 +8,7 @@ use Rattle.std.specs.Cmp.{IsTotalOrder, tied_itself}
 use Rattle.std.specs.Cmp.Lexicographic.{slice_cmp}
 use Rattle.std.specs.BTreeMap.{insert_entry}
 use Rattle.std.proofs.lemmas.Cmp.{nat_list_cmp_total}
-use Rattle.rules_forms.specs.Spelling.{implicit_place}
-use Rattle.rules_values.specs.ByteForms.{is_key_hash}
+use Rattle.rules_forms.specs.Spelling.{implicit_place, is_key_hash}
 use Rattle.rules_values.specs.Tickets.{Held}
 use Rattle.rules_world.specs.Balances.{with_less, with_more, with_balance, balance_or_none}
 use Rattle.rules_world.specs.Forms.{IsWorld}

@@ -1,26 +1,27 @@
 -- Owners of tickets, and what each holds after an account or a contract is set.
-use Rattle.std.proofs.Common.{◌≡◌, ◌||◌, ℕ, zero, suc, List, [], ◌∷◌, ◌++◌, length, take, Bool, true, false, cond, Some, refl, sym, ap, ◌∙◌, subst, arith}
+use Rattle.std.proofs.Common.{◌≡◌, ◌||◌, ◌==◌, ℕ, zero, suc, List, [], ◌∷◌, ◌++◌, length, take, Bool, true, false, cond, Some, refl, sym, ap, ◌∙◌, subst, arith}
 use Rattle.std.specs.Prelude.{slice_index, if◌then◌else◌}
 use Rattle.std.specs.Ordering.{nat_cmp, is_eq}
 use Rattle.std.specs.Cmp.{tied_itself}
 use Rattle.std.specs.Cmp.Lexicographic.{slice_cmp}
 use Rattle.std.specs.Str.{bytes_eq}
 use Rattle.std.specs.BTreeMap.{is_at}
+use Rattle.std.proofs.lemmas.Bool.{and_parts, eqb-true}
 use Rattle.std.proofs.lemmas.Cmp.{nat_list_cmp_total}
+use Rattle.std.proofs.lemmas.List.{length-append}
 use Rattle.std.proofs.lemmas.Map.Lookups.{exact_bytes}
 use Rattle.std.proofs.lemmas.Slice.Eq.{bytes_eq-Decides}
 use Rattle.rules_evaluation.specs.Contracts.{hash_in}
 use Rattle.rules_evaluation.specs.Surroundings.{Contract}
-use Rattle.rules_forms.specs.Spelling.{implicit_place, contract_place}
+use Rattle.rules_forms.specs.Spelling.{implicit_place, contract_place, is_implicit, is_contract, is_key_hash, is_place}
 use Rattle.rules_steps.specs.Changes.{amount_in}
-use Rattle.rules_typing.specs.Fits.{is_place}
-use Rattle.rules_values.specs.ByteForms.{is_implicit, is_contract, is_key_hash}
 use Rattle.rules_values.specs.Tickets.{Identity}
 use Rattle.rules_world.specs.Holdings.{amount_held, held_by, held_by_account, held_by_contract}
 use Rattle.rules_world.specs.World.{World, Account, account_at, contract_at, with_account, with_contract, key_hash_in}
 use Rattle.laws_accounts.proofs.Entries.{lookup_insert}
 use Rattle.laws_accounts.proofs.Identities.{equal_of}
-use Rattle.laws_values.proofs.Tests.{implicit, contract}
+use Rattle.laws_forms.proofs.Places as places
+use Rattle.laws_forms.proofs.Places.{contract_is, contract_parts}
 
 -- ---- keys
 
@@ -60,7 +61,7 @@ last_after (suc n) (x ∷ xs) h z = ap (λ t. x ∷ t) (last_after n xs (omega a
 -- the place of an account
 pub account_place : (o : List ℕ) → is_implicit o ≡ true → o ≡ implicit_place (key_hash_in o)
 account_place [] h = absurd cc
-account_place (k ∷ hash) h = ap (λ x. x ∷ hash) ((implicit (k ∷ hash)).0 h).0
+account_place (k ∷ hash) h = ap (λ x. x ∷ hash) (eqb-true k 0 (and_parts (k == 0) (is_key_hash hash) h).0)
 
 of_contract : (b c : Bool) → (b || c) ≡ true → b ≡ false → c ≡ true
 of_contract true c h n = absurd cc
@@ -70,38 +71,16 @@ of_contract false c h n = h
 pub other_place : (o : List ℕ) → is_place o ≡ true → is_implicit o ≡ false → o ≡ contract_place (hash_in o)
 other_place [] h n = absurd cc
 other_place (k ∷ rest) h n =
-    let f = (contract (k ∷ rest)).0 (of_contract (is_implicit (k ∷ rest)) (is_contract (k ∷ rest)) h n) in
+    let f = contract_parts k rest (of_contract (is_implicit (k ∷ rest)) (is_contract (k ∷ rest)) h n) in
     let t : rest ≡ take 20 rest ++ 0 ∷ [] = last_after 20 rest f.1 f.2 in
     ap (λ x. x ∷ rest) f.0 ∙ ap (λ (x : List ℕ). 1 ∷ x) t
 
-length_more : (xs : List ℕ) → length (xs ++ 0 ∷ []) ≡ suc (length xs)
-length_more [] = refl
-length_more (x ∷ xs) = ap suc (length_more xs)
-
-last_is : (n : ℕ) (xs : List ℕ) → length xs ≡ n → slice_index (xs ++ 0 ∷ []) n ≡ 0
-last_is zero [] h = refl
-last_is zero (x ∷ xs) h = absurd (omega arith)
-last_is (suc n) [] h = absurd (omega arith)
-last_is (suc n) (x ∷ xs) h = last_is n xs (omega arith)
-
-or_true : (b c : Bool) → c ≡ true → (b || c) ≡ true
-or_true true c h = refl
-or_true false c h = h
-
-pub contract_is_place : (hash : List ℕ) → length hash ≡ 20 → is_place (contract_place hash) ≡ true
-contract_is_place hash h =
-    or_true (is_implicit (contract_place hash)) (is_contract (contract_place hash))
-    ((contract (contract_place hash)).1 (refl, length_more hash ∙ ap suc h, last_is 20 hash h))
-
-pub account_is_place : (who : List ℕ) → is_key_hash who ≡ true → is_place (implicit_place who) ≡ true
-account_is_place who h = ap (λ b. b || is_contract (implicit_place who)) h
-
 length_less : (n : ℕ) (hash : List ℕ) → length (hash ++ 0 ∷ []) ≡ suc n → length hash ≡ n
-length_less n hash h = let e = length_more hash in omega (arith, e, h)
+length_less n hash h = let e = length-append hash (0 ∷ []) in omega (arith, e, h)
 
 -- the other way round
 pub place_length : (hash : List ℕ) → is_place (contract_place hash) ≡ true → length hash ≡ 20
-place_length hash h = length_less 20 hash ((contract (contract_place hash)).0 (of_contract (is_implicit (contract_place hash)) (is_contract (contract_place hash)) h refl)).1
+place_length hash h = length_less 20 hash (let long : length (contract_place hash) ≡ 22 = places.place_length (contract_place hash) h in omega (arith, long))
 
 or_false : (b : Bool) → (b || false) ≡ true → b ≡ true
 or_false true h = refl

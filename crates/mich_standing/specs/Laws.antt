@@ -3,10 +3,8 @@ use Rattle.std.specs.Prelude.{◌≡◌, ◌||◌, option_map, ℕ, ℤ, neg_ℤ
 use Rattle.std.specs.List.{All, AllByRecursion}
 use Rattle.rules_evaluation.specs.Contracts.{hash_in}
 use Rattle.rules_evaluation.specs.Surroundings.{Contract as PlainContract}
-use Rattle.rules_forms.specs.Spelling.{implicit_place}
+use Rattle.rules_forms.specs.Spelling.{implicit_place, is_implicit, is_key_hash, is_place}
 use Rattle.rules_steps.specs.Changes.{Change, amount_of, identity_of}
-use Rattle.rules_typing.specs.Fits.{is_place}
-use Rattle.rules_values.specs.ByteForms.{is_implicit, is_key_hash}
 use Rattle.rules_values.specs.Tickets.{Held}
 use Rattle.rules_world.specs.Balances as rules
 use Rattle.rules_world.specs.Forms.{IsWorld, IsChange}

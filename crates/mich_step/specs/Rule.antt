@@ -1,6 +1,7 @@
 -- The rules of the instructions that ask for nothing but the stack, the tickets and what surrounds the run, and what they ask of
 -- fitting values besides (Michelson reference, "Instructions").
 use Rattle.std.specs.Prelude.{◌≡◌, ℤ, ◌+ℤ◌, ◌≤ℤ◌, true, false, List, [], ◌∷◌}
+use Rattle.rules_base.specs.Limits.{most_minted}
 use Rattle.rules_forms.specs.Spelling.{implicit_place}
 use Rattle.rules_values.specs.Val.{Val, bytes, both, ticket}
 use Rattle.rules_values.specs.Tickets.{Identity, Held, tickets}
@@ -10,7 +11,6 @@ use Rattle.rules_steps.specs.Environment.{Environment}
 use Rattle.rules_steps.specs.Changes.{is_alike}
 use Rattle.rules_steps.specs.Step.{Step, wrong, kept}
 use Rattle.rules_steps.specs.Steps.{step}
-use Rattle.rules_steps.specs.TicketSteps.{most_minted}
 use Rattle.mich_stack.specs.Ends.{gone}
 use Rattle.mich_stack.specs.Keys.{IsKeyOnTop}
 use Rattle.mich_collections.specs.Keys.{SuitsCollections}

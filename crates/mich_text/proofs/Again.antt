@@ -2,6 +2,7 @@
 use Rattle.std.proofs.Common.{◌≡◌, ℕ, ◌≤◌, true, ltb, List, [], ◌∷◌, ◌++◌, length, Option, Some, Ok, refl, sym, ap, subst, ◌∙◌, append_assoc}
 use Rattle.std.proofs.lemmas.List.{append-nil}
 use Rattle.std.specs.List.{AllByRecursion}
+use Rattle.rules_base.specs.Limits.{byte_limit}
 use Rattle.rules_base.specs.Tree.{Tree, int, str, prim, seq, Trees, none, more}
 use Rattle.rules_text.specs.Token.{Token}
 use Rattle.rules_text.specs.Syntax.{Node, Items, no_items, with_annotation, with_node, parens, Element, Separated, nothing, followed, node_tokens, item_tokens, element_tokens, separated_tokens, IsStatement}
@@ -10,7 +11,6 @@ use Rattle.rules_text.specs.Text.{Leads}
 use Rattle.std.specs.Fmt.{signed_decimal}
 use Rattle.rules_text.specs.Printed.{string_text, bytes_text, annotations_text, in_parens, is_wrapped, printed, arguments_text, elements_text}
 use Rattle.mich_text.specs.Canonical.{with_notes, wrapped, element_of, with_argument, with_arguments, sequence}
-use Rattle.rules_text.specs.Fault.{string_limit}
 use Rattle.mich_text.proofs.Printing.{IsApart, IsAll, is_spelt, string_token, bytes_token, is_solid, solid_gap, space_leads}
 use Rattle.mich_text.proofs.Canon.{element_is}
 
@@ -24,8 +24,8 @@ pub record IsToken (text : List ℕ) (t : Token) : Type 0 where
 abbrev mutual
   pub IsPrintable : Tree → Type 0
   IsPrintable (int n) = IsToken (signed_decimal n) (Token.number n)
-  IsPrintable (str s) = IsAll is_spelt s × (length s ≤ string_limit)
-  IsPrintable (Tree.bytes b) = IsAll (λ c. ltb c 256) b × (length b ≤ string_limit)
+  IsPrintable (str s) = IsAll is_spelt s × (length s ≤ byte_limit)
+  IsPrintable (Tree.bytes b) = IsAll (λ c. ltb c 256) b × (length b ≤ byte_limit)
   IsPrintable (prim n ns xs) = IsToken n (Token.name n) × AllByRecursion (λ a. IsToken a (Token.annotation a)) ns × ArePrintable xs
   IsPrintable (seq xs) = ArePrintable xs
 
@@ -41,10 +41,10 @@ Writes text ts = (rest : List ℕ) (us : List Token) (r : Option (List ℕ)) →
 token_writes : (text : List ℕ) (t : Token) → IsToken text t → Writes text (t ∷ [])
 token_writes text t p rest us r a l = (text ++ rest, rest, p.gap rest, p.read rest a, l)
 
-string_is : (s : List ℕ) → IsAll is_spelt s → length s ≤ string_limit → IsToken (34 ∷ string_text s) (Token.string s)
+string_is : (s : List ℕ) → IsAll is_spelt s → length s ≤ byte_limit → IsToken (34 ∷ string_text s) (Token.string s)
 string_is s h short = record { gap = λ rest. solid_gap 34 (string_text s ++ rest) refl; read = λ rest a. string_token s rest h short }
 
-bytes_is : (b : List ℕ) → IsAll (λ c. ltb c 256) b → length b ≤ string_limit → IsToken (48 ∷ 120 ∷ bytes_text b) (Token.bytes b)
+bytes_is : (b : List ℕ) → IsAll (λ c. ltb c 256) b → length b ≤ byte_limit → IsToken (48 ∷ 120 ∷ bytes_text b) (Token.bytes b)
 bytes_is b h short = record { gap = λ rest. solid_gap 48 (120 ∷ (bytes_text b ++ rest)) refl; read = λ rest a. bytes_token b rest h short a }
 
 -- a sign is read before anything

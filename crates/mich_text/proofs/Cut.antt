@@ -5,11 +5,12 @@ use Rattle.std.proofs.lemmas.List.{take-append-le, drop-append-le, length-drop, 
 use Rattle.std.specs.List.{prefix_len}
 use Rattle.std.specs.Char.{is_ascii_digit, is_ascii_hexdigit}
 use Rattle.std.specs.Str.Parse.{digits_value}
+use Rattle.rules_base.specs.Limits.{name_limit, byte_limit}
 use Rattle.rules_text.specs.Token.{Token, string, name, annotation, number, bytes}
 use Rattle.rules_text.specs.declared.Shape.{Shape}
 use Rattle.rules_text.specs.declared.Shape.TheVariants.{Digits, Quoted, Word, Note, OpenBrace, CloseBrace, OpenParen, CloseParen, Semicolon}
 use Rattle.rules_text.specs.declared.TextKind.TheVariants.{BadString, BadBytes, BadNumber, TooLong}
-use Rattle.rules_text.specs.Fault.{Flaw, name_limit, string_limit}
+use Rattle.rules_text.specs.Fault.{Flaw}
 use Rattle.rules_text.specs.Lexical.{flaw, is_word, is_noted, begins_word, is_white, opens, closes, after_gap, after_slash, after_line, after_block, name_at, annotation_at, Spelt, spelt, spelt_escape, with_byte, with_escape, escaped, string_at, ◌>>=◌, bytes_at, paired, number_at, signed, made, digits_at, begins_bytes, shape_at, shape_of, token_at}
 use Rattle.rules_text.specs.Text.{Leads}
 use Rattle.mich_text.proofs.Places.{IsAhead, IsWithin, EndsWithin, gap_within, line_within, block_within, spelt_within, digits_ahead, token_shorter}
@@ -124,19 +125,19 @@ mutual
   behind_cut [] (c ∷ more) = cut_escape_nothing (c ∷ more) [] (escaped c) (spelt_escape []) (92 ∷ c ∷ more) (spelt more) (spelt_within (length (c ∷ more)) more (omega arith))
   behind_cut (c ∷ rest) more = cut_escape (escaped c) more (92 ∷ c ∷ rest) (92 ∷ c ∷ (rest ++ more)) (spelt rest) (spelt (rest ++ more)) (spelt_cut rest more)
 
-string_made : (s : Spelt) (text b : List ℕ) (d : Flaw) → s ≡ record { text = text; end = Ok b } → ltb string_limit (length text) ≡ false
-    → cond {A = Result (List ℕ × List ℕ) Flaw} (ltb string_limit (length s.text)) (Err d) (s.end >>= λ rest. Ok (s.text, rest)) ≡ Ok (text, b)
-string_made s text b d e h = ap (λ (s : Spelt). cond {A = Result (List ℕ × List ℕ) Flaw} (ltb string_limit (length s.text)) (Err d) (s.end >>= λ rest. Ok (s.text, rest))) e ∙ ap (λ (t : Bool). cond {A = Result (List ℕ × List ℕ) Flaw} t (Err d) (Ok (text, b))) h
+string_made : (s : Spelt) (text b : List ℕ) (d : Flaw) → s ≡ record { text = text; end = Ok b } → ltb byte_limit (length text) ≡ false
+    → cond {A = Result (List ℕ × List ℕ) Flaw} (ltb byte_limit (length s.text)) (Err d) (s.end >>= λ rest. Ok (s.text, rest)) ≡ Ok (text, b)
+string_made s text b d e h = ap (λ (s : Spelt). cond {A = Result (List ℕ × List ℕ) Flaw} (ltb byte_limit (length s.text)) (Err d) (s.end >>= λ rest. Ok (s.text, rest))) e ∙ ap (λ (t : Bool). cond {A = Result (List ℕ × List ℕ) Flaw} t (Err d) (Ok (text, b))) h
 
-string_by : (t : Bool) (more : List ℕ) (front : Spelt) (text : List ℕ) (end : Result (List ℕ) Flaw) (d e : Flaw) → ltb string_limit (length text) ≡ t → EndsCut more front text end
-    → IsCut more (cond (ltb string_limit (length front.text)) (Err d) (front.end >>= λ rest. Ok (front.text, rest))) (cond t (Err e) (end >>= λ rest. Ok (text, rest)))
+string_by : (t : Bool) (more : List ℕ) (front : Spelt) (text : List ℕ) (end : Result (List ℕ) Flaw) (d e : Flaw) → ltb byte_limit (length text) ≡ t → EndsCut more front text end
+    → IsCut more (cond (ltb byte_limit (length front.text)) (Err d) (front.end >>= λ rest. Ok (front.text, rest))) (cond t (Err e) (end >>= λ rest. Ok (text, rest)))
 string_by true more front text end d e h p = tt
 string_by false more front text (Ok behind) d e h p = λ g. let x = p g in (x.0, x.1, string_made front text x.0 d x.2 h)
 string_by false more front text (Err f) d e h p = tt
 
 string_cut : (c : ℕ) (xs more : List ℕ) → IsCut more (string_at (c ∷ xs)) (string_at (c ∷ (xs ++ more)))
 unfolding string_at
-string_cut c xs more = string_by (ltb string_limit (length (spelt (xs ++ more)).text)) more (spelt xs) (spelt (xs ++ more)).text (spelt (xs ++ more)).end _ _ refl (spelt_cut xs more)
+string_cut c xs more = string_by (ltb byte_limit (length (spelt (xs ++ more)).text)) more (spelt xs) (spelt (xs ++ more)).text (spelt (xs ++ more)).end _ _ refl (spelt_cut xs more)
 
 -- ---- bytes and numbers
 
@@ -153,11 +154,11 @@ two_tests_end false false more u v x rest other h = short_cut more other (x, res
 bytes_cut : (c d : ℕ) (xs more : List ℕ) → IsCut more (bytes_at (c ∷ d ∷ xs)) (bytes_at (c ∷ d ∷ (xs ++ more)))
 unfolding bytes_at
 bytes_cut c d xs more = run_cut
-    (λ n front rest. cond (ltb string_limit (n / 2)) (flaw TooLong (c ∷ d ∷ xs)) (cond (eqb (n % 2) 1 || begins_word rest) (flaw BadBytes (c ∷ d ∷ xs)) (Ok (paired front, rest))))
-    (λ n front rest. cond (ltb string_limit (n / 2)) (flaw TooLong (c ∷ d ∷ (xs ++ more))) (cond (eqb (n % 2) 1 || begins_word rest) (flaw BadBytes (c ∷ d ∷ (xs ++ more))) (Ok (paired front, rest))))
+    (λ n front rest. cond (ltb byte_limit (n / 2)) (flaw TooLong (c ∷ d ∷ xs)) (cond (eqb (n % 2) 1 || begins_word rest) (flaw BadBytes (c ∷ d ∷ xs)) (Ok (paired front, rest))))
+    (λ n front rest. cond (ltb byte_limit (n / 2)) (flaw TooLong (c ∷ d ∷ (xs ++ more))) (cond (eqb (n % 2) 1 || begins_word rest) (flaw BadBytes (c ∷ d ∷ (xs ++ more))) (Ok (paired front, rest))))
     is_ascii_hexdigit xs more
-    (λ n front e rest. two_tests (ltb string_limit (n / 2)) (eqb (n % 2) 1 || begins_word (e ∷ rest)) more _ _ _ _ (paired front) e rest)
-    (λ n front rest other h. two_tests_end (ltb string_limit (n / 2)) (eqb (n % 2) 1 || begins_word rest) more _ _ (paired front) rest other h)
+    (λ n front e rest. two_tests (ltb byte_limit (n / 2)) (eqb (n % 2) 1 || begins_word (e ∷ rest)) more _ _ _ _ (paired front) e rest)
+    (λ n front rest other h. two_tests_end (ltb byte_limit (n / 2)) (eqb (n % 2) 1 || begins_word rest) more _ _ (paired front) rest other h)
 
 digits_cut_by : (minus : Bool) (text xs more : List ℕ) → let most = cond minus (2 ^ 127) (2 ^ 127 - 1) in
     IsCut more

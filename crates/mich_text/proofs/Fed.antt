@@ -1,6 +1,7 @@
 -- A statement that was read with its `;` is read again with more bytes behind it.
 use Rattle.std.proofs.Common.{◌≡◌, ℕ, ◌+◌, ◌-◌, ◌<◌, ◌⊎◌, inl, inr, Bool, true, false, cond, eqb, List, [], ◌∷◌, ◌++◌, length, Option, Some, None, Ok, refl, sym, ap, subst, ◌∙◌, arith}
 use Rattle.std.proofs.lemmas.List.{length-append}
+use Rattle.rules_base.specs.Limits.{depth_limit}
 use Rattle.rules_base.specs.Tree.{Tree}
 use Rattle.rules_text.specs.Token.{Token}
 use Rattle.mich_text.specs.Machine.{Stack, finish, has_statement, ended_tree, step}
@@ -8,7 +9,6 @@ use Rattle.rules_text.specs.Lexical.{is_white, opens, closes, after_gap, after_s
 use Rattle.rules_text.specs.declared.Shape.{Shape}
 use Rattle.rules_text.specs.Text.{Leads}
 use Rattle.mich_text.specs.Plain.{IsNode}
-use Rattle.rules_text.specs.Fault.{depth_limit}
 use Rattle.mich_text.proofs.Places.{no_token}
 use Rattle.mich_text.proofs.Reading.{At}
 use Rattle.mich_text.proofs.Stable.{token_stable}

@@ -3,12 +3,13 @@ use Rattle.std.proofs.Common.{◌≡◌, ℕ, suc, ◌-◌, ◌/◌, ◌%◌, �
 use Rattle.std.specs.List.{prefix_len}
 use Rattle.std.specs.Char.{is_ascii_digit, is_ascii_hexdigit}
 use Rattle.std.specs.Str.Parse.{digits_value}
+use Rattle.rules_base.specs.Limits.{name_limit, byte_limit}
 use Rattle.rules_text.specs.Token.{Token, string, name, annotation, number, bytes}
 use Rattle.rules_text.specs.declared.TextKind.{TextKind}
 use Rattle.rules_text.specs.declared.TextKind.TheVariants.{BadChar, BadString, BadBytes, BadNumber, Unclosed, TooLong}
 use Rattle.rules_text.specs.declared.Shape.{Shape}
 use Rattle.rules_text.specs.declared.Shape.TheVariants.{Digits, Quoted, Word, Note, OpenBrace, CloseBrace, OpenParen, CloseParen, Semicolon}
-use Rattle.rules_text.specs.Fault.{Flaw, name_limit, string_limit}
+use Rattle.rules_text.specs.Fault.{Flaw}
 use Rattle.rules_text.specs.Lexical.{flaw, is_word, is_noted, begins_word, name_at, annotation_at, Spelt, spelt, spelt_escape, with_byte, with_escape, escaped, string_at, ◌>>=◌, bytes_at, paired, number_at, after_minus, is_minus, signed, made, digits_at, begins_bytes, shape_at, first_shape, token_at}
 
 -- where it is a flaw, this holds of it
@@ -67,7 +68,7 @@ string_made P text (Err f) p = p
 pub string_each : (P : Flaw → Type 0) → Of P TooLong → Of P BadString → P (record { kind = Unclosed; left = 0 }) → (text : List ℕ) → Each P (string_at text)
 unfolding string_at
 string_each P long bad unclosed text =
-    each_either P (ltb string_limit (length (spelt (drop 1 text)).text)) (flaw TooLong text) _ (long (length text)) (string_made P (spelt (drop 1 text)).text (spelt (drop 1 text)).end (spelt_each P bad unclosed (drop 1 text)))
+    each_either P (ltb byte_limit (length (spelt (drop 1 text)).text)) (flaw TooLong text) _ (long (length text)) (string_made P (spelt (drop 1 text)).text (spelt (drop 1 text)).end (spelt_each P bad unclosed (drop 1 text)))
 
 twice : {A : Type 0} (P : Flaw → Type 0) (t u : Bool) (k j : TextKind) (text : List ℕ) (x : A × List ℕ) → Of P k → Of P j → Each P (cond t (flaw k text) (cond u (flaw j text) (Ok x)))
 twice P true u k j text x p q = p (length text)
@@ -86,7 +87,7 @@ unfolding bytes_at
 bytes_each P long bad text =
     let n = prefix_len is_ascii_hexdigit (drop 2 text) in
     let rest = drop n (drop 2 text) in
-    twice P (ltb string_limit (n / 2)) (eqb (n % 2) 1 || begins_word rest) TooLong BadBytes text (paired (take n (drop 2 text)), rest) long bad
+    twice P (ltb byte_limit (n / 2)) (eqb (n % 2) 1 || begins_word rest) TooLong BadBytes text (paired (take n (drop 2 text)), rest) long bad
 
 -- ---- a string that isn't closed ends with the input
 

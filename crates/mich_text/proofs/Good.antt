@@ -8,11 +8,12 @@ use Rattle.std.proofs.lemmas.List.{length-take}
 use Rattle.std.specs.List.{prefix_len, AllByRecursion}
 use Rattle.std.specs.Char.{is_ascii_digit, is_ascii_hexdigit}
 use Rattle.std.specs.Str.Parse.{digits_value}
+use Rattle.rules_base.specs.Limits.{name_limit, byte_limit}
 use Rattle.rules_text.specs.Token.{Token, string, name, annotation, number, bytes}
 use Rattle.rules_text.specs.declared.Shape.{Shape}
 use Rattle.rules_text.specs.declared.Shape.TheVariants.{Digits, Quoted, Word, Note, OpenBrace, CloseBrace, OpenParen, CloseParen, Semicolon}
 use Rattle.rules_text.specs.declared.TextKind.TheVariants.{BadString, BadBytes, BadNumber, TooLong}
-use Rattle.rules_text.specs.Fault.{Flaw, name_limit, string_limit}
+use Rattle.rules_text.specs.Fault.{Flaw}
 use Rattle.rules_text.specs.Lexical.{flaw, is_word, is_noted, begins_word, name_at, annotation_at, Spelt, spelt, spelt_escape, with_byte, with_escape, escaped, string_at, ◌>>=◌, bytes_at, paired, nibble, number_at, after_minus, is_minus, signed, made, digits_at, begins_bytes, shape_at, shape_of, first_shape, token_at}
 use Rattle.rules_text.specs.Text.{Leads}
 use Rattle.mich_text.proofs.Places.{word_is, prefix_some}
@@ -30,10 +31,10 @@ IsInt (pos n) = n < 2 ^ 127
 IsInt (negsuc n) = n < 2 ^ 127
 
 abbrev pub IsString : List ℕ → Type 0
-IsString s = IsAll is_spelt s × (length s ≤ string_limit)
+IsString s = IsAll is_spelt s × (length s ≤ byte_limit)
 
 abbrev pub IsBytes : List ℕ → Type 0
-IsBytes b = IsAll (λ c. ltb c 256) b × (length b ≤ string_limit)
+IsBytes b = IsAll (λ c. ltb c 256) b × (length b ≤ byte_limit)
 
 abbrev pub IsGood : Token → Type 0
 IsGood (Token.number z) = IsInt z
@@ -142,8 +143,8 @@ string_ends text (Err f) h = tt
 string_reads : (c : ℕ) (rest : List ℕ) → Reads IsString (string_at (c ∷ rest))
 unfolding string_at
 string_reads c rest =
-    either_reads IsString (ltb string_limit (length (spelt rest).text)) (flaw TooLong (c ∷ rest)) ((spelt rest).end >>= λ more. Ok ((spelt rest).text, more)) (λ _. tt)
-    (λ h. string_ends (spelt rest).text (spelt rest).end (spelt_well rest, ltb-false string_limit (length (spelt rest).text) h))
+    either_reads IsString (ltb byte_limit (length (spelt rest).text)) (flaw TooLong (c ∷ rest)) ((spelt rest).end >>= λ more. Ok ((spelt rest).text, more)) (λ _. tt)
+    (λ h. string_ends (spelt rest).text (spelt rest).end (spelt_well rest, ltb-false byte_limit (length (spelt rest).text) h))
 
 -- ---- bytes
 
@@ -163,16 +164,16 @@ paired_half [] = omega arith
 paired_half (a ∷ []) = omega arith
 paired_half (a ∷ b ∷ xs) = omega (arith, paired_half xs)
 
-half_limit : (n k : ℕ) → 2 * k ≤ n → n / 2 ≤ string_limit → k ≤ string_limit
+half_limit : (n k : ℕ) → 2 * k ≤ n → n / 2 ≤ byte_limit → k ≤ byte_limit
 half_limit n k h g = omega (arith, h, g)
 
 bytes_reads : (c d : ℕ) (rest : List ℕ) → Reads IsBytes (bytes_at (c ∷ d ∷ rest))
 unfolding bytes_at
 bytes_reads c d rest =
     let n = prefix_len is_ascii_hexdigit rest in
-    either_reads IsBytes (ltb string_limit (n / 2)) (flaw TooLong (c ∷ d ∷ rest)) _ (λ _. tt)
+    either_reads IsBytes (ltb byte_limit (n / 2)) (flaw TooLong (c ∷ d ∷ rest)) _ (λ _. tt)
     (λ h. either_reads IsBytes (eqb (n % 2) 1 || begins_word (drop n rest)) (flaw BadBytes (c ∷ d ∷ rest)) (Ok (paired (take n rest), drop n rest)) (λ _. tt)
-    (λ _. (paired_all (take n rest), half_limit n (length (paired (take n rest))) (omega (arith, paired_half (take n rest), length-take n rest)) (ltb-false string_limit (n / 2) h))))
+    (λ _. (paired_all (take n rest), half_limit n (length (paired (take n rest))) (omega (arith, paired_half (take n rest), length-take n rest)) (ltb-false byte_limit (n / 2) h))))
 
 -- ---- numbers
 

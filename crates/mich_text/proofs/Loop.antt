@@ -1,5 +1,6 @@
 -- The reader's loop.
 use Rattle.std.proofs.Common.{◌≡◌, ℕ, ◌<◌, true, false, List, [], ◌∷◌, ◌++◌, length, Option, Some, None, Result, Ok, Err, sym, ap, subst, ◌∙◌, arith}
+use Rattle.rules_base.specs.Limits.{depth_limit}
 use Rattle.rules_base.specs.Tree.{Tree}
 use Rattle.rules_text.specs.Token.{Token}
 use Rattle.rules_text.specs.Syntax.{element_tokens}
@@ -15,7 +16,6 @@ use Rattle.mich_text.specs.declared.fault.LexError.TheVariants as errors
 use Rattle.rules_text.specs.declared.TextKind.TheVariants.{Unclosed}
 use Rattle.mich_text.specs.declared.plain.Found.{Found}
 use Rattle.mich_text.specs.declared.plain.Step.TheVariants.{Taken, Statement}
-use Rattle.rules_text.specs.Fault.{depth_limit}
 use Rattle.mich_text.proofs.Complete.{run_none}
 use Rattle.mich_text.proofs.Places.{gap_le, token_shorter}
 use Rattle.mich_text.proofs.Whole.{NoStatement, still_none}

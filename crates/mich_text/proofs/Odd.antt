@@ -4,12 +4,13 @@ use Rattle.std.proofs.lemmas.Bool.{ltb-false, le-ltb, eqb-true, ne_eqb}
 use Rattle.std.proofs.lemmas.List.{length-append, drop_all}
 use Rattle.std.specs.List.{prefix_len}
 use Rattle.std.specs.Char.{is_ascii_hexdigit}
+use Rattle.rules_base.specs.Limits.{byte_limit}
 use Rattle.rules_text.specs.Token.{Token, string, name, annotation, number, bytes}
 use Rattle.rules_text.specs.declared.TextKind.{TextKind}
 use Rattle.rules_text.specs.declared.TextKind.TheVariants.{BadChar, BadString, BadBytes, BadNumber, Unclosed, TooLong}
 use Rattle.rules_text.specs.declared.Shape.{Shape}
 use Rattle.rules_text.specs.declared.Shape.TheVariants.{Digits, Quoted, Word, Note, OpenBrace, CloseBrace, OpenParen, CloseParen, Semicolon}
-use Rattle.rules_text.specs.Fault.{Flaw, string_limit}
+use Rattle.rules_text.specs.Fault.{Flaw}
 use Rattle.mich_text.proofs.Flaws.{Each, made_each, name_each, annotation_each, string_each, number_each}
 use Rattle.rules_text.specs.Lexical.{flaw, begins_word, name_at, annotation_at, string_at, bytes_at, paired, number_at, made, begins_bytes, shape_at, shape_of, token_at}
 
@@ -118,7 +119,7 @@ pub record IsOdd (text : List ℕ) : Type 0 where
   pub reads : (others : List ℕ) → token_at (c ∷ d ∷ others) ≡ made bytes (bytes_at (c ∷ d ∷ others))
   pub all : prefix_len is_ascii_hexdigit digits ≡ length digits
   pub odd : length digits % 2 ≡ 1
-  pub short : length digits / 2 ≤ string_limit
+  pub short : length digits / 2 ≤ byte_limit
 
 -- where a flaw of bytes stands
 pub bytes_left : (text : List ℕ) (left : ℕ) → token_at text ≡ Err (record { kind = BadBytes; left = left }) → left ≡ length text
@@ -127,7 +128,7 @@ bytes_left text left e =
     let s = starts text left e in
     let read : bytes_at (s.c ∷ s.d ∷ s.digits) ≡ Err (record { kind = BadBytes; left = left }) = made_err (bytes_at (s.c ∷ s.d ∷ s.digits)) (record { kind = BadBytes; left = left }) (sym (s.reads s.digits) ∙ ap token_at (sym s.text_is) ∙ e) in
     let n = prefix_len is_ascii_hexdigit s.digits in
-    let h = bytes_by (ltb string_limit (n / 2)) (eqb (n % 2) 1 || begins_word (drop n s.digits)) (s.c ∷ s.d ∷ s.digits) (paired (take n s.digits), drop n s.digits) left read in
+    let h = bytes_by (ltb byte_limit (n / 2)) (eqb (n % 2) 1 || begins_word (drop n s.digits)) (s.c ∷ s.d ∷ s.digits) (paired (take n s.digits), drop n s.digits) left read in
     h.2 ∙ ap (λ (l : List ℕ). length l) (sym s.text_is)
 
 pub is_odd : (text : List ℕ) (left : ℕ) → token_at text ≡ Err (record { kind = BadBytes; left = left }) → prefix_len is_ascii_hexdigit (drop 2 text) ≡ length (drop 2 text) → IsOdd text
@@ -136,7 +137,7 @@ is_odd text left e reached =
     let s = starts text left e in
     let read : bytes_at (s.c ∷ s.d ∷ s.digits) ≡ Err (record { kind = BadBytes; left = left }) = made_err (bytes_at (s.c ∷ s.d ∷ s.digits)) (record { kind = BadBytes; left = left }) (sym (s.reads s.digits) ∙ ap token_at (sym s.text_is) ∙ e) in
     let n = prefix_len is_ascii_hexdigit s.digits in
-    let h = bytes_by (ltb string_limit (n / 2)) (eqb (n % 2) 1 || begins_word (drop n s.digits)) (s.c ∷ s.d ∷ s.digits) (paired (take n s.digits), drop n s.digits) left read in
+    let h = bytes_by (ltb byte_limit (n / 2)) (eqb (n % 2) 1 || begins_word (drop n s.digits)) (s.c ∷ s.d ∷ s.digits) (paired (take n s.digits), drop n s.digits) left read in
     let all : n ≡ length s.digits = subst (λ (l : List ℕ). prefix_len is_ascii_hexdigit (drop 2 l) ≡ length (drop 2 l)) s.text_is reached in
     let none : begins_word (drop n s.digits) ≡ false = ap begins_word (drop_all n s.digits (omega (arith, all))) in
     let odd : n % 2 ≡ 1 = eqb-true (n % 2) 1 (or_end (eqb (n % 2) 1) (begins_word (drop n s.digits)) none h.1) in
@@ -148,7 +149,7 @@ is_odd text left e reached =
       reads = s.reads;
       all = all;
       odd = ap (λ (k : ℕ). k % 2) (sym all) ∙ odd;
-      short = omega (arith, ltb-false string_limit (n / 2) h.0, all);
+      short = omega (arith, ltb-false byte_limit (n / 2) h.0, all);
     }
 
 -- a run of digits and one more
@@ -190,7 +191,7 @@ odd_not_shown text o f e k =
     let none : begins_word (drop n zs) ≡ false = ap begins_word (drop_all n zs (omega (arith, whole))) in
     let even : eqb (n % 2) 1 ≡ false = ne_eqb (n % 2) 1 (λ h. omega (arith, h, more, o.odd)) in
     let fits : ◌≡◌ {A = Flaw} f (record { kind = BadBytes; left = f.left }) = ap (λ (x : TextKind). record { kind = x; left = f.left }) k in
-    let h = bytes_by (ltb string_limit (n / 2)) (eqb (n % 2) 1 || begins_word (drop n zs)) (o.c ∷ o.d ∷ zs) (paired (take n zs), drop n zs) f.left (read ∙ ap (λ (x : Flaw). Err x) fits) in
+    let h = bytes_by (ltb byte_limit (n / 2)) (eqb (n % 2) 1 || begins_word (drop n zs)) (o.c ∷ o.d ∷ zs) (paired (take n zs), drop n zs) f.left (read ∙ ap (λ (x : Flaw). Err x) fits) in
     clash (eqb (n % 2) 1) (begins_word (drop n zs)) even none h.1
   where
     clash : (a b : Bool) → a ≡ false → b ≡ false → (a || b) ≡ true → ⊥
@@ -216,8 +217,8 @@ odd_front text (x ∷ y ∷ zs) l o e f h =
     let whole : n ≡ length zs = all_front is_ascii_hexdigit zs (l ∷ []) all in
     let none : begins_word (drop n zs) ≡ false = ap begins_word (drop_all n zs (omega (arith, whole))) in
     let even : eqb (n % 2) 1 ≡ false = ne_eqb (n % 2) 1 (λ g. omega (arith, g, whole, count, o.odd)) in
-    let short : ltb string_limit (n / 2) ≡ false = le-ltb string_limit (n / 2) (omega (arith, o.short, whole, count)) in
-    okay_not (ltb string_limit (n / 2)) (eqb (n % 2) 1) (begins_word (drop n zs)) (o.c ∷ o.d ∷ zs) (paired (take n zs), drop n zs) f short even none read
+    let short : ltb byte_limit (n / 2) ≡ false = le-ltb byte_limit (n / 2) (omega (arith, o.short, whole, count)) in
+    okay_not (ltb byte_limit (n / 2)) (eqb (n % 2) 1) (begins_word (drop n zs)) (o.c ∷ o.d ∷ zs) (paired (take n zs), drop n zs) f short even none read
   where
     head : List ℕ → ℕ
     head [] = 0

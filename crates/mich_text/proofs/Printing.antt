@@ -7,10 +7,10 @@ use Rattle.std.proofs.lemmas.List.{take_at, drop_at}
 use Rattle.std.specs.List.{prefix_len}
 use Rattle.std.specs.Char.{is_ascii_hexdigit, is_ascii_digit, digit_value}
 use Rattle.std.specs.Str.Parse.{AllDigits, digits_value}
+use Rattle.rules_base.specs.Limits.{name_limit, byte_limit}
 use Rattle.rules_text.specs.Token.{Token}
 use Rattle.rules_text.specs.declared.Shape.TheVariants.{Digits, Word, Note}
 use Rattle.rules_text.specs.declared.TextKind.TheVariants.{BadNumber}
-use Rattle.rules_text.specs.Fault.{name_limit, string_limit}
 use Rattle.rules_text.specs.Lexical.{flaw, signed, annotation_at, shape_of, is_white, is_word, is_noted, begins_word, after_gap, name_at, spelt, with_byte, string_at, bytes_at, number_at, begins_bytes, paired, nibble, made, shape_at, first_shape, token_at}
 use Rattle.rules_text.specs.Printed.{spelling, string_text, hex_digit, bytes_text}
 use Rattle.rules_text.specs.Text.{Leads}
@@ -96,10 +96,10 @@ string_spelt : (s rest : List ℕ) → IsAll is_spelt s → spelt (string_text s
 string_spelt [] rest h = refl
 string_spelt (c ∷ s) rest h = ap spelt (append_assoc (spelling c) (string_text s) rest) ∙ spelling_again c (string_text s ++ rest) h.0 ∙ ap (with_byte c) (string_spelt s rest h.1)
 
-pub string_token : (s rest : List ℕ) → IsAll is_spelt s → length s ≤ string_limit → token_at (34 ∷ (string_text s ++ rest)) ≡ Ok (Token.string s, rest)
+pub string_token : (s rest : List ℕ) → IsAll is_spelt s → length s ≤ byte_limit → token_at (34 ∷ (string_text s ++ rest)) ≡ Ok (Token.string s, rest)
 unfolding token_at string_at
 string_token s rest h short =
-    let fits : ltb string_limit (length s) ≡ false = le-ltb _ _ short in
+    let fits : ltb byte_limit (length s) ≡ false = le-ltb _ _ short in
     rw (string_spelt s rest h, fits) refl
 
 -- ---- bytes
@@ -129,17 +129,17 @@ bytes_length : (b : List ℕ) → length (bytes_text b) ≡ 2 * length b
 bytes_length [] = refl
 bytes_length (c ∷ b) = omega (arith, bytes_length b)
 
-pub bytes_again : (b rest : List ℕ) → IsAll (λ c. ltb c 256) b → length b ≤ string_limit → IsApart rest → bytes_at (48 ∷ 120 ∷ (bytes_text b ++ rest)) ≡ Ok (b, rest)
+pub bytes_again : (b rest : List ℕ) → IsAll (λ c. ltb c 256) b → length b ≤ byte_limit → IsApart rest → bytes_at (48 ∷ 120 ∷ (bytes_text b ++ rest)) ≡ Ok (b, rest)
 unfolding bytes_at
 bytes_again b rest h short a =
     let n = length (bytes_text b) in
     let run : prefix_len is_ascii_hexdigit (bytes_text b ++ rest) ≡ n = run_ends is_ascii_hexdigit (bytes_text b) rest (hexes b h) hex_apart a in
     let half : n / 2 ≡ length b = omega (arith, bytes_length b) in
     let even : n % 2 ≡ 0 = omega (arith, bytes_length b) in
-    let fits : ltb string_limit (length b) ≡ false = le-ltb _ _ short in
+    let fits : ltb byte_limit (length b) ≡ false = le-ltb _ _ short in
     rw (run, take_at (bytes_text b) rest n refl, drop_at (bytes_text b) rest n refl, half, even, fits, no_word rest a, pairs_again b h) refl
 
-pub bytes_token : (b rest : List ℕ) → IsAll (λ c. ltb c 256) b → length b ≤ string_limit → IsApart rest → token_at (48 ∷ 120 ∷ (bytes_text b ++ rest)) ≡ Ok (Token.bytes b, rest)
+pub bytes_token : (b rest : List ℕ) → IsAll (λ c. ltb c 256) b → length b ≤ byte_limit → IsApart rest → token_at (48 ∷ 120 ∷ (bytes_text b ++ rest)) ≡ Ok (Token.bytes b, rest)
 unfolding token_at
 bytes_token b rest h short a = ap (made Token.bytes) (bytes_again b rest h short a)
 

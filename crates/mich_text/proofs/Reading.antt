@@ -1,5 +1,6 @@
 -- What the text is, from what the parser has read of it.
 use Rattle.std.proofs.Common.{◌≡◌, ℕ, ◌≤◌, ◌<◌, ◌⊎◌, List, [], ◌∷◌, ◌++◌, length, Option, Some, None, Ok, Err, refl, sym, ap, subst, ◌∙◌, append_assoc, arith, inl, inr}
+use Rattle.rules_base.specs.Limits.{depth_limit}
 use Rattle.rules_text.specs.Token.{Token, token_shape}
 use Rattle.rules_text.specs.Syntax.{IsFront, IsFrontWithin}
 use Rattle.mich_text.specs.Machine.{Stack, run, start}
@@ -10,7 +11,6 @@ use Rattle.rules_text.specs.declared.Shape.{Shape}
 use Rattle.rules_text.specs.Fault.{Flaw}
 use Rattle.rules_text.specs.declared.TextKind.{TextKind}
 use Rattle.rules_text.specs.declared.TextKind.TheVariants.{Unclosed, Unexpected, TooDeep}
-use Rattle.rules_text.specs.Fault.{depth_limit}
 use Rattle.mich_text.proofs.Places.{no_token, gap_le, token_shorter, token_shape_is, okay_is}
 use Rattle.mich_text.proofs.Fronts.{run_split, is_front_within, is_front}
 use Rattle.mich_text.proofs.Whole.{NoStatement}

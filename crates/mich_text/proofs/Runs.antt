@@ -1,8 +1,8 @@
 -- A node that a text gives is no deeper than the limit, and its line is read again.
 use Rattle.std.proofs.Common.{◌≡◌, ℕ, ◌≤◌, ◌<◌, ◌⊎◌, inl, inr, List, [], ◌∷◌, ◌++◌, length, Option, Some, None, Result, Ok, Err, refl, sym, ap, subst, ◌∙◌, append_assoc, arith}
 use Rattle.std.specs.List.{AllByRecursion}
+use Rattle.rules_base.specs.Limits.{depth_limit, statement_limit}
 use Rattle.rules_base.specs.Tree.{Tree, depth}
-use Rattle.rules_text.specs.Fault.{depth_limit, statement_limit}
 use Rattle.rules_text.specs.Token.{Token, token_shape}
 use Rattle.rules_text.specs.Syntax.{Element, element_tokens, element_tree, element_depth, nothing, unended, IsFront}
 use Rattle.rules_text.specs.Lexical.{token_at}

@@ -6,12 +6,13 @@ use Rattle.std.proofs.lemmas.List.Sums.{prefix_len-le-length}
 use Rattle.std.specs.List.{prefix_len}
 use Rattle.std.specs.Char.{is_ascii_digit, is_ascii_hexdigit}
 use Rattle.std.specs.Str.Parse.{digits_value}
+use Rattle.rules_base.specs.Limits.{name_limit, byte_limit}
 use Rattle.rules_text.specs.Token.{Token, string, name, annotation, number, bytes}
 use Rattle.rules_text.specs.declared.TextKind.{TextKind}
 use Rattle.rules_text.specs.declared.TextKind.TheVariants.{BadChar, BadString, BadBytes, BadNumber, Unclosed, TooLong}
 use Rattle.rules_text.specs.declared.Shape.{Shape}
 use Rattle.rules_text.specs.declared.Shape.TheVariants.{Digits, Quoted, Word, Note, OpenBrace, CloseBrace, OpenParen, CloseParen, Semicolon}
-use Rattle.rules_text.specs.Fault.{Flaw, name_limit, string_limit}
+use Rattle.rules_text.specs.Fault.{Flaw}
 use Rattle.rules_text.specs.Lexical.{flaw, is_word, is_noted, begins_word, name_at, annotation_at, Spelt, spelt, spelt_escape, with_byte, with_escape, escaped, string_at, ◌>>=◌, bytes_at, paired, number_at, signed, made, begins_bytes, shape_at, shape_of, token_at}
 use Rattle.mich_text.specs.Shown.{Counts}
 use Rattle.mich_text.proofs.Stable.{prefix_stable, prefix_grows}
@@ -95,34 +96,34 @@ mutual
   behind_stays (c ∷ rest) more = stays_escape (escaped c) more (92 ∷ c ∷ rest) (92 ∷ c ∷ (rest ++ more)) (spelt rest) (spelt (rest ++ more)) (omega (arith, length-append rest more)) (spelt_stays rest more)
 
 abbrev string_of : List ℕ → Spelt → Result (List ℕ × List ℕ) Flaw
-string_of text s = cond (ltb string_limit (length s.text)) (flaw TooLong text) (s.end >>= λ rest. Ok (s.text, rest))
+string_of text s = cond (ltb byte_limit (length s.text)) (flaw TooLong text) (s.end >>= λ rest. Ok (s.text, rest))
 
 not_unclosed : (text : List ℕ) (kind : TextKind) → Counts text kind → kind ≡ Unclosed → ⊥
 not_unclosed text kind c e = subst (Counts text) e c
 
-string_ends : (text more : List ℕ) (spelling : List ℕ) (end : Result (List ℕ) Flaw) (again : Spelt) → ltb string_limit (length spelling) ≡ false → Stays more (record { text = spelling; end = end }) again
+string_ends : (text more : List ℕ) (spelling : List ℕ) (end : Result (List ℕ) Flaw) (again : Spelt) → ltb byte_limit (length spelling) ≡ false → Stays more (record { text = spelling; end = end }) again
     → IsShown text more (end >>= λ rest. Ok (spelling, rest)) (string_of (text ++ more) again)
 string_ends text more spelling (Ok rest) again h p = tt
 string_ends text more spelling (Err f) again h p =
     λ c. ap (string_of (text ++ more)) (p.1 f refl (not_unclosed text f.kind c)) ∙ ap (λ (t : Bool). cond {A = Result (List ℕ × List ℕ) Flaw} t (flaw TooLong (text ++ more)) (Err (moved (length more) f))) h
 
-string_by : (t : Bool) (text more : List ℕ) (s again : Spelt) → ltb string_limit (length s.text) ≡ t → Stays more s again
+string_by : (t : Bool) (text more : List ℕ) (s again : Spelt) → ltb byte_limit (length s.text) ≡ t → Stays more s again
     → IsShown text more (cond t (flaw TooLong text) (s.end >>= λ rest. Ok (s.text, rest))) (string_of (text ++ more) again)
 string_by true text more s again h p =
-    λ _. ap (λ (t : Bool). cond {A = Result (List ℕ × List ℕ) Flaw} t (flaw TooLong (text ++ more)) (again.end >>= λ rest. Ok (again.text, rest))) (lt-ltb string_limit (length again.text) (omega (arith, p.0, ltb-true string_limit (length s.text) h))) ∙ at_first TooLong text more
+    λ _. ap (λ (t : Bool). cond {A = Result (List ℕ × List ℕ) Flaw} t (flaw TooLong (text ++ more)) (again.end >>= λ rest. Ok (again.text, rest))) (lt-ltb byte_limit (length again.text) (omega (arith, p.0, ltb-true byte_limit (length s.text) h))) ∙ at_first TooLong text more
 string_by false text more s again h p = string_ends text more s.text s.end again h p
 
 string_shown : (c : ℕ) (xs more : List ℕ) → IsShown (c ∷ xs) more (string_at (c ∷ xs)) (string_at (c ∷ (xs ++ more)))
 unfolding string_at
-string_shown c xs more = string_by (ltb string_limit (length (spelt xs).text)) (c ∷ xs) more (spelt xs) (spelt (xs ++ more)) refl (spelt_stays xs more)
+string_shown c xs more = string_by (ltb byte_limit (length (spelt xs).text)) (c ∷ xs) more (spelt xs) (spelt (xs ++ more)) refl (spelt_stays xs more)
 
 -- ---- bytes
 
-half_grows : (n m : ℕ) → n ≤ m → string_limit < n / 2 → string_limit < m / 2
+half_grows : (n m : ℕ) → n ≤ m → byte_limit < n / 2 → byte_limit < m / 2
 half_grows n m h g = omega (arith, h, g)
 
 abbrev bytes_of : List ℕ → ℕ → List ℕ → List ℕ → Result (List ℕ × List ℕ) Flaw
-bytes_of text n front rest = cond (ltb string_limit (n / 2)) (flaw TooLong text) (cond (eqb (n % 2) 1 || begins_word rest) (flaw BadBytes text) (Ok (paired front, rest)))
+bytes_of text n front rest = cond (ltb byte_limit (n / 2)) (flaw TooLong text) (cond (eqb (n % 2) 1 || begins_word rest) (flaw BadBytes text) (Ok (paired front, rest)))
 
 -- the same run, with a byte behind it
 bytes_same : (b d : Bool) (text more : List ℕ) (x y : List ℕ × List ℕ) → IsShown text more (cond b (flaw TooLong text) (cond d (flaw BadBytes text) (Ok x))) (cond b (flaw TooLong (text ++ more)) (cond d (flaw BadBytes (text ++ more)) (Ok y)))
@@ -136,13 +137,13 @@ bytes_inside c d xs more n lt [] e m same = absurd (omega (arith, length-drop n 
 bytes_inside c d xs more n lt (x ∷ rest) e m same =
     let front : take n (xs ++ more) ≡ take n xs = take-append-le n xs more (omega (arith, lt)) in
     let back : drop n (xs ++ more) ≡ x ∷ (rest ++ more) = drop-append-le n xs more (omega (arith, lt)) ∙ ap (λ l. l ++ more) e in
-    rw (same, front, back, e) (bytes_same (ltb string_limit (n / 2)) (eqb (n % 2) 1 || is_word x) (c ∷ d ∷ xs) more (paired (take n xs), x ∷ rest) (paired (take n xs), x ∷ (rest ++ more)))
+    rw (same, front, back, e) (bytes_same (ltb byte_limit (n / 2)) (eqb (n % 2) 1 || is_word x) (c ∷ d ∷ xs) more (paired (take n xs), x ∷ rest) (paired (take n xs), x ∷ (rest ++ more)))
 
 -- a run that reaches the end shows only that it is too long
-bytes_end : (t u : Bool) (c d : ℕ) (xs more : List ℕ) (n m : ℕ) (x : List ℕ × List ℕ) (front rest : List ℕ) → n ≡ prefix_len is_ascii_hexdigit xs → ltb string_limit (n / 2) ≡ t → n ≤ m → length xs ≤ n
+bytes_end : (t u : Bool) (c d : ℕ) (xs more : List ℕ) (n m : ℕ) (x : List ℕ × List ℕ) (front rest : List ℕ) → n ≡ prefix_len is_ascii_hexdigit xs → ltb byte_limit (n / 2) ≡ t → n ≤ m → length xs ≤ n
     → IsShown (c ∷ d ∷ xs) more (cond t (flaw TooLong (c ∷ d ∷ xs)) (cond u (flaw BadBytes (c ∷ d ∷ xs)) (Ok x))) (bytes_of (c ∷ d ∷ (xs ++ more)) m front rest)
 bytes_end true u c d xs more n m x front rest same h g reached =
-    λ _. ap (λ (t : Bool). cond {A = Result (List ℕ × List ℕ) Flaw} t (flaw TooLong (c ∷ d ∷ (xs ++ more))) (cond (eqb (m % 2) 1 || begins_word rest) (flaw BadBytes (c ∷ d ∷ (xs ++ more))) (Ok (paired front, rest)))) (lt-ltb string_limit (m / 2) (half_grows n m g (ltb-true string_limit (n / 2) h)))
+    λ _. ap (λ (t : Bool). cond {A = Result (List ℕ × List ℕ) Flaw} t (flaw TooLong (c ∷ d ∷ (xs ++ more))) (cond (eqb (m % 2) 1 || begins_word rest) (flaw BadBytes (c ∷ d ∷ (xs ++ more))) (Ok (paired front, rest)))) (lt-ltb byte_limit (m / 2) (half_grows n m g (ltb-true byte_limit (n / 2) h)))
     ∙ at_first TooLong (c ∷ d ∷ xs) more
 bytes_end false true c d xs more n m x front rest same h g reached = λ inside. absurd (omega (arith, inside, same, reached))
 bytes_end false false c d xs more n m x front rest same h g reached = tt
@@ -158,7 +159,7 @@ bytes_shown c d xs more = by (ltb n (length xs)) refl where
 
   by : (b : Bool) → ltb n (length xs) ≡ b → IsShown (c ∷ d ∷ xs) more (bytes_of (c ∷ d ∷ xs) n (take n xs) (drop n xs)) (bytes_of (c ∷ d ∷ (xs ++ more)) m (take m (xs ++ more)) (drop m (xs ++ more)))
   by true e = bytes_inside c d xs more n (ltb-true n (length xs) e) (drop n xs) refl m (prefix_stable is_ascii_hexdigit xs more (ltb-true n (length xs) e))
-  by false e = bytes_end (ltb string_limit (n / 2)) (eqb (n % 2) 1 || begins_word (drop n xs)) c d xs more n m (paired (take n xs), drop n xs) (take m (xs ++ more)) (drop m (xs ++ more)) refl refl (prefix_grows is_ascii_hexdigit xs more) (ltb-false n (length xs) e)
+  by false e = bytes_end (ltb byte_limit (n / 2)) (eqb (n % 2) 1 || begins_word (drop n xs)) c d xs more n m (paired (take n xs), drop n xs) (take m (xs ++ more)) (drop m (xs ++ more)) refl refl (prefix_grows is_ascii_hexdigit xs more) (ltb-false n (length xs) e)
 
 -- ---- numbers
 

@@ -1,6 +1,7 @@
 -- No statement holds a `;` outside its brackets, and so none begins with another and its `;`.
 use Rattle.std.proofs.Common.{◌≡◌, ℕ, zero, suc, ◌≤◌, false, List, [], ◌∷◌, ◌++◌, length, Some, refl, sym, ap, subst, ◌∙◌, append_assoc, arith}
 use Rattle.std.proofs.lemmas.List.{append-nil}
+use Rattle.rules_base.specs.Limits.{depth_limit}
 use Rattle.rules_base.specs.Tree.{Tree}
 use Rattle.rules_text.specs.Token.{Token}
 use Rattle.rules_text.specs.Syntax.{Node, number, bytes, string, parens, braces, braces_to, Items, no_items, with_annotation, with_name, with_node, Element, alone, application, Separated, nothing, followed, node_tokens, item_tokens, element_tokens, separated_tokens, element_depth}
@@ -9,7 +10,6 @@ use Rattle.rules_text.specs.Lexical.{after_gap}
 use Rattle.mich_text.specs.Plain.{IsNode}
 use Rattle.rules_text.specs.Printed.{printed}
 use Rattle.mich_text.specs.Canonical.{element_of}
-use Rattle.rules_text.specs.Fault.{depth_limit}
 use Rattle.mich_text.proofs.Complete.{element_runs}
 use Rattle.mich_text.proofs.Whole.{NoStatement}
 use Rattle.mich_text.proofs.Reading.{At}

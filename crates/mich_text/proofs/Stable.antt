@@ -4,13 +4,13 @@ use Rattle.std.proofs.lemmas.List.{take-append-le, drop-append-le, length-drop}
 use Rattle.std.specs.List.{prefix_len}
 use Rattle.std.specs.Char.{is_ascii_digit, is_ascii_hexdigit}
 use Rattle.std.specs.Str.Parse.{digits_value}
+use Rattle.rules_base.specs.Limits.{name_limit, byte_limit}
 use Rattle.mich_text.proofs.Places.{IsAhead, number_ahead}
 use Rattle.rules_text.specs.Token.{Token, string, name, annotation, number, bytes}
 use Rattle.rules_text.specs.declared.Shape.{Shape}
 use Rattle.rules_text.specs.declared.Shape.TheVariants.{Digits, Quoted, Word, Note, OpenBrace, CloseBrace, OpenParen, CloseParen, Semicolon}
 use Rattle.rules_text.specs.declared.TextKind.TheVariants.{BadString, BadBytes, BadNumber, TooLong}
 use Rattle.rules_text.specs.Fault.{Flaw}
-use Rattle.rules_text.specs.Fault.{name_limit, string_limit}
 use Rattle.rules_text.specs.Lexical.{flaw, is_word, is_noted, begins_word, name_at, annotation_at, Spelt, spelt, spelt_escape, with_byte, with_escape, escaped, string_at, ◌>>=◌, bytes_at, paired, number_at, signed, made, digits_at, begins_bytes, shape_at, shape_of, token_at}
 
 -- what was read with a byte behind it is read again with more bytes at the end
@@ -110,11 +110,11 @@ mutual
   behind_stable (c ∷ rest) more = closed_escape (escaped c) more (92 ∷ c ∷ rest) (92 ∷ c ∷ (rest ++ more)) (spelt rest) (spelt (rest ++ more)) (spelt_stable rest more)
 
 string_by : (more text : List ℕ) (end : Result (List ℕ) Flaw) (again : Spelt) (d e : Flaw) → EndsSame more end text again
-    → IsStable more (cond (ltb string_limit (length text)) (Err d) (end >>= λ rest. Ok (text, rest))) (cond (ltb string_limit (length again.text)) (Err e) (again.end >>= λ rest. Ok (again.text, rest)))
-string_by more text (Ok []) again d e p = limited_end (ltb string_limit (length text)) more d text _
-string_by more text (Ok (c ∷ rest)) again d e p = rw p (limited (ltb string_limit (length text)) more d e text c rest)
-string_by more text (Err f) again d e p = unclosed (ltb string_limit (length text)) where
-  unclosed : (b : Bool) → IsStable more (cond b (Err d) (Err f)) (cond (ltb string_limit (length again.text)) (Err e) (again.end >>= λ rest. Ok (again.text, rest)))
+    → IsStable more (cond (ltb byte_limit (length text)) (Err d) (end >>= λ rest. Ok (text, rest))) (cond (ltb byte_limit (length again.text)) (Err e) (again.end >>= λ rest. Ok (again.text, rest)))
+string_by more text (Ok []) again d e p = limited_end (ltb byte_limit (length text)) more d text _
+string_by more text (Ok (c ∷ rest)) again d e p = rw p (limited (ltb byte_limit (length text)) more d e text c rest)
+string_by more text (Err f) again d e p = unclosed (ltb byte_limit (length text)) where
+  unclosed : (b : Bool) → IsStable more (cond b (Err d) (Err f)) (cond (ltb byte_limit (length again.text)) (Err e) (again.end >>= λ rest. Ok (again.text, rest)))
   unclosed true = tt
   unclosed false = tt
 
@@ -137,11 +137,11 @@ two_tests_end false false more u v x again = tt
 bytes_stable : (c d : ℕ) (xs more : List ℕ) → IsStable more (bytes_at (c ∷ d ∷ xs)) (bytes_at (c ∷ d ∷ (xs ++ more)))
 unfolding bytes_at
 bytes_stable c d xs more = run_stable
-    (λ n front rest. cond (ltb string_limit (n / 2)) (flaw TooLong (c ∷ d ∷ xs)) (cond (eqb (n % 2) 1 || begins_word rest) (flaw BadBytes (c ∷ d ∷ xs)) (Ok (paired front, rest))))
-    (λ n front rest. cond (ltb string_limit (n / 2)) (flaw TooLong (c ∷ d ∷ (xs ++ more))) (cond (eqb (n % 2) 1 || begins_word rest) (flaw BadBytes (c ∷ d ∷ (xs ++ more))) (Ok (paired front, rest))))
+    (λ n front rest. cond (ltb byte_limit (n / 2)) (flaw TooLong (c ∷ d ∷ xs)) (cond (eqb (n % 2) 1 || begins_word rest) (flaw BadBytes (c ∷ d ∷ xs)) (Ok (paired front, rest))))
+    (λ n front rest. cond (ltb byte_limit (n / 2)) (flaw TooLong (c ∷ d ∷ (xs ++ more))) (cond (eqb (n % 2) 1 || begins_word rest) (flaw BadBytes (c ∷ d ∷ (xs ++ more))) (Ok (paired front, rest))))
     is_ascii_hexdigit xs more
-    (λ n front e rest. two_tests (ltb string_limit (n / 2)) (eqb (n % 2) 1 || begins_word (e ∷ rest)) more _ _ _ _ (paired front) e rest)
-    (λ n front again. two_tests_end (ltb string_limit (n / 2)) (eqb (n % 2) 1 || begins_word []) more _ _ (paired front) again)
+    (λ n front e rest. two_tests (ltb byte_limit (n / 2)) (eqb (n % 2) 1 || begins_word (e ∷ rest)) more _ _ _ _ (paired front) e rest)
+    (λ n front again. two_tests_end (ltb byte_limit (n / 2)) (eqb (n % 2) 1 || begins_word []) more _ _ (paired front) again)
 
 digits_stable_by : (minus : Bool) (text xs more : List ℕ) → let most = cond minus (2 ^ 127) (2 ^ 127 - 1) in
     IsStable more

@@ -1,6 +1,7 @@
 -- One token, from what each part of the code says of it.
 use Rattle.std.proofs.Common.{◌≡◌, ℕ, ◌<◌, Bool, true, false, cond, eqb, List, [], ◌∷◌, length, get_or, Option, Some, None, Result, Ok, Err, refl, sym, ap, subst, ◌∙◌, arith}
 use Rattle.std.proofs.lemmas.Bool.{eqb-true, eqb-false}
+use Rattle.rules_base.specs.Limits.{depth_limit}
 use Rattle.rules_text.specs.Token.{Token, token_shape}
 use Rattle.mich_text.specs.Machine.{Stack, Refusal, finish, has_statement, ready_for, refused, put, step}
 use Rattle.rules_text.specs.Lexical.{token_at, first_shape, shape_of}
@@ -12,7 +13,6 @@ use Rattle.mich_text.specs.declared.fault.LexError.TheVariants as errors
 use Rattle.rules_text.specs.declared.TextKind.TheVariants.{BadChar}
 use Rattle.mich_text.specs.declared.plain.Step.{Step as CodeStep}
 use Rattle.mich_text.specs.declared.plain.Step.TheVariants.{Taken, Statement}
-use Rattle.rules_text.specs.Fault.{depth_limit}
 use Rattle.mich_text.proofs.Places.{token_shape_is}
 use Rattle.mich_text.proofs.Fronts.{step_ok}
 use Rattle.mich_text.proofs.Verdict.{clash, err_is}

@@ -1,7 +1,7 @@
 -- A text without a limit byte.
 use Rattle.std.proofs.Common.{◌≡◌, ℕ, ◌+◌, ◌≤◌, ◌<◌, ◌⊎◌, inl, inr, List, length, arith}
+use Rattle.rules_base.specs.Limits.{statement_limit}
 use Rattle.rules_base.specs.Tree.{Tree}
-use Rattle.rules_text.specs.Fault.{statement_limit}
 use Rattle.rules_text.specs.declared.TextKind.{TextKind}
 use Rattle.rules_text.specs.Text.{IsLimit, IsFault, IsNode, IsEnd, rank}
 use Rattle.rules_text.specs.Text as within

@@ -1,6 +1,7 @@
 -- Each way in which the reader ends, and what the text then is.
 use Rattle.std.proofs.Common.{◌≡◌, ℕ, ◌≤◌, ◌<◌, ◌⊎◌, true, false, List, [], ◌∷◌, ◌++◌, length, Option, Some, None, Result, Ok, Err, pos, refl, sym, ap, subst, ◌∙◌, arith, inl, inr}
 use Rattle.std.proofs.lemmas.List.{append-nil}
+use Rattle.rules_base.specs.Limits.{depth_limit}
 use Rattle.rules_base.specs.Tree.{Tree}
 use Rattle.rules_text.specs.Token.{Token, token_shape}
 use Rattle.rules_text.specs.Syntax.{IsFront, IsFrontWithin, IsWhole, unended, nothing, element_tokens}
@@ -13,7 +14,6 @@ use Rattle.rules_text.specs.declared.Shape.TheVariants.{Digits, Quoted, Word, No
 use Rattle.rules_text.specs.Fault.{Flaw}
 use Rattle.rules_text.specs.declared.TextKind.{TextKind}
 use Rattle.rules_text.specs.declared.TextKind.TheVariants.{Unclosed, Unexpected, TooDeep}
-use Rattle.rules_text.specs.Fault.{depth_limit}
 use Rattle.mich_text.proofs.Places.{gap_le, token_shorter, flaw_le, token_shape_is, okay_is}
 use Rattle.mich_text.proofs.Fronts.{step_ok, run_more, is_front_within, is_front, no_front, no_front_within, deeper_front}
 use Rattle.mich_text.proofs.Whole.{NoStatement, is_statement, whole_is_root, is_nothing}

@@ -3,8 +3,8 @@ use Rattle.std.proofs.Common.{◌≡◌, ℕ, ◌≤◌, Bool, true, false, ◌&
 use Rattle.std.specs.Prelude.{pos, negsuc}
 use Rattle.std.specs.Fmt.{signed_decimal}
 use Rattle.std.specs.List.{AllByRecursion, list_all}
+use Rattle.rules_base.specs.Limits.{depth_limit, statement_limit}
 use Rattle.rules_base.specs.Tree.{Tree, int, str, bytes, prim, seq, Trees, none, more, depth}
-use Rattle.rules_text.specs.Fault.{depth_limit, statement_limit}
 use Rattle.rules_text.specs.Lexical.{is_word, is_noted}
 use Rattle.rules_text.specs.Printed.{printed}
 use Rattle.rules_text.specs.Text.{IsNode}

@@ -1,5 +1,6 @@
 -- What the reader's functions return.
 use Rattle.std.specs.Prelude.{◌≡◌, ℕ, ◌+◌, ◌≤◌, ◌<◌, List, [], length, drop, Bool, true, false, nat_eq, Option, Some, None, Result, Ok, Err, if◌then◌else◌}
+use Rattle.rules_base.specs.Limits.{depth_limit}
 use Rattle.rules_base.specs.Tree.{size}
 use Rattle.rules_text.specs.Token.{Token}
 use Rattle.mich_text.specs.Machine.{Stack, Refusal, unexpected, too_deep, finish, has_statement, ready_for, refused, put, step}
@@ -21,7 +22,6 @@ use Rattle.mich_text.specs.declared.fault.TextError.{TextError}
 use Rattle.mich_text.specs.declared.fault.TextError.TheVariants as texts
 use Rattle.mich_text.specs.declared.plain.Step.{Step as CodeStep}
 use Rattle.mich_text.specs.declared.plain.Step.TheVariants.{Taken, Statement}
-use Rattle.rules_text.specs.Fault.{depth_limit}
 
 abbrev pub kind_of : Refusal → TextKind
 kind_of unexpected = Unexpected

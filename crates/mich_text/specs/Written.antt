@@ -1,8 +1,8 @@
 -- The nodes that a text can give (Octez "Micheline", its concrete syntax, within the limits of a token).
 use Rattle.std.specs.Prelude.{◌≡◌, ◌^◌, ◌<◌, ◌≤◌, ◌==◌, ◌&&◌, ◌||◌, ℕ, ℤ, pos, negsuc, Bool, true, nat_le, nat_lt, List, [], ◌∷◌, length, drop, Some}
 use Rattle.std.specs.List.{list_all}
+use Rattle.rules_base.specs.Limits.{name_limit, byte_limit, depth_limit}
 use Rattle.rules_base.specs.Tree.{Tree, int, str, bytes, prim, seq, Trees, none, more, depth}
-use Rattle.rules_text.specs.Fault.{name_limit, string_limit, depth_limit}
 use Rattle.rules_text.specs.Lexical.{is_word, is_noted, first_shape}
 use Rattle.rules_text.specs.declared.Shape.TheVariants.{Word, Note}
 
@@ -16,13 +16,13 @@ abbrev pub is_text : ℕ → Bool
 is_text c = (nat_le 32 c && nat_le c 126) || (c == 10 || (c == 9 || (c == 8 || c == 13)))
 
 abbrev pub IsString : List ℕ → Type 0
-IsString s = (list_all is_text s ≡ true) × (length s ≤ string_limit)
+IsString s = (list_all is_text s ≡ true) × (length s ≤ byte_limit)
 
 abbrev pub is_byte : ℕ → Bool
 is_byte c = nat_lt c 256
 
 abbrev pub IsBytes : List ℕ → Type 0
-IsBytes b = (list_all is_byte b ≡ true) × (length b ≤ string_limit)
+IsBytes b = (list_all is_byte b ≡ true) × (length b ≤ byte_limit)
 
 -- begins with a letter or `_`
 abbrev pub IsName : List ℕ → Type 0

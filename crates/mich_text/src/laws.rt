@@ -1,8 +1,8 @@
 //! Laws of texts and of printed lines.
 ghost use Rattle.std.specs.Prelude.{◌≡◌, ◌≤◌, ℕ, List, length, true};
 ghost use Rattle.std.specs.List.{list_all};
+ghost use Rattle.rules_base.specs.Limits.{statement_limit};
 ghost use Rattle.rules_base.specs.Tree.{Tree};
-ghost use Rattle.rules_text.specs.Fault.{statement_limit};
 ghost use Rattle.rules_text.specs.Printed.{printed};
 ghost use Rattle.rules_text.specs.Text.{Stands, IsFault, IsNode, IsEnd};
 ghost use Rattle.rules_text.specs.declared.TextKind.{TextKind};

@@ -4,7 +4,7 @@ ghost use Rattle.std.specs.List.{prefix_len, AllPass};
 ghost use Rattle.rules_text.specs.Lexical.{digits_at, number_at, is_minus, token_at, signed, shape_of, begins_bytes, opens, closes, bytes_at, paired, nibble, is_word, is_noted, is_white, begins_word, after_gap, after_line, after_block, name_at, annotation_at, string_at, spelt, spelt_escape, escaped};
 ghost use Rattle.std.specs.Char.{is_ascii_hexdigit, is_ascii_digit};
 ghost use Rattle.std.specs.Str.Parse.{digits_value};
-ghost use Rattle.rules_text.specs.Fault.{name_limit, string_limit};
+ghost use Rattle.rules_base.specs.Limits.{name_limit, byte_limit};
 ghost use Rattle.mich_text.specs.Gives.{Gives, flaw_view};
 ghost use Rattle.mich_text.specs.Views.{token_view};
 ghost use Rattle.mich_text.specs.Units.{spelt_by, IsBehind, after_block_by, IsInBlock};

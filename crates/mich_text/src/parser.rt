@@ -1,11 +1,11 @@
 //! The stack of open nodes.
 ghost use Rattle.std.specs.Prelude.{◌≡◌, ◌∷◌, [], option_map, map, length, IsTrue, OnOk, IfOk, Ok, None, true};
+ghost use Rattle.rules_base.specs.Limits.{depth_limit};
 ghost use Rattle.rules_base.specs.Tree.{Tree, prim};
 ghost use Rattle.rules_text.specs.Token.{token_shape};
 ghost use Rattle.mich_text.specs.Machine.{Stack, add, finish, on, refused, put, put_name, put_annotation, close_named, close_elements, go_on, no_begin, is_open, has_statement, is_root, start, ended_tree};
 ghost use Rattle.mich_text.specs.Views.{token_view};
 ghost use Rattle.mich_base.specs.View.{tree};
-ghost use Rattle.rules_text.specs.Fault.{depth_limit};
 ghost use Rattle.mich_text.specs.Nodes.{frame_view, stack_view, refusal_view};
 
 use super::DEPTH_LIMIT;

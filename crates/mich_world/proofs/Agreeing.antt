@@ -10,8 +10,7 @@ use Rattle.std.specs.Map.{lookup, values_of, keys_of}
 use Rattle.std.proofs.lemmas.Cmp.{nat_list_cmp_total}
 use Rattle.rules_evaluation.specs.Contracts.{hash_in}
 use Rattle.rules_evaluation.specs.Surroundings.{Contract as PlainContract}
-use Rattle.rules_typing.specs.Fits.{is_place}
-use Rattle.rules_values.specs.ByteForms.{is_implicit}
+use Rattle.rules_forms.specs.Spelling.{is_implicit, is_place}
 use Rattle.rules_values.specs.Tickets.{Identity}
 use Rattle.rules_world.specs.Balances as rules
 use Rattle.rules_world.specs.Forms.{IsWorld}

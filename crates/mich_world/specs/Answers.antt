@@ -1,6 +1,6 @@
 -- What the calls answer, and what becomes of the holders then.
 use Rattle.std.specs.Prelude.{◌≡◌, ◌+◌, ◌<◌, ◌≤◌, ℕ, true, false, is_some, List, Result, Ok, Err}
-use Rattle.rules_world.specs.Balances.{most_mutez}
+use Rattle.rules_base.specs.Limits.{most_mutez}
 use Rattle.mich_forms.specs.declared.places.Place.{Place}
 use Rattle.mich_forms.specs.declared.places.Place.TheVariants as place
 use Rattle.mich_instr.specs.declared.instr.Script.{Script}

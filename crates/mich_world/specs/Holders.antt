@@ -7,7 +7,7 @@ use Rattle.std.specs.Cmp.Lexicographic.{slice_cmp}
 use Rattle.std.specs.BTreeMap.{is_at, insert_entry}
 use Rattle.std.specs.List.{sum_by}
 use Rattle.std.specs.Map.{lookup, values_of}
-use Rattle.rules_world.specs.Balances.{most_mutez}
+use Rattle.rules_base.specs.Limits.{most_mutez}
 use Rattle.mich_forms.specs.declared.places.Place.{Place}
 use Rattle.mich_forms.specs.declared.places.Place.TheVariants as place
 use Rattle.mich_term.specs.declared.value.Value.{Value}

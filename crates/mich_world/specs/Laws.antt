@@ -1,7 +1,6 @@
 -- The laws of marks, and of the world of the definitions that a world stands for.
 use Rattle.std.specs.Prelude.{◌≡◌, ℕ, true, List}
-use Rattle.rules_forms.specs.Spelling.{implicit_place}
-use Rattle.rules_typing.specs.Fits.{is_place}
+use Rattle.rules_forms.specs.Spelling.{implicit_place, is_place}
 use Rattle.rules_world.specs.Balances as rules
 use Rattle.rules_world.specs.Forms.{IsWorld}
 use Rattle.rules_world.specs.World.{World as PlainWorld}

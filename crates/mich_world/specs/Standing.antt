@@ -1,7 +1,7 @@
 -- The world of the definitions that a world of the code stands for.
 use Rattle.std.specs.Prelude.{◌≡◌, ℕ, true, List, map}
 use Rattle.rules_evaluation.specs.Surroundings.{Contract as PlainContract}
-use Rattle.rules_typing.specs.Fits.{is_place}
+use Rattle.rules_forms.specs.Spelling.{is_place}
 use Rattle.rules_values.specs.Tickets.{Identity}
 use Rattle.rules_world.specs.Holdings.{held_by, minted_ever, burnt_ever}
 use Rattle.rules_world.specs.World.{World as PlainWorld, Account}

@@ -1,6 +1,6 @@
 // Moves of mutez, all or nothing.
 ghost use Rattle.std.specs.Prelude.{◌≡◌, ◌+◌, ◌≤◌, true, false, is_some, unwrap_or, IfOk, OnErr, OnOk, ℕ, List};
-ghost use Rattle.rules_world.specs.Balances.{most_mutez};
+ghost use Rattle.rules_base.specs.Limits.{most_mutez};
 ghost use Rattle.mich_forms.specs.declared.places.Place.TheVariants as place;
 ghost use Rattle.mich_undo.specs.History.{grown, Keeps};
 ghost use Rattle.mich_world.specs.Answers.{IsGrant, IsMove, IsFee};

@@ -1,6 +1,7 @@
 -- What encoding gives for a node: its spelling, or why it is refused.
 use Rattle.std.specs.Prelude.{ℕ, List, length, Bool, false, Option, Some, None, is_none, Result, Ok, Err, nat_lt, if◌then◌else◌}
 use Rattle.std.specs.List.{position}
+use Rattle.rules_base.specs.Limits.{encoded_limit}
 use Rattle.rules_base.specs.Tree.{Tree, int, str, bytes, prim, seq, preorder}
 use Rattle.rules_base.specs.Primitives.{code_of_name}
 use Rattle.rules_binary.specs.Spelling.{spelling}
@@ -9,10 +10,6 @@ use Rattle.rules_binary.specs.Spelling.{spelling}
 pub data Refusal : Type 0 where
   no_code : ℕ → Refusal
   too_long : Refusal
-
--- how many bytes an encoded node may have
-abbrev pub encoded_limit : ℕ
-encoded_limit = 268435456
 
 -- whether a node, without those in it, is an application of a name that is no primitive's
 abbrev pub lacks_code : Tree → Bool

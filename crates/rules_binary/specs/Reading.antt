@@ -4,6 +4,7 @@ use Rattle.std.specs.Prelude.{ℕ, zero, suc, ◌+◌, ◌-◌, ◌*◌, ◌%◌
 use Rattle.std.specs.Int.{w32, from_be_bytes}
 use Rattle.std.specs.List.{prefix_len, list_all}
 use Rattle.std.specs.Char.{is_ascii_alphanumeric}
+use Rattle.rules_base.specs.Limits.{byte_limit, depth_limit}
 use Rattle.rules_base.specs.Tree.{Tree, int, str, bytes, prim, seq, Trees, none, more}
 use Rattle.rules_base.specs.Primitives.{name_of_code}
 use Rattle.rules_binary.specs.Spelling.{count}
@@ -29,12 +30,6 @@ abbrev pub ◌>>=◌ : {A B : Type 0} → Result A Fault → (A → Result B Fau
 abbrev pub fault : {A : Type 0} → DecodeKind → ℕ → Result A Fault
 fault kind place = Err (record { kind = kind; place = place })
 
-abbrev pub depth_limit : ℕ
-depth_limit = 1000
-
-abbrev pub width_limit : ℕ
-width_limit = 1048576
-
 -- n bytes further
 abbrev pub past : ℕ → Spot → Spot
 past n s = record { place = s.place + n; left = drop n s.left }
@@ -59,7 +54,7 @@ field_at s = if nat_lt (length s.left) 4 then fault BadLength s.place else field
 unfoldable pub narrow_field_at : Spot → Result (Spot × Spot) Fault
 narrow_field_at s = do
   f ← field_at s
-  if nat_lt width_limit (length f.0.left) then fault TooWide s.place else Ok f
+  if nat_lt byte_limit (length f.0.left) then fault TooWide s.place else Ok f
 
 -- ---- integers
 

@@ -1,12 +1,12 @@
 -- The ranges of the fields of statements (this host's own).
 use Rattle.std.specs.Prelude.{◌≡◌, ◌≤◌, ◌<◌, ◌^◌, true, length}
 use Rattle.std.specs.List.{All}
+use Rattle.rules_base.specs.Limits.{most_mutez, most_contents}
 use Rattle.rules_base.specs.Tree.{size}
 use Rattle.rules_gas.specs.Tables.{is_table}
-use Rattle.rules_values.specs.ByteForms.{is_chain_id, is_key_hash}
-use Rattle.rules_world.specs.Balances.{most_mutez}
+use Rattle.rules_forms.specs.Spelling.{is_chain_id, is_key_hash}
 use Rattle.rules_world.specs.Forms.{is_moment, IsContent}
-use Rattle.rules_statements.specs.Statements.{Statement, Chain, Costs, Account, Block, Group, form, most_contents}
+use Rattle.rules_statements.specs.Statements.{Statement, Chain, Costs, Account, Block, Group, form}
 
 abbrev pub IsStatement : Statement → Type 0
 IsStatement (Chain id level moment) = (is_chain_id id ≡ true) × (level < 2 ^ 32) × (is_moment moment ≡ true)

@@ -5,13 +5,13 @@ use Rattle.std.specs.List.{prefix_len}
 use Rattle.std.specs.Char.{is_ascii_digit, is_ascii_alphabetic, is_ascii_alphanumeric, is_ascii_hexdigit}
 use Rattle.std.specs.Int.{is_in_range}
 use Rattle.std.specs.Str.Parse.{digits_value}
+use Rattle.rules_base.specs.Limits.{name_limit, byte_limit}
 use Rattle.rules_text.specs.Token.{Token, number, bytes, string, name, annotation, open_brace, close_brace, open_paren, close_paren, semicolon}
 use Rattle.rules_text.specs.declared.TextKind.{TextKind}
 use Rattle.rules_text.specs.declared.TextKind.TheVariants.{BadChar, BadString, BadBytes, BadNumber, Unclosed, TooLong}
 use Rattle.rules_text.specs.Fault.{Flaw}
 use Rattle.rules_text.specs.declared.Shape.{Shape}
 use Rattle.rules_text.specs.declared.Shape.TheVariants.{Digits, Quoted, Word, Note, OpenBrace, CloseBrace, OpenParen, CloseParen, Semicolon}
-use Rattle.rules_text.specs.Fault.{name_limit, string_limit}
 
 abbrev pub flaw : {A : Type 0} → TextKind → List ℕ → Result A Flaw
 flaw kind rest = Err (record { kind = kind; left = length rest })
@@ -123,7 +123,7 @@ abbrev pub ◌>>=◌ : {A B : Type 0} → Result A Flaw → (A → Result B Flaw
 unfoldable pub string_at : List ℕ → Result (List ℕ × List ℕ) Flaw
 string_at text =
     let s = spelt (drop 1 text) in
-    if nat_lt string_limit (length s.text) then flaw TooLong text else s.end >>= λ rest. Ok (s.text, rest)
+    if nat_lt byte_limit (length s.text) then flaw TooLong text else s.end >>= λ rest. Ok (s.text, rest)
 
 -- ---- bytes
 
@@ -142,7 +142,7 @@ unfoldable pub bytes_at : List ℕ → Result (List ℕ × List ℕ) Flaw
 bytes_at text =
     let n = prefix_len is_ascii_hexdigit (drop 2 text) in
     let rest = drop n (drop 2 text) in
-    if nat_lt string_limit (n / 2) then flaw TooLong text
+    if nat_lt byte_limit (n / 2) then flaw TooLong text
     else (if n % 2 == 1 || begins_word rest then flaw BadBytes text
     else Ok (paired (take n (drop 2 text)), rest))
 

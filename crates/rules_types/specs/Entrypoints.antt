@@ -29,10 +29,6 @@ abbrev pub annotations : Tree → List (List ℕ)
 annotations (prim name annots args) = annots
 annotations _ = []
 
--- whether a name may be that of an entrypoint: 1 to 31 characters of A-Z a-z 0-9 _ . % @
-abbrev pub is_entrypoint_name : List ℕ → Bool
-is_entrypoint_name name = nat_le 1 (length name) && nat_le (length name) 31 && list_all is_name_byte name
-
 -- an entrypoint: its name, its path from the root, where true is right, and its type
 pub record Entry : Type 0 where
   pub name : List ℕ
@@ -83,7 +79,7 @@ with_new None es at name path a = entries (es ++ record { name = name; path = pa
 with_new (Some earlier) es at name path a = repeated at
 
 abbrev pub with_name : List Entry → ℕ → List ℕ → List Bool → Kind → Entries
-with_name es at name path a = if is_entrypoint_name name then with_new (find_entry name es) es at name path a else bad_name at
+with_name es at name path a = if is_entrypoint name then with_new (find_entry name es) es at name path a else bad_name at
 
 abbrev pub with_named : List Entry → ℕ → Option (List ℕ) → List Bool → Kind → Entries
 with_named es at None path a = entries es

@@ -1,5 +1,6 @@
 -- How a node is read as a type (Michelson reference, "Types"). Locations are counted in pre-order.
 use Rattle.std.specs.Prelude.{ℕ, ◌+◌, Bool, true, nat_le, if◌then◌else◌, List, [], ◌∷◌, Option, Some, None}
+use Rattle.rules_base.specs.Limits.{type_limit}
 use Rattle.rules_base.specs.Tree.{Tree, int, str, bytes, prim, seq, Trees, none, more, size}
 use Rattle.rules_base.specs.Primitives.{primitive_of_name}
 use Rattle.rules_base.specs.declared.Primitive.{Primitive}
@@ -141,10 +142,6 @@ abbrev mutual
   pub parts : ℕ → Trees → List Part
   parts at none = []
   parts at (more t ts) = part at (typed at t) ∷ parts (at + size t) ts
-
--- the most nodes that a type may have, in pairs of two parts
-abbrev pub type_limit : ℕ
-type_limit = 2000
 
 -- a type, the location of its first fault, or a type with too many nodes
 pub data Reading : Type 0 where

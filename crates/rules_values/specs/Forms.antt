@@ -11,7 +11,7 @@ use Rattle.rules_types.specs.Kind as k
 use Rattle.rules_values.specs.Val.{Val, Vals, no_val, more_vals, Pairs, no_pair, more_pairs}
 use Rattle.rules_values.specs.Val as v
 use Rattle.rules_values.specs.Tables.{AreIncreasing, AreIncreasingKeys}
-use Rattle.rules_values.specs.ByteForms.{is_key_hash, is_key, is_signature, is_chain_id, is_address}
+use Rattle.rules_forms.specs.Spelling.{is_key_hash, is_key, is_signature, is_chain_id, is_address}
 use Rattle.rules_values.specs.Literals.{is_nat, is_amount, is_text, is_short}
 
 abbrev pub has_simple_form : Simple → Val → Bool

@@ -3,7 +3,6 @@ pub mod Order
 pub mod Weight
 pub mod Tickets
 pub mod Tables
-pub mod ByteForms
 pub mod Literals
 pub mod Canonical
 pub mod Forms

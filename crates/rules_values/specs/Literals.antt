@@ -3,6 +3,7 @@
 use Rattle.std.specs.Prelude.{ℕ, ◌+◌, ◌-◌, ◌^◌, Bool, true, false, ◌==◌, ◌&&◌, ◌||◌, nat_le, ℤ, pos, int_le, if◌then◌else◌, List, [], ◌∷◌, ◌++◌, length, filter, not, Option, Some, None}
 use Rattle.std.specs.List.{list_all}
 use Rattle.std.specs.Ordering.{is_lt}
+use Rattle.rules_base.specs.Limits.{byte_limit}
 use Rattle.rules_base.specs.Tree.{Tree, int, str, bytes, prim, seq, Trees, none, more, size}
 use Rattle.rules_base.specs.Primitives.{primitive_of_name}
 use Rattle.rules_base.specs.declared.Primitive.{Primitive}
@@ -15,7 +16,7 @@ use Rattle.rules_types.specs.Kind as k
 use Rattle.rules_values.specs.Val.{Val, Vals, no_val, more_vals, Pairs, no_pair, more_pairs, is_comparable}
 use Rattle.rules_values.specs.Val as v
 use Rattle.rules_values.specs.Order.{order}
-use Rattle.rules_values.specs.ByteForms.{is_key_hash, is_key, is_signature, is_chain_id, is_address}
+use Rattle.rules_forms.specs.Spelling.{is_key_hash, is_key, is_signature, is_chain_id, is_address}
 
 -- the names that literals are made with
 pub data Word : Type 0 where
@@ -77,10 +78,6 @@ abbrev pub Reader : Type 0
 Reader = ℕ → Tree → Literal Val
 
 -- ---- types without arguments
-
--- the most bytes that text or bytes may have
-abbrev pub byte_limit : ℕ
-byte_limit = 1048576
 
 -- text is printable, or ends a line (Michelson reference, "string")
 abbrev pub is_text_byte : ℕ → Bool

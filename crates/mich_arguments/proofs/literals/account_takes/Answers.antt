@@ -1,7 +1,6 @@
 use Rattle.std.proofs.Common.{rules, ◌≡◌, Bool, true, sym, ap, ◌∙◌}
 use Rattle.std.specs.Prelude.{◌&&◌}
-use Rattle.rules_forms.specs.Spelling.{implicit_place}
-use Rattle.rules_values.specs.ByteForms.{is_entrypoint, is_key_hash}
+use Rattle.rules_forms.specs.Spelling.{implicit_place, is_entrypoint, is_key_hash}
 use Rattle.rules_evaluation.specs.Contracts.{is_taken_by_account}
 use Rattle.mich_base.specs.TypeView.{kind}
 use Rattle.mich_arguments.proofs.Claims.{account_place, account_takes, default_so, other_so, taken_is}

@@ -1,5 +1,5 @@
 use Rattle.std.proofs.Common.{◌≡◌, ◌≤◌, ◌++◌, length, drop}
-use Rattle.rules_binary.specs.Encoding.{encoded_limit}
+use Rattle.rules_base.specs.Limits.{encoded_limit}
 use Rattle.rules_binary.specs.Spelling.{spellings}
 use Rattle.mich_base.specs.View.{trees}
 use Rattle.mich_binary.proofs.writing.+put.Given as goal

@@ -1,5 +1,5 @@
 use Rattle.std.proofs.Common.{◌≡◌, ◌≤◌, ◌++◌, length, reverse}
-use Rattle.rules_values.specs.Literals.{byte_limit}
+use Rattle.rules_base.specs.Limits.{byte_limit}
 use Rattle.rules_steps.specs.Texts.{joined}
 use Rattle.mich_stack.specs.Views.{Sight}
 use Rattle.mich_collections.specs.Seen.{vals_by}

@@ -1,11 +1,12 @@
 use Rattle.std.proofs.Common.{◌≡◌, ◌≤◌, ◌<◌, false, refl, sym, ap, ◌∙◌, subst}
 use Rattle.std.proofs.lemmas.Bool.{leb-true, leb-false}
+use Rattle.rules_base.specs.Limits.{applied_size, applied_depth}
 use Rattle.rules_base.specs.Tree.{Tree, size}
 use Rattle.rules_base.specs.Tree.{depth as levels}
 use Rattle.rules_gas.specs.declared.Kind.TheVariants as g
 use Rattle.rules_values.specs.Val.{Val}
 use Rattle.rules_values.specs.Weight.{weight}
-use Rattle.rules_evaluation.specs.Calls.{applied, applied_size, applied_depth}
+use Rattle.rules_evaluation.specs.Calls.{applied}
 use Rattle.mich_base.specs.TypeView.{kind}
 use Rattle.mich_base.specs.View.{tree}
 use Rattle.mich_base.specs.declared.node.Node.{Node}

@@ -1,6 +1,5 @@
 use Rattle.std.proofs.Common.{rules, ◌≡◌, true, false, sym, ◌∙◌}
-use Rattle.rules_forms.specs.Spelling.{implicit_place}
-use Rattle.rules_values.specs.ByteForms.{is_entrypoint, is_key_hash}
+use Rattle.rules_forms.specs.Spelling.{implicit_place, is_entrypoint, is_key_hash}
 use Rattle.mich_base.specs.TypeView.{kind}
 use Rattle.mich_arguments.proofs.Claims.{account_place}
 use Rattle.mich_interpreter.proofs.Looked.{named_so, unnamed, unnamed_by}

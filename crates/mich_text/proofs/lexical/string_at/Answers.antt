@@ -1,7 +1,7 @@
 use Rattle.std.proofs.Common.{◌+◌, ◌<◌, ◌∷◌, [], length, refl, sym, ap, ◌∙◌, arith}
 use Rattle.std.proofs.lemmas.List.{length-append}
+use Rattle.rules_base.specs.Limits.{byte_limit}
 use Rattle.rules_text.specs.Lexical.{spelt, with_byte}
-use Rattle.rules_text.specs.Fault.{string_limit}
 use Rattle.mich_text.proofs.Strings.{prepend, prepend_more, string_begins, string_ends, string_long}
 use Rattle.mich_text.proofs.lexical.string_at.Goals as goal
 
@@ -17,7 +17,7 @@ returns-in-Closed c = rw c.from_vec.ensures (string_ends c.args.text.now c.units
 pub returns-then-len-eq-STRING_LIMIT : goal.returns-then-len-eq-STRING_LIMIT
 returns-then-len-eq-STRING_LIMIT c =
     let behind = spelt c.in-Byte.behind.now in
-    let over : string_limit < length c.units.spelt.items + length (with_byte c.in-Byte.byte behind).text = omega arith in
+    let over : byte_limit < length c.units.spelt.items + length (with_byte c.in-Byte.byte behind).text = omega arith in
     rw c.flaw.ensures (string_long c.args.text.now c.units.spelt.items (with_byte c.in-Byte.byte behind) (ap (prepend c.units.spelt.items) (sym c.in-Byte.ensures.step) ∙ c.units.invariant.whole) over)
 
 pub units-smaller : goal.units-smaller

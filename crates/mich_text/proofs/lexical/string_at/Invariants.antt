@@ -1,13 +1,13 @@
 use Rattle.std.proofs.Common.{◌≡◌, ◌≤◌, length, drop}
+use Rattle.rules_base.specs.Limits.{byte_limit}
 use Rattle.rules_text.specs.Lexical.{spelt}
-use Rattle.rules_text.specs.Fault.{string_limit}
 use Rattle.mich_text.proofs.Strings.{prepend}
 use Rattle.mich_text.proofs.lexical.string_at.Given as goal
 
 abbrev pub invariant-units : goal.invariant-units
 invariant-units l = record {
   whole : prepend l.spelt.items (spelt l.rest) ≡ spelt (drop 1 l.text);
-  room : length l.spelt.items ≤ string_limit;
+  room : length l.spelt.items ≤ byte_limit;
 }
 
 abbrev pub decreases-units : goal.decreases-units

@@ -1,10 +1,10 @@
 use Rattle.std.proofs.Common.{option_map, sym, ap, subst, ◌∙◌}
+use Rattle.rules_base.specs.Limits.{depth_limit}
 use Rattle.mich_text.specs.Machine.{Stack, refused}
 use Rattle.mich_text.specs.Nodes.{stack_view, refusal_view}
 use Rattle.mich_text.specs.Views.{token_view}
 use Rattle.mich_text.specs.Gives.{flaw_view}
 use Rattle.mich_text.specs.Results.{IsPlaced}
-use Rattle.rules_text.specs.Fault.{depth_limit}
 use Rattle.mich_text.proofs.Steps.{bad_char, shape_read, own_flaw, refused_place, placed}
 use Rattle.mich_text.proofs.plain.take_token.Goals as goal
 
