@@ -2,6 +2,7 @@
 use Rattle.std.proofs.Common.{◌≡◌, ◌≤◌, ◌+◌, ◌&&◌, ℕ, ℤ, pos, int_le, unsigned_abs, Bool, true, false, Some, None, Ok, Err, is_some, unwrap_or, refl, sym, subst, arith, if◌then◌else◌}
 use Rattle.std.specs.declared.option.Option.{Option}
 use Rattle.std.specs.Prelude.{Result}
+use Rattle.rules_base.specs.Limits.{most_price}
 use Rattle.rules_base.specs.Tree.{Tree, int, str, bytes, prim, seq, Trees, none, more, size}
 use Rattle.rules_gas.specs.declared.Kind.{Kind}
 use Rattle.rules_gas.specs.Kinds.{is_same_kind, kind_named}
@@ -16,7 +17,7 @@ at_least_one : (b : ℤ) → int_le (pos 1) b ≡ true → 1 ≤ unsigned_abs b
 at_least_one b h = grind arith
 
 price_charged : (b c : ℤ) (p : Price) → price_from b c ≡ Some p → 1 ≤ p.base
-price_charged b c p h = by (int_le (pos 1) b) refl (int_le b (pos 1000000)) (is_between (pos 0) (pos 1000000) c) h
+price_charged b c p h = by (int_le (pos 1) b) refl (int_le b (pos most_price)) (is_between (pos 0) (pos most_price) c) h
   where
     made : Option Price
     made = Some (record { base = unsigned_abs b; coefficient = unsigned_abs c })

@@ -6,11 +6,9 @@ ghost use Rattle.mich_binary.specs.Results.{Gives};
 use crate::cursor::Cursor;
 use crate::errors::DecodeError;
 use crate::nodes::node_at;
-use mich_base::Node;
+use mich_base::{DEPTH_LIMIT, Node};
 use rules_binary::DecodeKind;
 use std::alloc::Global;
-
-const DEPTH_LIMIT: u32 = 1000;
 
 /// The one node that these bytes spell, or the first fault from the left and its place
 /// (Octez "data encoding", Micheline expressions). Memory where there is no room for the node.

@@ -8,11 +8,9 @@ ghost use Rattle.mich_binary.specs.Pieces.{is_no_space, pieces_of};
 
 use crate::cursor::Cursor;
 use crate::errors::DecodeError;
-use mich_base::{Bytes, Rows, Text, Texts};
+use mich_base::{BYTE_LIMIT, Bytes, NAME_LIMIT, Rows, Text, Texts};
 use rules_binary::DecodeKind;
 use std::alloc::Global;
-
-const WIDTH_LIMIT: usize = 1_048_576;
 
 #[tactic(auto, unfolding(rules_binary::specs::Reading::byte_at))]
 pub fn byte_at(cursor: Cursor<'_>) -> Result<(u8, Cursor<'_>), DecodeError>
@@ -70,7 +68,7 @@ pub fn narrow_field_at(cursor: Cursor<'_>) -> Result<(Cursor<'_>, Cursor<'_>), D
     ensures { Gives (λ x. (spot x.0, spot x.1)) result (narrow_field_at (spot cursor.entry)) }
 {
     let (field, after) = field_at(cursor)?;
-    if field.left.len() > WIDTH_LIMIT {
+    if field.left.len() > BYTE_LIMIT {
         return Err(DecodeError::Fault(DecodeKind::TooWide, cursor.place));
     }
     Ok((field, after))
@@ -130,7 +128,7 @@ fn is_annotation(bytes: &[u8]) -> bool
     match bytes {
         [] => false,
         [sign, rest @ ..] => {
-            matches!(sign, b'@' | b':' | b'%') && are_noted(rest) && rest.len() <= 255
+            matches!(sign, b'@' | b':' | b'%') && are_noted(rest) && rest.len() <= NAME_LIMIT
         }
     }
 }

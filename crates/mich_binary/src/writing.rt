@@ -7,10 +7,8 @@ ghost use Rattle.mich_base.specs.View.{tree, app_tree, trees};
 ghost use Rattle.mich_binary.specs.Results.{IsWritten, IsJoined};
 
 use crate::errors::EncodeError;
-use mich_base::{App, Node, Nodes, Text, prim_code};
+use mich_base::{App, ENCODED_LIMIT, Node, Nodes, Text, prim_code};
 use std::alloc::Global;
-
-const ENCODED_LIMIT: usize = 268_435_456;
 
 fn put(out: &mut Vec<u8>, bytes: &[u8]) -> Result<(), EncodeError>
     requires { length out.old.items ≤ encoded_limit }

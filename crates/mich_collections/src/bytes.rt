@@ -6,18 +6,15 @@ ghost use Rattle.mich_stack.specs.Views.{Sight, seen};
 ghost use Rattle.mich_collections.specs.Seen.{vals_by};
 ghost use Rattle.mich_collections.specs.Sizes.{IsWithinSize};
 
-use mich_base::Memory;
+use mich_base::{BYTE_LIMIT, Memory};
 use mich_term::{Chain, Value, split_head};
 use std::alloc::Global;
-
-/// The most bytes that a string and bytes have.
-const SIZE_LIMIT: usize = 1_048_576;
 
 // Bytes, one list behind the other. None where they are over the limit.
 pub(crate) fn join(alloc: Global, first: &[u8], second: &[u8]) -> Result<Option<Vec<u8>>, Memory>
     ensures { IfOk result (λ o. IsWithinSize (first.now ++ second.now) (option_map (λ v. v.items) o)) }
 {
-    if first.len() + second.len() > SIZE_LIMIT {
+    if first.len() + second.len() > BYTE_LIMIT {
         return Ok(None);
     }
     let mut bytes = Vec::with_capacity(alloc, first.len() + second.len())?;
@@ -45,7 +42,7 @@ pub(crate) fn join_all(alloc: Global, list: &Chain<Value>) -> Result<Option<Vec<
     let mut left = list.as_reversed_slice();
     while let Some((value, rest)) = split_head(left) {
         let more = bytes_of(value);
-        if bytes.len() + more.len() > SIZE_LIMIT {
+        if bytes.len() + more.len() > BYTE_LIMIT {
             return Ok(None);
         }
         bytes.extend_from_slice(more)?;

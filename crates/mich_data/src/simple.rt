@@ -10,7 +10,7 @@ ghost use Rattle.mich_data.specs.View.{byte_test};
 ghost use Rattle.mich_data.specs.Whole.{IsSimple};
 
 use crate::words::{Word, word_of_name};
-use mich_base::{Memory, Node};
+use mich_base::{BYTE_LIMIT, MOST_MUTEZ, Memory, Node};
 use mich_forms::{Address, ChainId, Key, KeyHash, Signature};
 use mich_term::Value;
 use rules_types::Simple;
@@ -79,7 +79,7 @@ fn amount_value(node: &Node) -> Option<Value>
     ensures simple { IfSome result (λ v. IsSimple (out-Value v)) }
 {
     match node {
-        Node::Int(n) if 0 <= *n && *n <= 0x7fff_ffff_ffff_ffff => Some(Value::Number(*n)),
+        Node::Int(n) if 0 <= *n && *n <= MOST_MUTEZ as i128 => Some(Value::Number(*n)),
         _ => None,
     }
 }
@@ -87,7 +87,7 @@ fn amount_value(node: &Node) -> Option<Value>
 fn is_short(bytes: &[u8]) -> bool
     ensures { result ≡ is_short bytes.now }
 {
-    bytes.len() <= 1_048_576
+    bytes.len() <= BYTE_LIMIT
 }
 
 fn is_text_byte(byte: u8) -> bool

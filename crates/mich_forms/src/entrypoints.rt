@@ -37,7 +37,8 @@ fn is_name_byte(c: u8) -> bool
     c.is_ascii_alphanumeric() || c == b'_' || c == b'.' || c == b'%' || c == b'@'
 }
 
-fn all_name_bytes(name: &[u8]) -> bool
+/// Whether a name has no other characters than `A-Z a-z 0-9 _ . % @` (Michelson reference, entrypoints).
+pub fn all_name_bytes(name: &[u8]) -> bool
     ensures { result ≡ list_all is_name_byte name.now }
 {
     name.iter().all(|c| is_name_byte(*c))

@@ -16,7 +16,7 @@ mod signatures;
 mod tests;
 
 pub use addresses::Address;
-pub use entrypoints::Entrypoint;
+pub use entrypoints::{Entrypoint, all_name_bytes};
 pub use keys::{Key, KeyHash};
 pub use places::Place;
 pub use short_bytes::ShortBytes;

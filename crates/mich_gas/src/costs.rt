@@ -1,5 +1,6 @@
 // Tables of prices.
 ghost use Rattle.std.specs.Prelude.{◌≡◌, ◌^◌, ◌<◌, pos, ◌≤ℤ◌, option_map, is_some, true, false, IsTrue, MatchOption};
+ghost use Rattle.rules_base.specs.Limits.{most_price};
 ghost use Rattle.rules_base.specs.Tree.{size};
 ghost use Rattle.rules_gas.specs.Kinds.{place};
 ghost use Rattle.rules_gas.specs.Prices.{nothing_listed, with_price, price_of, standard_price};
@@ -8,12 +9,9 @@ ghost use Rattle.mich_base.specs.View.{tree};
 ghost use Rattle.mich_gas.specs.View.{seen_price, listed, seen_listing, reading};
 
 use crate::names::kind_of_name;
-use mich_base::Node;
+use mich_base::{MOST_PRICE, Node};
 use rules_gas::Kind;
 use thiserror::Error;
-
-/// The most that a base or a coefficient can be.
-const MOST: i128 = 1_000_000;
 
 /// The nodes of a row: itself, its name and two numbers.
 const ROW_NODES: u32 = 4;
@@ -94,9 +92,9 @@ fn place_of(kind: Kind) -> usize
 // The number, where it is from the least one to the most.
 fn within(number: i128, least: i128) -> Option<u32>
     requires { pos 0 ≤ℤ least }
-    ensures { MatchOption result (is_between least (pos 1000000) number ≡ false) (λ n. (number ≡ pos n) × (is_between least (pos 1000000) number ≡ true)) }
+    ensures { MatchOption result (is_between least (pos most_price) number ≡ false) (λ n. (number ≡ pos n) × (is_between least (pos most_price) number ≡ true)) }
 {
-    if number < least || MOST < number {
+    if number < least || MOST_PRICE < number {
         return None;
     }
     Some(number as u32)

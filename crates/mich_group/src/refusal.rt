@@ -9,12 +9,10 @@ ghost use Rattle.mich_ops.specs.View.{content as content_of, contents as content
 ghost use Rattle.mich_world.specs.Holders.{balance_or_none};
 ghost use Rattle.mich_world.specs.Standing.{StandsFor};
 
+use mich_base::MOST_GAS;
 use mich_forms::Place;
 use mich_ops::{Content, Group, GroupFault};
 use mich_world::World;
-
-/// The most gas that a content may have.
-const MOST_GAS: i128 = 10_000_000_000;
 
 // All fees together.
 pub(crate) fn all_fees(contents: &[Content]) -> u128

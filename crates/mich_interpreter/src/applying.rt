@@ -15,18 +15,12 @@ use crate::calls::pop_lambda;
 use crate::paying::pay_capped;
 use crate::stack::{pop, push};
 use crate::state::State;
-use mich_base::{Memory, Node, Rows, Shared, Ty, copy_node, depth_within, size_within};
+use mich_base::{APPLIED_DEPTH, APPLIED_SIZE, Memory, Node, Rows, Shared, Ty, copy_node, depth_within, size_within};
 use mich_data::value_node;
 use mich_gas::{Costs, Kind};
 use mich_term::{Value, weight};
 use mich_types::{application, bare, over_two, type_node};
 use std::alloc::Global;
-
-/// The most nodes that the body of a lambda made by APPLY may have.
-const MOST_NODES: u32 = 100_000;
-
-/// The most levels of nodes that it may have.
-const MOST_LEVELS: u32 = 1_000;
 
 // PUSH of a value of a type.
 fn push_node(alloc: Global, ty: &Ty, value: &Value) -> Result<Node, Memory>
@@ -120,10 +114,10 @@ pub(crate) fn act_apply(
     }
     let (body, recursive) = pop_lambda(&mut m.stack);
     let made = applied_node(alloc, captured, rest, ret, &value, body.get(), recursive)?;
-    if !size_within(&made, MOST_NODES) {
+    if !size_within(&made, APPLIED_SIZE) {
         return Ok(Act::Failed(Failed::SizeLimit));
     }
-    if !depth_within(&made, MOST_LEVELS) {
+    if !depth_within(&made, APPLIED_DEPTH) {
         return Ok(Act::Failed(Failed::DepthLimit));
     }
     let shared = Shared::new(alloc, made)?;

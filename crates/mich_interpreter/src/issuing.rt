@@ -23,7 +23,7 @@ use crate::paying::pay;
 use crate::stack::{pop, pop_address, push};
 use crate::state::{Counts, State};
 use crate::viewing::act_view;
-use mich_base::{Bytes, Link, Memory, Rows, Text, Ty, copy_type};
+use mich_base::{Bytes, Link, Memory, OPERATION_LIMIT, Rows, Text, Ty, copy_type};
 use mich_bodies::Bodies;
 use mich_forms::{Address, Entrypoint};
 use mich_gas::{Costs, Kind};
@@ -32,9 +32,6 @@ use mich_overload::OperationRow;
 use mich_term::Value;
 use mich_world::World;
 use std::alloc::Global;
-
-/// How many operations may be issued in a group.
-const MOST_ISSUED: u32 = 65_535;
 
 // Takes the amount of mutez on top. None where it is past 2^64-1.
 pub(crate) fn pop_amount(stack: &mut Rows<Value>) -> Option<u64>
@@ -53,7 +50,7 @@ pub(crate) fn count_operation(counts: &mut Counts) -> Option<u32>
     ensures others { (counts.new.originated ≡ counts.old.originated) × (counts.new.group ≡ counts.old.group) }
 {
     let number = counts.issued;
-    if number >= MOST_ISSUED {
+    if number >= OPERATION_LIMIT {
         return None;
     }
     counts.issued += 1;

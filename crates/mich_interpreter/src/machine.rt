@@ -27,15 +27,12 @@ use crate::mapping::{act_map, next_made};
 use crate::stack::{put_all, put_below};
 use crate::state::State;
 use crate::straights::act_straight;
-use mich_base::{Link, Memory, Rows};
+use mich_base::{BLOCK_LIMIT, Link, Memory, Rows};
 use mich_bodies::Bodies;
 use mich_gas::Costs;
 use mich_instr::{Block, Instr};
 use mich_world::World;
 use std::alloc::Global;
-
-/// How many blocks may be open.
-pub(crate) const MOST_OPEN: u32 = 100_000;
 
 // A run on its way: the block that runs with the place of its next instruction, and what is left to do behind it.
 #[derive(Debug, Drop)]
@@ -155,7 +152,7 @@ fn begin(m: &mut Machine, below: Option<Frame>, body: Block) -> Result<bool, Mem
     ensures begun { IfOk result (λ b. IsBegun b below body m.old.frames m.old m.new) }
     ensures state { m.new.state ≡ m.old.state }
 {
-    if m.depth >= MOST_OPEN {
+    if m.depth >= BLOCK_LIMIT {
         return Ok(false);
     }
     put_frame(&mut m.frames, below)?;

@@ -5,9 +5,7 @@ ghost use Rattle.rules_numbers.specs.Mutez.{mutez_sum, mutez_difference, mutez_p
 ghost use Rattle.mich_num.specs.View.{limited};
 
 use crate::fault::NumFault;
-
-/// The greatest amount of mutez.
-const MOST_MUTEZ: u128 = 0x7fff_ffff_ffff_ffff;
+use mich_base::MOST_MUTEZ;
 
 /// The sum of two amounts of mutez.
 ///
@@ -51,7 +49,7 @@ pub fn mutez_mul(a: u64, n: i128) -> Result<u64, NumFault>
 fn within_mutez(amount: u128) -> Result<u64, NumFault>
     ensures exact { limited result ≡ mutez_or_limit amount }
 {
-    if amount <= MOST_MUTEZ {
+    if amount <= MOST_MUTEZ as u128 {
         Ok(amount as u64)
     } else {
         Err(NumFault::MutezOverflow)

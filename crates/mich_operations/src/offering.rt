@@ -11,7 +11,7 @@ ghost use Rattle.mich_forms.specs.Spelled.{place_bytes};
 ghost use Rattle.mich_term.specs.View.{datum};
 ghost use Rattle.mich_operations.specs.Gifts.{compared, content_in, tickets_of};
 
-use mich_base::{Memory, Node, Ty, size_within};
+use mich_base::{Memory, Node, TYPE_LIMIT, Ty, size_within};
 use mich_data::{ValueError, read_value};
 use mich_forms::Place;
 use mich_term::{Datum, TicketId};
@@ -23,7 +23,7 @@ fn comparable_type(alloc: Global, node: &Node) -> Result<Option<Ty>, Memory>
     ensures { IfOk result (λ o. option_map kind o ≡ compared (type_at 0 (tree node.now))) }
 {
     // No type within the limit is spelled by more nodes.
-    if !size_within(node, 2000) {
+    if !size_within(node, TYPE_LIMIT) {
         return Ok(None);
     }
     match read_type(alloc, node) {

@@ -12,13 +12,11 @@ ghost use Rattle.laws_packing.specs.Names.{HasCodes, IsPackable};
 
 use crate::error::PackError;
 use crate::value_length::value_len;
-use mich_base::{Bytes, Node};
+use mich_base::{BYTE_LIMIT, Bytes, Node};
 use mich_binary::{EncodeError, encode};
 use mich_data::value_node;
 use mich_term::Value;
 use std::alloc::Global;
-
-const SIZE_LIMIT: u64 = 1_048_576;
 
 /// How many bytes the packed form of a value has, counted up to 2^64-1; takes no memory (Michelson reference, "PACK").
 #[tactic(auto, using(crate::proofs::Lengths::packed_length))]
@@ -63,7 +61,7 @@ pub fn pack(alloc: Global, value: &Value) -> Result<Bytes, PackError>
     requires { IsPackable (val value.now) }
     ensures { IsPacked result (packed (val value.now)) }
 {
-    if packed_len(value) > SIZE_LIMIT {
+    if packed_len(value) > BYTE_LIMIT as u64 {
         return Err(PackError::SizeLimit);
     }
     let node = value_node(alloc, value)?;

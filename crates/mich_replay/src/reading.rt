@@ -8,11 +8,9 @@ ghost use Rattle.rules_io.specs.Known.{SameFiles};
 ghost use Rattle.mich_replay.specs.Fronts.{IsReadOf, read_limit};
 
 use crate::stop::Stop;
+use mich_base::FILE_LIMIT;
 use mich_io::{Files, FilesFault};
 use std::alloc::Global;
-
-// How many bytes a file may have.
-const FILE_LIMIT: usize = 1_073_741_824;
 
 /// Goes to the beginning of a file.
 pub(crate) fn start<F: Files>(files: &mut F, path: &str) -> Result<(), Stop>

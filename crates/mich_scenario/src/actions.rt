@@ -8,12 +8,9 @@ ghost use Rattle.mich_scenario.specs.Fronts.{called, given, originated, IsGift};
 
 use crate::counted::{eight, five};
 use crate::fields::{contract_place, entrypoint, gas, number, place, ticket_amount};
-use mich_base::{Node, Nodes};
+use mich_base::{MOST_MUTEZ, Node, Nodes};
 use mich_forms::{Entrypoint, Place};
 use mich_ops::{Action, Content};
-
-/// The largest amount of mutez.
-pub(crate) const MOST_MUTEZ: u64 = (1 << 63) - 1;
 
 /// What stands before a script and a storage.
 #[derive(Clone, Copy, Debug)]

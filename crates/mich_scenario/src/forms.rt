@@ -6,19 +6,15 @@ ghost use Rattle.mich_base.specs.View.{tree, trees};
 ghost use Rattle.mich_ops.specs.View.{content};
 ghost use Rattle.mich_scenario.specs.View.{IsForm, IsNoPlain, IsNoSequence, IsNoSource, IsSource, contents_said, said};
 
-use crate::actions::{MOST_MUTEZ, content_by};
+use crate::actions::content_by;
 use crate::error::FormError;
 use crate::fields::{chain_id, key_hash, moment, number};
 use crate::statement::Statement;
-use mich_base::{App, Node, Nodes, Rows, Text, copy_node};
+use mich_base::{App, MOST_CONTENTS, MOST_LEVEL, MOST_MUTEZ, Node, Nodes, Rows, Text, copy_node};
 use mich_forms::KeyHash;
 use mich_gas::is_table;
 use mich_ops::{Content, Group};
 use std::alloc::Global;
-
-const MOST_LEVEL: u64 = (1 << 31) - 1;
-
-const MOST_CONTENTS: usize = 1_000;
 
 // id level moment
 #[tactic(auto, using(crate::proofs::Counts::chain_fields))]

@@ -1,8 +1,7 @@
 // The names in instructions: of entrypoints, events and views.
 ghost use Rattle.std.specs.Prelude.{◌≡◌, ◌+◌, ◌<◌, ◌^◌, [], MatchOption};
-ghost use Rattle.std.specs.List.{list_all};
 ghost use Rattle.rules_base.specs.Tree.{size, sizes, str};
-ghost use Rattle.rules_forms.specs.Spelling.{default_name, is_name_byte, is_entrypoint};
+ghost use Rattle.rules_forms.specs.Spelling.{default_name};
 ghost use Rattle.rules_instructions.specs.Arguments.{annotated, is_view_name};
 ghost use Rattle.rules_instructions.specs.Instructions.{emit_of, instruction, view_of};
 ghost use Rattle.rules_base.specs.declared.Primitive.TheVariants.{OpContract, OpEmit};
@@ -14,23 +13,10 @@ use crate::arguments::{type_argument, type_of};
 use crate::error::RuleError;
 use crate::written::{Attribute, Written};
 use mich_base::{Node, Nodes, Text, Texts};
-use mich_forms::Entrypoint;
+use mich_forms::{Entrypoint, all_name_bytes};
 use mich_overload::{OperationRow, Simple};
 use mich_types::field_name;
 use std::alloc::Global;
-
-// Whether a name may have this character.
-fn is_name_byte(c: u8) -> bool
-    ensures { result ≡ is_name_byte c }
-{
-    c.is_ascii_alphanumeric() || c == b'_' || c == b'.' || c == b'%' || c == b'@'
-}
-
-fn all_name_bytes(name: &[u8]) -> bool
-    ensures { result ≡ list_all is_name_byte name.now }
-{
-    name.iter().all(|c| is_name_byte(*c))
-}
 
 /// Whether a view may have this name: at most 31 characters of `A-Z a-z 0-9 _ . % @` (Michelson reference, "VIEW"). Takes no
 /// memory.
@@ -42,7 +28,7 @@ pub fn is_view_name(name: &[u8]) -> bool
 
 /// The name of an entrypoint that the first field annotation gives, or `default` (Michelson reference, "SELF" and "CONTRACT").
 /// Fault has the location of the instruction where the name is none of an entrypoint. Takes no memory.
-#[tactic(auto, using(mich_types::proofs::Names::named_well, mich_types::proofs::Names::named_badly))]
+#[tactic(auto, using(std::proofs::lemmas::Bool::false_from_ne_true))]
 pub fn named_entrypoint(annots: &Texts, at: u32) -> Result<Entrypoint, RuleError>
     ensures { IsFound (λ name. name) (found_from at (annotated default_name annots.now)) result }
 {
@@ -55,23 +41,17 @@ pub fn named_entrypoint(annots: &Texts, at: u32) -> Result<Entrypoint, RuleError
     }
 }
 
-fn is_entrypoint(name: &[u8]) -> bool
-    ensures { result ≡ is_entrypoint name.now }
-{
-    1 <= name.len() && name.len() <= 31 && all_name_bytes(name)
-}
-
 // The tag that the first field annotation gives, or the empty one.
+#[tactic(auto, using(std::proofs::lemmas::Bool::false_from_ne_true))]
 fn tag(alloc: Global, annots: &Texts, at: u32) -> Result<Text, RuleError>
     ensures { IsFound (λ tag. tag) (found_from at (annotated [] annots.now)) result }
 {
     let Some(name) = field_name(annots) else {
         return Ok(Text::from_vec(Vec::new(alloc)));
     };
-    if is_entrypoint(name) {
-        Ok(Text::from_slice(alloc, name)?)
-    } else {
-        Err(RuleError::Fault(at))
+    match Entrypoint::read(name) {
+        Some(_) => Ok(Text::from_slice(alloc, name)?),
+        None => Err(RuleError::Fault(at)),
     }
 }
 

@@ -4,7 +4,7 @@ ghost use Rattle.mich_base.specs.TypeView.{kind};
 ghost use Rattle.mich_overload.specs.View.{straight};
 ghost use Rattle.mich_stackrules.specs.View.{asked, asked_of_type, least, most, of_count, of_type};
 
-use mich_base::{Text, Ty};
+use mich_base::{COUNT_LIMIT, PART_LIMIT, Text, Ty};
 use mich_overload::{CollectionRow, HashRow, Op, PairRow, Simple, StackRow, UnionRow};
 use mich_types::{big_value, comparable, packable, passable, pushable, storable};
 
@@ -110,8 +110,8 @@ pub(crate) fn most(row: OfCount) -> u32
     ensures { result ≡ most row }
 {
     match row {
-        OfCount::GetPart | OfCount::UpdatePart => 2047,
-        _ => 1023,
+        OfCount::GetPart | OfCount::UpdatePart => PART_LIMIT,
+        _ => COUNT_LIMIT,
     }
 }
 

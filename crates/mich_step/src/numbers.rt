@@ -10,7 +10,7 @@ ghost use Rattle.mich_stack.specs.Views.{Sight, seen, values, plain};
 ghost use Rattle.mich_stack.specs.Ends.{Fits, IsKept, Keeps};
 ghost use Rattle.mich_step.specs.Ends.{SuitsNumbers};
 
-use mich_base::{Link, Memory, Rows};
+use mich_base::{Link, MOST_MUTEZ, Memory, Rows};
 use mich_num::{NumFault, abs, add, ediv, mul, neg, shl, shr, sub};
 use mich_overload::NumberRow;
 use mich_stack::{StepError, optional_value, past, put, split_top, two_on_top};
@@ -18,7 +18,6 @@ use mich_term::Value;
 use std::alloc::Global;
 
 // The greatest amount of mutez.
-const MOST_MUTEZ: u128 = 0x7fff_ffff_ffff_ffff;
 
 fn add_numbers(stack: &mut Rows<Value>) -> Result<(), StepError>
     requires { Fits (number_step i.add_numbers) stack.old }
@@ -114,7 +113,7 @@ fn size(x: i128) -> u128
 fn amount(n: u128) -> Result<u64, NumFault>
     ensures { limited result ≡ mutez_or_limit n }
 {
-    if n <= MOST_MUTEZ {
+    if n <= MOST_MUTEZ as u128 {
         Ok(n as u64)
     } else {
         Err(NumFault::MutezOverflow)

@@ -11,8 +11,7 @@ ghost use Rattle.mich_text.specs.Units.{spelt_by, IsBehind, after_block_by, IsIn
 
 use super::fault::{Flaw, LexError};
 use super::token::Token;
-use super::{NAME_LIMIT, STRING_LIMIT};
-use mich_base::{Bytes, Text};
+use mich_base::{BYTE_LIMIT, Bytes, NAME_LIMIT, Text};
 use rules_text::{Shape, TextKind};
 use std::alloc::{AllocError, Global};
 
@@ -164,7 +163,7 @@ fn string_at(alloc: Global, text: &[u8]) -> Result<(Text, &[u8]), LexError>
             Unit::Bad(flaw) => return Err(LexError::Flaw(flaw)),
             Unit::Closed(after) => return Ok((Text::from_vec(spelt), after)),
             Unit::Byte(byte, behind) => {
-                if spelt.len() == STRING_LIMIT {
+                if spelt.len() == BYTE_LIMIT {
                     return Err(flaw(TextKind::TooLong, text));
                 }
                 spelt.push(byte)?;
@@ -319,7 +318,7 @@ fn bytes_at(alloc: Global, text: &[u8]) -> Result<(Bytes, &[u8]), LexError>
 {
     let (_, digits) = text.split_at(2);
     let (pairs, rest) = digits.split_at(hex_len(digits));
-    if pairs.len() / 2 > STRING_LIMIT {
+    if pairs.len() / 2 > BYTE_LIMIT {
         return Err(flaw(TextKind::TooLong, text));
     }
     if pairs.len() % 2 == 1 || begins_word(rest) {

@@ -8,10 +8,9 @@ ghost use Rattle.mich_text.specs.Views.{token_view};
 ghost use Rattle.mich_base.specs.View.{tree};
 ghost use Rattle.mich_text.specs.Nodes.{frame_view, stack_view, refusal_view};
 
-use super::DEPTH_LIMIT;
 use super::node::{application, sequence};
 use super::token::Token;
-use mich_base::{Memory, Node, Nodes, Rows, Text, Texts};
+use mich_base::{DEPTH_LIMIT, Memory, Node, Nodes, Rows, Text, Texts};
 use rules_text::Shape;
 use std::alloc::Global;
 
@@ -120,7 +119,7 @@ fn no_begin(stack: &Vec<Frame>) -> Option<Refusal>
 {
     if !is_open(stack) {
         Some(Refusal::Unexpected)
-    } else if stack.len() > DEPTH_LIMIT {
+    } else if stack.len() > DEPTH_LIMIT as usize {
         Some(Refusal::TooDeep)
     } else {
         None

@@ -11,8 +11,7 @@ ghost use Rattle.mich_text.specs.Parts.{IsPart};
 use super::fault::{Flaw, LexError, TextError};
 use super::lexical::{after_gap, hex_len};
 use super::plain::{Found, statement_at, statement_within};
-use super::{FILE_LIMIT, STATEMENT_LIMIT};
-use mich_base::Node;
+use mich_base::{FILE_LIMIT, Node, STATEMENT_LIMIT};
 use rules_text::TextKind;
 use std::alloc::Global;
 

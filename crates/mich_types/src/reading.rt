@@ -8,7 +8,7 @@ ghost use Rattle.mich_types.specs.Answers.{IsReading};
 use crate::building::build;
 use crate::error::TypeError;
 use crate::scan::scan;
-use mich_base::{Node, Ty};
+use mich_base::{Node, TYPE_LIMIT, Ty};
 use std::alloc::Global;
 
 /// The type that a node spells (Michelson reference, "Types"). BadType has the location of the first node, from left
@@ -29,7 +29,7 @@ pub fn type_at(alloc: Global, node: &Node, at: u32) -> Result<Ty, TypeError>
 {
     match scan(node, at) {
         Ok(found) => {
-            if found.summary.nodes > 2000 {
+            if found.summary.nodes > TYPE_LIMIT {
                 return Err(TypeError::TypeTooLarge);
             }
             Ok(build(alloc, node)?)

@@ -9,11 +9,9 @@ ghost use Rattle.mich_world.specs.Holders.{IsSound, account_at, contract_at, bal
 use crate::contract::Contract;
 use crate::errors::{GrantError, MoveError};
 use crate::funds::Funds;
-use mich_base::Memory;
+use mich_base::{MOST_MUTEZ, Memory};
 use mich_forms::{KeyHash, Place};
 use mich_term::Value;
-
-const MOST_MUTEZ: u64 = (1 << 63) - 1;
 
 impl Funds {
     // The balance at a place, or 0 where nobody is there.

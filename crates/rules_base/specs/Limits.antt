@@ -62,6 +62,10 @@ most_contents = 1000
 abbrev pub most_gas : ℕ
 most_gas = 10 ^ 10
 
+-- how much gas a part of a price in a table of costs may be
+abbrev pub most_price : ℕ
+most_price = 1000000
+
 -- ---- amounts (Octez "Operations" and "Tickets")
 
 -- the most mutez

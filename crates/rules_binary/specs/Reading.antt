@@ -4,7 +4,7 @@ use Rattle.std.specs.Prelude.{ℕ, zero, suc, ◌+◌, ◌-◌, ◌*◌, ◌%◌
 use Rattle.std.specs.Int.{w32, from_be_bytes}
 use Rattle.std.specs.List.{prefix_len, list_all}
 use Rattle.std.specs.Char.{is_ascii_alphanumeric}
-use Rattle.rules_base.specs.Limits.{byte_limit, depth_limit}
+use Rattle.rules_base.specs.Limits.{byte_limit, depth_limit, name_limit}
 use Rattle.rules_base.specs.Tree.{Tree, int, str, bytes, prim, seq, Trees, none, more}
 use Rattle.rules_base.specs.Primitives.{name_of_code}
 use Rattle.rules_binary.specs.Spelling.{count}
@@ -118,10 +118,10 @@ bytes_at s = do
 abbrev pub is_noted : ℕ → Bool
 is_noted b = is_ascii_alphanumeric b || b == 95 || b == 46 || b == 37 || b == 64
 
--- `@`, `:` or `%`, then at most 255 bytes
+-- `@`, `:` or `%`, then at most `name_limit` bytes
 abbrev pub is_annotation : List ℕ → Bool
 is_annotation [] = false
-is_annotation (b ∷ bs) = (b == 64 || b == 58 || b == 37) && list_all is_noted bs && nat_le (length bs) 255
+is_annotation (b ∷ bs) = (b == 64 || b == 58 || b == 37) && list_all is_noted bs && nat_le (length bs) name_limit
 
 abbrev pub before : ℕ → List (List ℕ) → List (List ℕ)
 before b [] = (b ∷ []) ∷ []

@@ -1,6 +1,7 @@
 -- Tables of prices as nodes: `{ Cost NAME base coefficient ; .. }`.
 use Rattle.std.specs.Prelude.{ℕ, ◌+◌, [], codes, ℤ, pos, int_le, unsigned_abs, Bool, true, false, ◌&&◌, is_some, if◌then◌else◌, Option, Some, None, Result, Ok, Err}
 use Rattle.std.specs.Str.{bytes_eq}
+use Rattle.rules_base.specs.Limits.{most_price}
 use Rattle.rules_base.specs.Tree.{Tree, Trees, prim, int, seq, none, more, size}
 use Rattle.rules_gas.specs.declared.Kind.{Kind}
 use Rattle.rules_gas.specs.Kinds.{kind_named}
@@ -33,7 +34,7 @@ is_between low high n = int_le low n && int_le n high
 -- a price, where the base is 1 to 1,000,000 and the coefficient 0 to 1,000,000
 abbrev pub price_from : ℤ → ℤ → Option Price
 price_from base coefficient =
-    if is_between (pos 1) (pos 1000000) base && is_between (pos 0) (pos 1000000) coefficient
+    if is_between (pos 1) (pos most_price) base && is_between (pos 0) (pos most_price) coefficient
     then Some (record { base = unsigned_abs base; coefficient = unsigned_abs coefficient })
     else None
 

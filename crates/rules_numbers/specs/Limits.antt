@@ -1,6 +1,7 @@
 -- The limits of numbers.
 use Rattle.std.specs.Prelude.{ℕ, ◌-◌, ◌^◌, nat_le, ℤ, pos, neg_ℤ, int_le, Bool, ◌&&◌, if◌then◌else◌}
 use Rattle.std.specs.Prelude.{Result, Ok, Err}
+use Rattle.rules_base.specs.Limits.{most_mutez}
 
 -- the limit that an operation passes
 pub data Limit : Type 0 where
@@ -19,7 +20,7 @@ int_or_limit z = if is_int z then Ok z else Err integer_limit
 
 -- whether n is an amount of mutez: at most 2^63 - 1 (Michelson reference, "mutez")
 abbrev pub is_mutez : ℕ → Bool
-is_mutez n = nat_le n (2 ^ 63 - 1)
+is_mutez n = nat_le n most_mutez
 
 -- the exact amount, or the limit where it is no amount of mutez
 unfoldable pub mutez_or_limit : ℕ → Result ℕ Limit

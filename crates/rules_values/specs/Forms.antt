@@ -2,6 +2,7 @@
 -- a lambda's body goes from the argument's type to the result's, that an address is one of a contract of its type, and
 -- that an operation was issued.
 use Rattle.std.specs.Prelude.{◌≡◌, ◌<◌, ◌^◌, ◌-◌, ◌&&◌, Bool, true, false, ℤ, pos, int_le}
+use Rattle.rules_base.specs.Limits.{most_tickets}
 use Rattle.rules_base.specs.Tree.{Tree, seq, size}
 use Rattle.rules_numbers.specs.Limits.{is_int}
 use Rattle.rules_types.specs.declared.Simple.{Simple}
@@ -44,7 +45,7 @@ IsSequence t = ⊥
 
 -- amounts of tickets are positive ints (Octez "Tickets")
 abbrev pub is_ticket_amount : ℤ → Bool
-is_ticket_amount n = int_le (pos 1) n && int_le n (pos (2 ^ 127 - 1))
+is_ticket_amount n = int_le (pos 1) n && int_le n (pos most_tickets)
 
 abbrev pub HasForm : Kind → Val → Type 0
 HasForm (k.simple s) x = has_simple_form s x ≡ true

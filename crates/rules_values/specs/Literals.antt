@@ -3,7 +3,7 @@
 use Rattle.std.specs.Prelude.{ℕ, ◌+◌, ◌-◌, ◌^◌, Bool, true, false, ◌==◌, ◌&&◌, ◌||◌, nat_le, ℤ, pos, int_le, if◌then◌else◌, List, [], ◌∷◌, ◌++◌, length, filter, not, Option, Some, None}
 use Rattle.std.specs.List.{list_all}
 use Rattle.std.specs.Ordering.{is_lt}
-use Rattle.rules_base.specs.Limits.{byte_limit}
+use Rattle.rules_base.specs.Limits.{byte_limit, most_mutez}
 use Rattle.rules_base.specs.Tree.{Tree, int, str, bytes, prim, seq, Trees, none, more, size}
 use Rattle.rules_base.specs.Primitives.{primitive_of_name}
 use Rattle.rules_base.specs.declared.Primitive.{Primitive}
@@ -91,7 +91,7 @@ is_nat n = int_le (pos 0) n && int_le n (pos (2 ^ 127 - 1))
 
 -- amounts of mutez (Michelson reference, "mutez")
 abbrev pub is_amount : ℤ → Bool
-is_amount n = int_le (pos 0) n && int_le n (pos (2 ^ 63 - 1))
+is_amount n = int_le (pos 0) n && int_le n (pos most_mutez)
 
 abbrev pub is_short : List ℕ → Bool
 is_short b = nat_le (length b) byte_limit
