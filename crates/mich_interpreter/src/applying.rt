@@ -15,7 +15,10 @@ use crate::calls::pop_lambda;
 use crate::paying::pay_capped;
 use crate::stack::{pop, push};
 use crate::state::State;
-use mich_base::{APPLIED_DEPTH, APPLIED_SIZE, Memory, Node, Rows, Shared, Ty, copy_node, depth_within, size_within};
+use mich_base::{
+    APPLIED_DEPTH, APPLIED_SIZE, Memory, Node, Rows, Shared, Ty, copy_node, depth_within,
+    size_within,
+};
 use mich_data::value_node;
 use mich_gas::{Costs, Kind};
 use mich_term::{Value, weight};
