@@ -1,9 +1,9 @@
 -- Environments in range are good.
-use Rattle.std.proofs.Common.{◌≡◌, ◌-◌, ◌^◌, ℕ, List, [], ◌∷◌, length, Bool, true, false, refl, ℤ, pos, ◌≤ℤ◌, neg_ℤ, arith, ◌&&◌, ◌||◌, ◌==◌, inl, inr}
-use Rattle.std.specs.Prelude.{nat_le, int_le, slice_index}
-use Rattle.std.proofs.lemmas.Bool.{and_parts, leb-true, eqb-true}
+use Rattle.std.proofs.Common.{◌≡◌, ◌-◌, ◌^◌, ℕ, List, length, true, ℤ, pos, ◌≤ℤ◌, neg_ℤ, arith}
+use Rattle.std.specs.Prelude.{int_le}
+use Rattle.std.proofs.lemmas.Bool.{and_parts, eqb-true}
 use Rattle.std.proofs.lemmas.Int.{ints}
-use Rattle.rules_forms.specs.Spelling.{IsKeyHash, IsImplicit, IsContract, IsPlace, is_chain_id, is_key_hash, is_implicit, is_contract, is_place}
+use Rattle.rules_forms.specs.Spelling.{is_chain_id}
 use Rattle.rules_steps.specs.Environment.{Environment}
 use Rattle.rules_world.specs.RunLaws.{IsEnvironment}
 use Rattle.rules_world.specs.Forms.{is_moment}
