@@ -64,7 +64,7 @@ more_by x h old new m e f = omega (arith, ints, e, f)
 
 -- an account's holdings are set, so that it has so much more of each
 pub account_changed : (w : World) (who : List ℕ) (id : Identity) (n : ℤ) (more_held : Identity → ℤ) → IsOrderly w →
-    is_key_hash who ≡ true → Rattle.rules_typing.specs.Fits.is_place id.issuer ≡ true →
+    is_key_hash who ≡ true → Rattle.rules_forms.specs.Spelling.is_place id.issuer ≡ true →
     ((j : Identity) → amount_held (with_amount (account_or_none w who) id n) j ≡ amount_held
     (account_or_none w who) j +ℤ more_held j) →
     IsReceived w (with_account w who (with_amount (account_or_none w who) id n)) more_held

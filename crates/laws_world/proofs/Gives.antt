@@ -156,7 +156,7 @@ module _ (s : Setting) (setting : IsSetting s) where
           (record { target = target; sender = implicit_place s.source; amount = 0; argument = as_value g.ticket }) gas
           waiting counts (give_effect s g) on
           (met_more w y target d.more m) (fits_in_more w y d.more target.entry.kind (as_value g.ticket) fits) source_place
-          (zero_small Rattle.rules_world.specs.Balances.most_mutez)
+          (zero_small Rattle.rules_base.specs.Limits.most_mutez)
         where
           zero_small : (n : ℕ) → 0 ≤ n
           zero_small n = omega arith

@@ -7,10 +7,10 @@ ghost use Rattle.mich_interpreter.specs.View.{tops};
 
 use crate::act::View;
 use crate::frame::Frame;
-use crate::machine::{MOST_OPEN, Machine};
+use crate::machine::Machine;
 use crate::stack::{pop, push};
 use crate::state::State;
-use mich_base::{Link, Memory, Rows};
+use mich_base::{BLOCK_LIMIT, Link, Memory, Rows};
 use mich_instr::{Block, Issued};
 use mich_step::Env;
 use mich_term::Value;
@@ -39,7 +39,7 @@ pub(crate) fn enter(
 ) -> Result<bool, Memory>
     ensures { IfOk result (λ b. IsEntered b view m.old callers.old m.new callers.new) }
 {
-    if m.depth >= MOST_OPEN {
+    if m.depth >= BLOCK_LIMIT {
         return Ok(false);
     }
     let view = view.into_value();

@@ -14,8 +14,8 @@ returns-in-Bad c = string_ends c.args.text.now c.units.spelt.items _ (ap (prepen
 pub returns-in-Closed : goal.returns-in-Closed
 returns-in-Closed c = rw c.from_vec.ensures (string_ends c.args.text.now c.units.spelt.items _ (ap (prepend c.units.spelt.items) (sym c.in-Closed.ensures.step) ∙ c.units.invariant.whole) c.units.invariant.room refl)
 
-pub returns-then-len-eq-STRING_LIMIT : goal.returns-then-len-eq-STRING_LIMIT
-returns-then-len-eq-STRING_LIMIT c =
+pub returns-then-len-eq-BYTE_LIMIT : goal.returns-then-len-eq-BYTE_LIMIT
+returns-then-len-eq-BYTE_LIMIT c =
     let behind = spelt c.in-Byte.behind.now in
     let over : byte_limit < length c.units.spelt.items + length (with_byte c.in-Byte.byte behind).text = omega arith in
     rw c.flaw.ensures (string_long c.args.text.now c.units.spelt.items (with_byte c.in-Byte.byte behind) (ap (prepend c.units.spelt.items) (sym c.in-Byte.ensures.step) ∙ c.units.invariant.whole) over)
