@@ -29,7 +29,7 @@ pub fn type_at(alloc: Global, node: &Node, at: u32) -> Result<Ty, TypeError>
 {
     match scan(node, at) {
         Ok(found) => {
-            if found.summary.nodes > TYPE_LIMIT {
+            if u32::from(found.summary.nodes) > TYPE_LIMIT {
                 return Err(TypeError::TypeTooLarge);
             }
             Ok(build(alloc, node)?)
