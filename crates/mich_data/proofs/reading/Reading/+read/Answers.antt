@@ -2,19 +2,20 @@ use Rattle.std.proofs.Common.{◌≡◌, ◌+◌, List, None, option_map, sym, a
 use Rattle.rules_base.specs.Tree.{size, sizes}
 use Rattle.rules_types.specs.Kind as k
 use Rattle.rules_values.specs.Val.{list, set}
-use Rattle.rules_values.specs.Literals.{good, is_behind, mapped, with_pending, read, read_elements, read_increasing, read_entries, read_rest, read_parts}
+use Rattle.rules_values.specs.Literals.{good, mapped, with_pending, read, read_elements, read_increasing, read_entries, read_binding, read_rest, read_parts}
 use Rattle.mich_base.specs.TypeView.{kind}
 use Rattle.mich_base.specs.View.{tree, trees}
 use Rattle.mich_data.specs.View.{all_pending}
 use Rattle.mich_term.specs.View.{datum}
-use Rattle.mich_data.specs.Answers.{IsFault}
+use Rattle.mich_data.specs.Answers.{IsFault, told}
+use Rattle.mich_data.specs.Wrapped.{wrapped}
 use Rattle.mich_data.proofs.Places.{sizes_at, sizes_end}
 use Rattle.mich_data.proofs.Lists.{elements_go, elements_fail, elements_done}
 use Rattle.mich_data.proofs.Sets.{set_go, set_fail, set_out_of_order, set_done}
-use Rattle.mich_data.proofs.Tables.{binding_go, entries_go, entries_fail, entries_done}
-use Rattle.mich_data.proofs.Combs.{two_good, more_first_fault, more_last_fault, more_good}
+use Rattle.mich_data.proofs.Tables.{binding_go, binding_misfit, binding_second, entries_go, entries_fail, entries_done}
+use Rattle.mich_data.proofs.Combs.{two_good, two_last_fault, more_first_fault, more_last_fault, more_good}
 use Rattle.mich_data.proofs.Typed.{val_list, val_set, kind_pair, kind_list, kind_set, kind_map, kind_big_map}
-use Rattle.mich_data.proofs.Steps.{at_kind, rest_at_kind}
+use Rattle.mich_data.proofs.Steps.{mapped_good, at_kind, rest_at_kind}
 use Rattle.mich_term.specs.ValueView.{vals}
 use Rattle.mich_term.specs.declared.value.Value.{Value}
 use Rattle.std.specs.List.{AllByRecursion}
@@ -119,7 +120,6 @@ read_binding-returns-clause-entry t c = (
   binding_go (read (kind c.args.key.now)) (read (kind c.args.value.now)) (option_map (λ d. datum d.now) c.args.before) c.args.self.now.next (tree c.args.binding.0.now)
       (tree c.args.binding.1.now) (all_pending c.args.self.now.pending) _ _ _ _ _ _ c.in_ok-first.ensures.found.0 c.in_ok-first.ensures.found.1 c.in_ok-datum.ensures.0 c.in_ok-datum.ensures.1 c.in_ok-second.ensures.found.0,
   c.in_ok-second.ensures.found.1 ∙ ap (λ j. j + size (tree c.args.binding.1.now)) c.in_ok-first.ensures.found.1,
-  ap (λ x. is_behind (option_map (λ d. datum d.now) c.args.before) x) c.in_ok-datum.ensures.1 ∙ c.in_ok-datum.ensures.0,
 )
 
 pub read_parts-returns-in_err-value-in-More-clause-found : goal.read_parts-returns-in_err-value-in-More-clause-found
@@ -145,8 +145,8 @@ read_parts-returns-in_ok-pair_value-in-Two-clause-found t c =
       two_good (read (kind c.args.first.now)) (read (kind c.args.second.now)) (read_rest (kind c.args.second.now) c.args.whole) c.args.whole c.args.self.now.next c.args.parts.now
           c.in-Two.part.now (all_pending c.args.self.now.pending) c.in-Two.last.now _ _ _ _ _ c.in-Two.ensures c.in_ok-value-in-Two.ensures.found.0 c.in_ok-value-in-Two.ensures.found.1
           c.in_ok-behind-in-Two.ensures.found.0
-          ∙ ap (λ x. good x (all_pending c.read-in-Two.new.pending)) (sym c.in_ok-pair_value-in-Two.ensures.found.0),
-      omega (arith, total, c.in_ok-pair_value-in-Two.ensures.found.1, c.in_ok-behind-in-Two.ensures.found.1, c.in_ok-value-in-Two.ensures.found.1),
+          ∙ ap (λ x. good x (all_pending c.read-in-Two.new.self.pending)) (sym c.in_ok-pair_value-in-Two.ensures.value),
+      omega (arith, total, c.in_ok-behind-in-Two.ensures.found.1, c.in_ok-value-in-Two.ensures.found.1),
     )
 
 pub read_parts-returns-in_ok-pair_value-in-More-clause-found : goal.read_parts-returns-in_ok-pair_value-in-More-clause-found
@@ -155,8 +155,8 @@ read_parts-returns-in_ok-pair_value-in-More-clause-found t c =
       more_good (read (kind c.args.first.now)) (read (kind c.args.second.now)) (read_rest (kind c.args.second.now) c.args.whole) c.args.whole c.args.self.now.next c.args.parts.now
           c.in-More.part.now (all_pending c.args.self.now.pending) c.in-More.rest.now _ _ _ _ _ c.in-More.ensures.0 c.in-More.ensures.1 c.in_ok-value-in-More.ensures.found.0
           c.in_ok-value-in-More.ensures.found.1 c.in_ok-behind-in-More.ensures.found.0
-          ∙ ap (λ x. good x (all_pending c.read_rest.new.pending)) (sym c.in_ok-pair_value-in-More.ensures.found.0),
-      omega (arith, total, c.in_ok-pair_value-in-More.ensures.found.1, c.in_ok-behind-in-More.ensures.found.1, c.in_ok-value-in-More.ensures.found.1),
+          ∙ ap (λ x. good x (all_pending c.read_rest.new.self.pending)) (sym c.in_ok-pair_value-in-More.ensures.value),
+      omega (arith, total, c.in_ok-behind-in-More.ensures.found.1, c.in_ok-value-in-More.ensures.found.1),
     )
 
 pub read-returns-in-Pair-clause-whole : goal.read-returns-in-Pair-clause-whole
@@ -192,3 +192,35 @@ read_rest-returns-in-Pair-clause-whole t c =
 pub read_elements-returns-clause-whole : goal.read_elements-returns-clause-whole
 read_elements-returns-clause-whole t c =
     list_whole (kind c.args.part.now) c.from_rows.result (subst (AllByRecursion (IsWhole (kind c.args.part.now))) (sym c.from_rows.ensures) c.loop-node.invariant.2)
+
+pub read_argument-returns-clause-found : goal.read_argument-returns-clause-found
+read_argument-returns-clause-found t c = (
+  mapped_good (wrapped c.args.wrapper) (read (kind c.args.ty.now) c.args.self.now.next (tree c.args.node.now)) _ (all_pending c.args.self.now.pending) _ c.in_ok-value.ensures.found.0
+      ∙ ap (λ x. good x (all_pending c.read.new.self.pending)) (sym c.in_ok-wrapped_value.ensures.value),
+  c.in_ok-value.ensures.found.1,
+)
+
+pub read_binding-returns-in_err-datum-clause-entry : goal.read_binding-returns-in_err-datum-clause-entry
+read_binding-returns-in_err-datum-clause-entry t c =
+    let fault : IsFault (with_pending (all_pending c.args.self.now.pending) (read_binding (read (kind c.args.key.now)) (read (kind c.args.value.now)) (told c.args.before)
+    c.args.self.now.next (tree c.args.binding.0.now) (tree c.args.binding.1.now))) c.in_err-datum.field-0.0 =
+    binding_misfit (read (kind c.args.key.now)) (read (kind c.args.value.now)) (told c.args.before) c.args.self.now.next (tree c.args.binding.0.now) (tree c.args.binding.1.now)
+    (all_pending c.args.self.now.pending) _ _ _ c.in_ok-first.ensures.found.0 c.in_err-datum.ensures in
+    search (rules, fault)
+
+pub read_binding-returns-in_err-second-clause-entry : goal.read_binding-returns-in_err-second-clause-entry
+read_binding-returns-in_err-second-clause-entry t c =
+    let fault : IsFault (with_pending (all_pending c.args.self.now.pending) (read_binding (read (kind c.args.key.now)) (read (kind c.args.value.now)) (told c.args.before)
+    c.args.self.now.next (tree c.args.binding.0.now) (tree c.args.binding.1.now))) c.in_err-second.field-0.0 =
+    binding_second (read (kind c.args.key.now)) (read (kind c.args.value.now)) (told c.args.before) c.args.self.now.next (tree c.args.binding.0.now) (tree c.args.binding.1.now)
+    (all_pending c.args.self.now.pending) _ _ _ _ c.in_ok-first.ensures.found.0 c.in_ok-first.ensures.found.1 c.in_ok-datum.ensures.0 c.in_err-second.ensures.found in
+    search (rules, fault)
+
+pub read_parts-returns-in_err-behind-in-Two-clause-found : goal.read_parts-returns-in_err-behind-in-Two-clause-found
+read_parts-returns-in_err-behind-in-Two-clause-found t c =
+    let fault : IsFault (with_pending (all_pending c.args.self.now.pending) (read_parts (read (kind c.args.first.now)) (read (kind c.args.second.now))
+    (read_rest (kind c.args.second.now) c.args.whole) c.args.whole c.args.self.now.next (trees c.args.parts.now))) c.in_err-behind-in-Two.field-0.0 =
+    two_last_fault (read (kind c.args.first.now)) (read (kind c.args.second.now)) (read_rest (kind c.args.second.now) c.args.whole) c.args.whole c.args.self.now.next c.args.parts.now
+    c.in-Two.part.now (all_pending c.args.self.now.pending) c.in-Two.last.now _ _ _ _ c.in-Two.ensures c.in_ok-value-in-Two.ensures.found.0 c.in_ok-value-in-Two.ensures.found.1
+    c.in_err-behind-in-Two.ensures.found in
+    search (rules, fault)
