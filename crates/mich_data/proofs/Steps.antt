@@ -24,6 +24,9 @@ module _ {A : Type 0} where
   with_none (good x ps) = refl
   with_none (bad l) = refl
 
+  pub with_nothing : (ps : List Pending) (r : Literal A) → ps ≡ [] → r ≡ with_pending ps r
+  with_nothing ps r e = sym (with_none r) ∙ ap (λ qs. with_pending qs r) (sym e)
+
 module _ {A B : Type 0} where
   -- ---- a part that is read
 

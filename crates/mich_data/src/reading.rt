@@ -32,7 +32,6 @@ pub fn read_value(alloc: Global, ty: &Ty, node: &Node) -> Result<Read, ValueErro
 }
 
 /// The same of the node at a location, from which its locations are counted.
-#[tactic(auto, using(crate::proofs::Steps::with_none))]
 pub fn read_value_at(alloc: Global, ty: &Ty, node: &Node, at: u32) -> Result<Read, ValueError>
     requires { at + size (tree node.now) < 2 ^ 32 }
     ensures literal { IsLiteral (read (kind ty.now) at (tree node.now)) result }
