@@ -74,12 +74,7 @@ impl Reading {
     // What a wrapper makes of the value that its argument spells.
     #[tactic(auto, using(crate::proofs::Steps::mapped_good, crate::proofs::Steps::fault_mapped))]
     #[cycle(read)]
-    fn read_argument(
-        &mut self,
-        wrapper: Wrapper,
-        ty: &Ty,
-        node: &Node,
-    ) -> Result<Value, ValueError>
+    fn read_argument(&mut self, wrapper: Wrapper, ty: &Ty, node: &Node) -> Result<Value, ValueError>
         requires { self.old.next + size (tree node.now) < 2 ^ 32 }
         ensures found { IsFound (made (wrapped wrapper) (read (kind ty.now))) (tree node.now) self.old self.new result }
         ensures whole { IfOk result (λ v. IsWrappedWhole wrapper (kind ty.now) v) }
