@@ -37,7 +37,6 @@ pub(crate) fn word_of_name(name: &Text) -> Word
 }
 
 // The same of the names that most literals have, without a search among all primitives.
-#[tactic(auto, using(crate::proofs::Frequent::true_is, crate::proofs::Frequent::false_is, crate::proofs::Frequent::pair_is, crate::proofs::Frequent::entry_is))]
 fn frequent_word(name: &[u8]) -> Option<Word>
     ensures { IfSome result (λ w. word w ≡ word_of_name name.now) }
 {
