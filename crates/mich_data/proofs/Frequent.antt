@@ -1,20 +1,28 @@
--- What the names make that most literals have.
+-- What the names of four letters make.
 use Rattle.std.proofs.Common.{◌≡◌, codes, refl}
 use Rattle.rules_base.specs.Primitives.{code_of_name, primitive_names, primitive_of_code, primitive_of_name, primitives}
-use Rattle.rules_values.specs.Literals.{word_of_name, true_word, false_word, pair_word, entry_word}
+use Rattle.rules_values.specs.Literals.{word_of_name, true_word, unit_word, none_word, some_word, left_word, pair_word}
 
 pub true_is : word_of_name (codes "True") ≡ true_word
 unfolding word_of_name primitive_of_name primitive_of_code code_of_name primitive_names primitives
 true_is = refl
 
-pub false_is : word_of_name (codes "False") ≡ false_word
+pub unit_is : word_of_name (codes "Unit") ≡ unit_word
 unfolding word_of_name primitive_of_name primitive_of_code code_of_name primitive_names primitives
-false_is = refl
+unit_is = refl
+
+pub none_is : word_of_name (codes "None") ≡ none_word
+unfolding word_of_name primitive_of_name primitive_of_code code_of_name primitive_names primitives
+none_is = refl
+
+pub some_is : word_of_name (codes "Some") ≡ some_word
+unfolding word_of_name primitive_of_name primitive_of_code code_of_name primitive_names primitives
+some_is = refl
+
+pub left_is : word_of_name (codes "Left") ≡ left_word
+unfolding word_of_name primitive_of_name primitive_of_code code_of_name primitive_names primitives
+left_is = refl
 
 pub pair_is : word_of_name (codes "Pair") ≡ pair_word
 unfolding word_of_name primitive_of_name primitive_of_code code_of_name primitive_names primitives
 pair_is = refl
-
-pub entry_is : word_of_name (codes "Elt") ≡ entry_word
-unfolding word_of_name primitive_of_name primitive_of_code code_of_name primitive_names primitives
-entry_is = refl

@@ -1,5 +1,5 @@
 // The names that literals are made with.
-ghost use Rattle.std.specs.Prelude.{◌≡◌, Some};
+ghost use Rattle.std.specs.Prelude.{◌≡◌, [], ◌∷◌, Some};
 ghost use Rattle.std.specs.Option.{IfSome};
 ghost use Rattle.rules_values.specs.Literals.{word_of, word_of_name};
 ghost use Rattle.mich_data.specs.View.{word};
@@ -36,23 +36,29 @@ pub(crate) fn word_of_name(name: &Text) -> Word
     }
 }
 
-// The same of the names that most literals have, without a search among all primitives.
+// The same of the names that most literals have, which have four letters, without a search among all primitives.
 fn frequent_word(name: &[u8]) -> Option<Word>
     ensures { IfSome result (λ w. word w ≡ word_of_name name.now) }
 {
-    if name == b"True".as_slice() {
-        return Some(Word::True);
+    match name {
+        [a, b, c, d] => word_of_four(*a, *b, *c, *d),
+        _ => None,
     }
-    if name == b"False".as_slice() {
-        return Some(Word::False);
+}
+
+#[tactic(auto, using(crate::proofs::Frequent::true_is, crate::proofs::Frequent::unit_is, crate::proofs::Frequent::none_is, crate::proofs::Frequent::some_is, crate::proofs::Frequent::left_is, crate::proofs::Frequent::pair_is))]
+fn word_of_four(a: u8, b: u8, c: u8, d: u8) -> Option<Word>
+    ensures { IfSome result (λ w. word w ≡ word_of_name (a ∷ b ∷ c ∷ d ∷ [])) }
+{
+    match (a, b, c, d) {
+        (b'T', b'r', b'u', b'e') => Some(Word::True),
+        (b'U', b'n', b'i', b't') => Some(Word::Unit),
+        (b'N', b'o', b'n', b'e') => Some(Word::None),
+        (b'S', b'o', b'm', b'e') => Some(Word::Some),
+        (b'L', b'e', b'f', b't') => Some(Word::Left),
+        (b'P', b'a', b'i', b'r') => Some(Word::Pair),
+        _ => None,
     }
-    if name == b"Pair".as_slice() {
-        return Some(Word::Pair);
-    }
-    if name == b"Elt".as_slice() {
-        return Some(Word::Entry);
-    }
-    None
 }
 
 fn word_of(primitive: Primitive) -> Word
