@@ -44,7 +44,7 @@ use Rattle.mich_world.proofs.Moves.{contracts_there}
 use Rattle.mich_standing.specs.Laws.{NewWorldsAgree, ClocksAgree, ContractsAgree, AccountsAgree, ReceiversAgree, Grants, GrantsAgree, InstallsAgree, CommitsAgree, RunsAgree, RunsKeepStored, RunEndsAgree, CreditsAgree, DebitsAgree, SameWorldsAgree, MarksAgree, KeepingAgrees}
 use Rattle.mich_standing.proofs.Accounts.{keys_seen, account_is, account_held, credit_those, debit_those, balance_those, holder_there}
 use Rattle.mich_standing.proofs.Contracts.{contract_is, later, standing, balance_same, nobody, length_is, amounts, before_held, contract_those, made_held, replaced_held, made_contracts, replaced_contracts}
-use Rattle.laws_forms.proofs.Places.{contract_is, implicit_is}
+use Rattle.laws_forms.proofs.Places.{contract_is as contract_place_is, implicit_is}
 use Rattle.mich_standing.proofs.Owners.{place_length, implicit_of, hash_of}
 
 -- ---- new worlds and the clock
@@ -244,7 +244,7 @@ installs_agree u v w from hash mutez script given s i stored ticketless is there
     (made_contracts bs ns (with_less h from mutez) x.contracts hash c d less.contracts same
     (ap (λ (y : Val). record { balance = mutez; script = script_node script; storage = y }) installs.settles.same))
     (λ id o p. made_held b v.ledger.books.present x hash (tickets (val given)) storage twenty none
-    (λ j. less.held j (contract_place hash) (contract_is hash twenty)) (λ j. amounts bs given j ticketless formed) installs.enters id o)
+    (λ j. less.held j (contract_place hash) (contract_place_is hash twenty)) (λ j. amounts bs given j ticketless formed) installs.enters id o)
     installs.enters.totals))
 
 pub commits_agree : CommitsAgree
@@ -272,7 +272,7 @@ commits_agree u v w hash given before s i stored ticketless there formed commits
     (contract_those h (committed h hash commits.storage) bs ns b c w hash d twenty t refl refl refl
     (replaced_contracts bs ns h b w hash before commits.storage storage t i there same commits.settles.same)
     (λ id o p. replaced_held b c w hash (stored_tickets (contract_at h hash)) (tickets (val given)) before storage twenty there
-    (λ j. t.held j (contract_place hash) (contract_is hash twenty)) (λ j. before_held h bs b w hash before j t stored ticketless there)
+    (λ j. t.held j (contract_place hash) (contract_place_is hash twenty)) (λ j. before_held h bs b w hash before j t stored ticketless there)
     (λ j. amounts bs given j ticketless formed) commits.replaces id o)
     (λ id. commits.replaces.entered.totals id ∙ commits.replaces.left.totals id)))
 
