@@ -24,5 +24,5 @@ install-requires-clause-based c = each.of_unit (BasedLayer _)
 pub returns : goal.returns
 returns c =
     subst (AllByRecursion (λ (x : List ℕ × Contract). IsTypedScript x.1.script))
-    (sym (alone _ _ _ _ _ _ _ _ c.new-world.ensures c.in_ok-install.ensures.answer.1.funds))
+    (sym (alone _ _ _ c.new-world.result c.install.new.self _ _ _ c.new-world.ensures c.in_ok-install.ensures.answer.1.funds))
     (subst IsTypedScript (sym c.in_ok-script.ensures) c.in_ok-typed.ensures.1, tt)
