@@ -31,14 +31,14 @@ hosting_funds v w e c h = subst IsHosting (sym e) (record {
   ticketless = h.ticketless;
 })
 
-begun : (chain : List ℕ) (level : ℕ) (moment : ℤ) (v : World) → is_chain_id chain ≡ true → level < 2 ^ 32 → is_moment moment ≡ true → v ≡ no_world chain level moment → IsBegun v
-begun chain level moment v i l m e =
+begun : (chain : List ℕ) (level : ℕ) (moment : ℤ) (v : World) → v ≡ no_world chain level moment → is_chain_id chain ≡ true → level < 2 ^ 32 → is_moment moment ≡ true → IsBegun v
+begun chain level moment v e i l m =
     let whole = new_worlds_are_good chain level moment i l m in
     subst IsBegun (sym e) (new_world chain level moment, new_worlds_agree chain level moment, whole.0, whole.1, record { typed = tt; stored = tt; ticketless = tt })
 
-granted : (u v : World) (who : List ℕ) (mutez : ℕ) (r : Result (Unit {0}) GrantError) → IsBegun u → is_key_hash who ≡ true → v ≡ with_funds u v.funds
-    → IsGrant who mutez u.funds v.funds r → r ≡ Ok tt → IsBegun v
-granted u v who mutez r old key others answer ok =
+granted : (u v : World) (who : List ℕ) (mutez : ℕ) (r : Result (Unit {0}) GrantError) → IsBegun u → v ≡ with_funds u v.funds → IsGrant who mutez u.funds v.funds r
+    → r ≡ Ok tt → is_key_hash who ≡ true → IsBegun v
+granted u v who mutez r old others answer ok key =
     by old.0 old.1 old.2 old.3 (granted_to old.0 who mutez) refl (subst (Grants v (granted_to old.0 who mutez)) ok (grants_agree u v old.0 who mutez r old.1 key others answer))
   where
     made : IsGrant {U = Unit {0}} who mutez u.funds v.funds (Ok tt)
@@ -53,4 +53,5 @@ granted u v who mutez r old key others answer ok =
 
 pub returns : goal.returns
 returns c =
-    granted _ _ _ _ _ (begun _ _ _ _ refl (omega arith) refl c.new-world.ensures) refl c.grant.ensures.others c.grant.ensures.answer c.in_ok-grant.was
+    granted c.new-world.result c.grant.new.self _ _ c.grant.result (begun _ _ _ c.new-world.result c.new-world.ensures refl (omega arith) refl)
+    c.grant.ensures.others c.grant.ensures.answer c.in_ok-grant.was refl
