@@ -3,7 +3,7 @@ use Rattle.std.specs.Prelude.{Result}
 use Rattle.std.specs.List.{AllByRecursion}
 use Rattle.laws_runs.specs.Worlds.{IsWhole}
 use Rattle.laws_world.proofs.Chains.{grants_keep_good, new_worlds_are_good}
-use Rattle.rules_values.specs.ByteForms.{is_chain_id, is_key_hash}
+use Rattle.rules_forms.specs.Spelling.{is_chain_id, is_key_hash}
 use Rattle.rules_world.specs.Balances.{Grant, Granted, Repeated, TooMuch, granted_to}
 use Rattle.rules_world.specs.Forms.{is_moment}
 use Rattle.rules_world.specs.Good.{IsNewGroup}
