@@ -302,22 +302,22 @@ fn a_recursive_lambda_stands_on_its_stack(rt: HostRuntime) -> Result<(), Fail> {
     Ok(())
 }
 
-// An arrow with so many lists around its argument.
-fn deep(alloc: Global, count: u32) -> Result<Arrow, Memory> {
+// An arrow from pairs of pairs, so many times, to nat.
+fn wide(alloc: Global, times: u32) -> Result<Arrow, Memory> {
     let mut arg = Ty::Int;
-    for _ in 0..count {
-        arg = Ty::List(Link::new(alloc, arg)?);
+    for _ in 0..times {
+        arg = pair_of(alloc, &arg, &arg)?;
     }
     Ok(Arrow { arg, ret: Ty::Nat })
 }
 
-// A type has at most 2,000 nodes.
+// A type has at most 2,000 nodes; those of the pairs are 1,023 and 2,047.
 #[test]
 fn a_recursive_lambda_may_be_too_large(rt: HostRuntime) -> Result<(), Fail> {
     let alloc = rt.alloc();
-    let most = deep(alloc, 1_997)?;
-    assert_eq!(rt; fault(begun(alloc, true, &most, 7))?, None);
-    let large = deep(alloc, 1_998)?;
+    let small = wide(alloc, 9)?;
+    assert_eq!(rt; fault(begun(alloc, true, &small, 7))?, None);
+    let large = wide(alloc, 10)?;
     assert_eq!(rt; fault(begun(alloc, true, &large, 7))?, Some(7));
     assert_eq!(rt; fault(begun(alloc, false, &large, 7))?, None);
     Ok(())

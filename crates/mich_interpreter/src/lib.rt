@@ -37,3 +37,6 @@ pub use contracts::new_contract;
 pub use machine::Ended;
 pub use mich_bodies::{Bodies, Uses};
 pub use state::{Counts, State};
+
+#[cfg(test)]
+mod tests;
