@@ -1,16 +1,17 @@
 // What no clause says: that the calls answer with ample memory, and that a mark and undoing to it cost little.
-ghost use Rattle.std.specs.Prelude.{◌≡◌, ◌≤ℤ◌, ℕ, List, pos, IfOk};
+ghost use Rattle.std.specs.Prelude.{◌≡◌, ◌≤ℤ◌, ℕ, List, pos, map, IfOk};
 ghost use Rattle.rules_values.specs.Tickets.{Identity};
+ghost use Rattle.mich_term.specs.TicketView.{held};
 ghost use Rattle.mich_bigmap.specs.Formed.{IsFormed};
 ghost use Rattle.mich_tickets.specs.Sums.{held_of};
 ghost use Rattle.mich_world.specs.Marks.{KeepsWorld};
 
 use crate::{Contract, GrantError, MoveError, World};
-use mich_base::{Memory, Node, Rows, Shared, Ty};
-use mich_bigmap::settle;
+use mich_base::{Link, Memory, Node, Rows, Shared, Ty};
+use mich_bigmap::{release, settle};
 use mich_forms::{ChainId, KeyHash, Place};
 use mich_instr::Script;
-use mich_term::{BigMap, Datum, Ticket, TicketId, Value};
+use mich_term::{BigMap, Burner, Datum, Ticket, TicketId, Value};
 use mich_types::Parameter;
 use std::alloc::Global;
 use std::test::Fail;
@@ -408,6 +409,54 @@ fn a_storage_is_replaced(rt: HostRuntime) -> Result<(), Fail> {
     assert!(rt; world.balance(Place::Contract(HASH)) == Some(60) && world.supply() == 105);
     world.undo_to(mark);
     assert!(rt; tell(&world) == before);
+    Ok(())
+}
+
+// Keeps all that is burnt.
+#[derive(Drop)]
+struct Recorder {
+    tickets: Rows<Ticket>,
+}
+
+impl Burner for Recorder {
+    ghost told = { λ r. map held r.tickets };
+
+    ghost ready = { λ _ _. Unit {0} };
+
+    ghost prefix = { λ _ _ _ _. tt };
+
+    fn burn(&mut self, _alloc: Global, ticket: Ticket) -> Result<(), Memory> {
+        self.tickets.push(ticket)
+    }
+}
+
+fn ticket_value(alloc: Global, amount: i128) -> Result<Value, Memory> {
+    let id = identity();
+    Ok(Value::Ticket(Link::new(alloc, Ticket { id, amount })?))
+}
+
+// A big map of tickets, at 1 and in an option at 2.
+fn of_tickets(alloc: Global) -> Result<BigMap, Memory> {
+    let mut overlay = Rows::new(alloc);
+    overlay.push((Datum::Number(1), Some(ticket_value(alloc, 5)?)))?;
+    let second = Value::Some(Link::new(alloc, ticket_value(alloc, 3)?)?);
+    overlay.push((Datum::Number(2), Some(second)))?;
+    Ok(BigMap {
+        shares: false,
+        base: None,
+        overlay,
+    })
+}
+
+#[test]
+fn the_tickets_of_a_big_map_that_is_released_are_told(rt: HostRuntime) -> Result<(), Fail> {
+    let alloc = rt.alloc();
+    let mut recorder = Recorder {
+        tickets: Rows::new(alloc),
+    };
+    release(alloc, of_tickets(alloc)?, &mut recorder)?;
+    let told = recorder.tickets.as_slice();
+    assert!(rt; matches!(told, [Ticket { amount: 5, .. }, Ticket { amount: 3, .. }]));
     Ok(())
 }
 
