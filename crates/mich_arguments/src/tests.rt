@@ -45,12 +45,12 @@ fn entry(name: &str) -> Result<Entrypoint, Fail> {
 fn world(alloc: Global) -> Result<World, Fail>
     ensures { IfOk result HasTypedScripts }
 {
-    let script = node(alloc, SCRIPT)?;
-    if !size_within(&script, 10_000) {
+    let written = node(alloc, SCRIPT)?;
+    if !size_within(&written, 10_000) {
         return Err(Fail::from("too large"));
     }
-    let script = check_script(alloc, &script)?;
-    let script = Shared::new(alloc, script)?;
+    let typed = check_script(alloc, &written)?;
+    let script = Shared::new(alloc, typed)?;
     let mut world = World::new(alloc, ChainId { body: [0; 4] }, 1, 0);
     let from = Place::Implicit(SOURCE);
     world.install(alloc, HASH, from, 0, script, Value::Unit)?;
