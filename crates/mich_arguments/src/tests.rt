@@ -22,7 +22,8 @@ const HASH: [u8; 20] = [7; 20];
 
 const OTHER: [u8; 20] = [9; 20];
 
-const SCRIPT: &str = "{ parameter (or (int %a) (string %b)) ; storage unit ; code { CDR ; NIL operation ; PAIR } }";
+const SCRIPT: &str =
+    "{ parameter (or (int %a) (string %b)) ; storage unit ; code { CDR ; NIL operation ; PAIR } }";
 
 fn node(alloc: Global, text: &str) -> Result<Node, Fail> {
     let placed = read_statement(alloc, text.as_bytes(), 0)?.ok_or("no statement")?;

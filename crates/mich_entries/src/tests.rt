@@ -75,7 +75,12 @@ fn taken(alloc: Global, key: i128) -> Result<(Option<Value>, Option<Value>), Mem
     let mut stack = one_entry(alloc, &store)?;
     push(&mut stack, Value::None)?;
     push(&mut stack, Value::Number(key))?;
-    big_map_step(alloc, &CollectionRow::GetAndUpdateBigMap, &mut stack, &store)?;
+    big_map_step(
+        alloc,
+        &CollectionRow::GetAndUpdateBigMap,
+        &mut stack,
+        &store,
+    )?;
     let old = stack.pop();
     Ok((old, stack.pop()))
 }

@@ -30,7 +30,9 @@ const SCRIPT: &str = "{ parameter unit ; storage unit ; code { CDR ; NIL operati
 #[test]
 fn contracts_have_addresses(rt: HostRuntime) {
     let hash = new_contract(0x0102_0304_0506_0708, 0x090a_0b0c);
-    let bytes = [1, 2, 3, 4, 5, 6, 7, 8, 9, 10, 11, 12, 0, 0, 0, 0, 0, 0, 0, 0];
+    let bytes = [
+        1, 2, 3, 4, 5, 6, 7, 8, 9, 10, 11, 12, 0, 0, 0, 0, 0, 0, 0, 0,
+    ];
     assert!(rt; hash == bytes);
 }
 
@@ -112,7 +114,8 @@ fn number_left(ended: &Ended) -> Option<(i128, u64)> {
 
 #[test]
 fn a_loop_runs_to_its_end(rt: HostRuntime) -> Result<(), Fail> {
-    let body = "{ PUSH int 0 ; SWAP ; DUP ; GT ; LOOP { DUP ; DIP { ADD } ; PUSH int -1 ; ADD ; DUP ; GT } ; DROP }";
+    let body =
+        "{ PUSH int 0 ; SWAP ; DUP ; GT ; LOOP { DUP ; DIP { ADD } ; PUSH int -1 ; ADD ; DUP ; GT } ; DROP }";
     let left = number_left(&ended(rt.alloc(), &Ty::Int, body, 100, 1_000_000)?);
     assert!(rt; left.is_some_and(|l| l.0 == 5_050 && l.1 < 1_000_000));
     Ok(())
@@ -120,7 +123,8 @@ fn a_loop_runs_to_its_end(rt: HostRuntime) -> Result<(), Fail> {
 
 #[test]
 fn a_lambda_and_a_view_are_called(rt: HostRuntime) -> Result<(), Fail> {
-    let body = "{ LAMBDA int int { PUSH int 3 ; MUL } ; SWAP ; EXEC ; SELF_ADDRESS ; SWAP ; VIEW \"v\" int ; \
+    let body =
+        "{ LAMBDA int int { PUSH int 3 ; MUL } ; SWAP ; EXEC ; SELF_ADDRESS ; SWAP ; VIEW \"v\" int ; \
         IF_NONE { PUSH int 8 } { } }";
     let left = number_left(&ended(rt.alloc(), &Ty::Int, body, 5, 1_000_000)?);
     assert!(rt; left.is_some_and(|l| l.0 == 8));
@@ -145,9 +149,21 @@ fn code_fails(rt: HostRuntime) -> Result<(), Fail> {
     assert!(rt; matches!(failed, Ended::Failed(_, Failed::With(_, _))));
     let failed = ended(alloc, &Ty::Int, "{ PUSH int 1 ; ADD }", 5, 1)?;
     assert!(rt; matches!(failed, Ended::Failed(_, Failed::OutOfGas)));
-    let failed = ended(alloc, &Ty::Int, "{ PUSH int 1 ; ADD }", i128::MAX, 1_000_000)?;
+    let failed = ended(
+        alloc,
+        &Ty::Int,
+        "{ PUSH int 1 ; ADD }",
+        i128::MAX,
+        1_000_000,
+    )?;
     assert!(rt; matches!(failed, Ended::Failed(_, Failed::IntegerLimit)));
-    let failed = ended(alloc, &Ty::Int, "{ PUSH nat 257 ; PUSH nat 1 ; LSL ; INT ; ADD }", 5, 1_000_000)?;
+    let failed = ended(
+        alloc,
+        &Ty::Int,
+        "{ PUSH nat 257 ; PUSH nat 1 ; LSL ; INT ; ADD }",
+        5,
+        1_000_000,
+    )?;
     assert!(rt; matches!(failed, Ended::Failed(_, Failed::ShiftLimit)));
     Ok(())
 }

@@ -22,7 +22,10 @@ fn each_instruction_has_a_kind(rt: HostRuntime) {
         (Simple::Texts(TextRow::ConcatBytesList), Kind::Concat),
         (Simple::Hashes(HashRow::Sha256), Kind::Sha256),
         (Simple::Environment(EnvironmentRow::Now), Kind::Now),
-        (Simple::Operations(OperationRow::TransferTokens), Kind::TransferTokens),
+        (
+            Simple::Operations(OperationRow::TransferTokens),
+            Kind::TransferTokens,
+        ),
         (Simple::Tickets(TicketRow::JoinTickets), Kind::JoinTickets),
     ];
     for (instr, kind) in &rows {
@@ -60,12 +63,26 @@ fn stack(alloc: Global, third: Value, second: Value, first: Value) -> Result<Row
 #[test]
 fn values_are_weighed(rt: HostRuntime) -> Result<(), Fail> {
     let alloc = rt.alloc();
-    let values = stack(alloc, Value::Unit, list(alloc, "ab", "c")?, Value::Number(5))?;
-    assert_eq!(rt; weight(alloc, Simple::Stack(StackRow::Drop(2)), &values)?, 4);
-    assert_eq!(rt; weight(alloc, Simple::Stack(StackRow::Drop(3)), &values)?, 5);
+    let values = stack(
+        alloc,
+        Value::Unit,
+        list(alloc, "ab", "c")?,
+        Value::Number(5),
+    )?;
+    assert_eq!(rt;
+        weight(alloc, Simple::Stack(StackRow::Drop(2)), &values)?,
+        4
+    );
+    assert_eq!(rt;
+        weight(alloc, Simple::Stack(StackRow::Drop(3)), &values)?,
+        5
+    );
     assert_eq!(rt; weight(alloc, Simple::Stack(StackRow::Dup(2)), &values)?, 3);
     assert_eq!(rt; weight(alloc, Simple::Stack(StackRow::Swap), &values)?, 0);
-    assert_eq!(rt; weight(alloc, Simple::Numbers(NumberRow::AddNumbers), &values)?, 0);
+    assert_eq!(rt;
+        weight(alloc, Simple::Numbers(NumberRow::AddNumbers), &values)?,
+        0
+    );
     Ok(())
 }
 
@@ -103,23 +120,56 @@ fn what_get_finds_is_weighed(rt: HostRuntime) -> Result<(), Fail> {
 fn lengths_of_texts_are_weighed(rt: HostRuntime) -> Result<(), Fail> {
     let alloc = rt.alloc();
     let strings = stack(alloc, Value::Unit, text(alloc, "abc")?, text(alloc, "de")?)?;
-    assert_eq!(rt; weight(alloc, Simple::Texts(TextRow::ConcatStrings), &strings)?, 5);
-    assert_eq!(rt; weight(alloc, Simple::Texts(TextRow::SizeString), &strings)?, 0);
+    assert_eq!(rt;
+        weight(alloc, Simple::Texts(TextRow::ConcatStrings), &strings)?,
+        5
+    );
+    assert_eq!(rt;
+        weight(alloc, Simple::Texts(TextRow::SizeString), &strings)?,
+        0
+    );
     let both = stack(alloc, Value::Unit, bytes(alloc, "abc")?, bytes(alloc, "d")?)?;
-    assert_eq!(rt; weight(alloc, Simple::Texts(TextRow::ConcatBytes), &both)?, 4);
+    assert_eq!(rt;
+        weight(alloc, Simple::Texts(TextRow::ConcatBytes), &both)?,
+        4
+    );
     let listed = stack(alloc, Value::Unit, Value::Unit, list(alloc, "abc", "de")?)?;
-    assert_eq!(rt; weight(alloc, Simple::Texts(TextRow::ConcatStringList), &listed)?, 7);
+    assert_eq!(rt;
+        weight(alloc, Simple::Texts(TextRow::ConcatStringList), &listed)?,
+        7
+    );
     Ok(())
 }
 
 #[test]
 fn what_is_cut_is_weighed(rt: HostRuntime) -> Result<(), Fail> {
     let alloc = rt.alloc();
-    let cut = stack(alloc, text(alloc, "abcde")?, Value::Number(3), Value::Number(1))?;
-    assert_eq!(rt; weight(alloc, Simple::Texts(TextRow::SliceString), &cut)?, 3);
-    let past = stack(alloc, text(alloc, "abcde")?, Value::Number(3), Value::Number(4))?;
-    assert_eq!(rt; weight(alloc, Simple::Texts(TextRow::SliceString), &past)?, 0);
-    let cut = stack(alloc, bytes(alloc, "abcde")?, Value::Number(4), Value::Number(0))?;
+    let cut = stack(
+        alloc,
+        text(alloc, "abcde")?,
+        Value::Number(3),
+        Value::Number(1),
+    )?;
+    assert_eq!(rt;
+        weight(alloc, Simple::Texts(TextRow::SliceString), &cut)?,
+        3
+    );
+    let past = stack(
+        alloc,
+        text(alloc, "abcde")?,
+        Value::Number(3),
+        Value::Number(4),
+    )?;
+    assert_eq!(rt;
+        weight(alloc, Simple::Texts(TextRow::SliceString), &past)?,
+        0
+    );
+    let cut = stack(
+        alloc,
+        bytes(alloc, "abcde")?,
+        Value::Number(4),
+        Value::Number(0),
+    )?;
     assert_eq!(rt; weight(alloc, Simple::Texts(TextRow::SliceBytes), &cut)?, 4);
     Ok(())
 }
