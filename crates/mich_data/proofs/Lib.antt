@@ -10,3 +10,4 @@ pub mod Combs
 pub mod Written
 pub mod Whole
 pub mod Formed
+pub mod Frequent

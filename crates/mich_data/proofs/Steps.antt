@@ -5,8 +5,9 @@ use Rattle.rules_types.specs.Kind.{Kind}
 use Rattle.rules_values.specs.Literals.{Pending, Literal, good, bad, with_pending, and_then, mapped, read, read_rest}
 use Rattle.mich_data.specs.declared.error.ValueError.{ValueError}
 use Rattle.mich_data.specs.declared.error.ValueError.TheVariants as error
-use Rattle.mich_data.specs.declared.parts.Found.{Found}
-use Rattle.mich_data.specs.Answers.{IsFault, IsFound}
+use Rattle.mich_data.specs.declared.reading.Reading.{Reading}
+use Rattle.mich_term.specs.declared.value.Value.{Value}
+use Rattle.mich_data.specs.Answers.{IsFault, IsFound, AreFound}
 
 module _ {A : Type 0} where
   twice : (ps qs : List Pending) (r : Literal A) → with_pending ps (with_pending qs r) ≡ with_pending (ps ++ qs) r
@@ -22,6 +23,9 @@ module _ {A : Type 0} where
   pub with_none : (r : Literal A) → with_pending [] r ≡ r
   with_none (good x ps) = refl
   with_none (bad l) = refl
+
+  pub with_nothing : (ps : List Pending) (r : Literal A) → ps ≡ [] → r ≡ with_pending ps r
+  with_nothing ps r e = sym (with_none r) ∙ ap (λ qs. with_pending qs r) (sym e)
 
 module _ {A B : Type 0} where
   -- ---- a part that is read
@@ -55,10 +59,10 @@ module _ {A B : Type 0} where
 
 -- ---- a type that is known
 
-pub at_kind : (a b : Kind) (ps qs : List Pending) (at next : ℕ) (t : Tree) (answer : Result Found ValueError) → a ≡ b →
-    IsFound (with_pending ps (read b at t)) next qs answer → IsFound (with_pending ps (read a at t)) next qs answer
-at_kind a b ps qs at next t answer e h = subst (λ x. IsFound (with_pending ps (read x at t)) next qs answer) (sym e) h
+pub at_kind : (a b : Kind) (t : Tree) (old new : Reading) (answer : Result Value ValueError) → a ≡ b →
+    IsFound (read b) t old new answer → IsFound (read a) t old new answer
+at_kind a b t old new answer e h = subst (λ x. IsFound (read x) t old new answer) (sym e) h
 
-pub rest_at_kind : (a b : Kind) (ps qs : List Pending) (whole at next : ℕ) (ts : Trees) (answer : Result Found ValueError) → a ≡ b →
-    IsFound (with_pending ps (read_rest b whole at ts)) next qs answer → IsFound (with_pending ps (read_rest a whole at ts)) next qs answer
-rest_at_kind a b ps qs whole at next ts answer e h = subst (λ x. IsFound (with_pending ps (read_rest x whole at ts)) next qs answer) (sym e) h
+pub rest_at_kind : (a b : Kind) (whole : ℕ) (ts : Trees) (old new : Reading) (answer : Result Value ValueError) → a ≡ b →
+    AreFound (read_rest b whole) ts old new answer → AreFound (read_rest a whole) ts old new answer
+rest_at_kind a b whole ts old new answer e h = subst (λ x. AreFound (read_rest x whole) ts old new answer) (sym e) h

@@ -1,5 +1,5 @@
 -- Entries of a map, read one by one.
-use Rattle.std.proofs.Common.{◌≡◌, ℕ, ◌+◌, ◌-◌, ◌<◌, ◌≤◌, drop, get_or, Bor, true, false, cond, Option, Some, None, Bool, List, [], ◌∷◌, ◌++◌, map, option_map, length, refl, sym, ap, ◌∙◌, subst}
+use Rattle.std.proofs.Common.{◌≡◌, ℕ, ◌+◌, ◌-◌, ◌<◌, ◌≤◌, drop, get_or, Bor, Err, true, false, cond, Option, Some, None, Bool, List, [], ◌∷◌, ◌++◌, map, option_map, length, refl, sym, ap, ◌∙◌, subst}
 use Rattle.std.specs.Prelude.{slice_get}
 use Rattle.std.specs.Map.{keys_of}
 use Rattle.std.specs.List.{AllByRecursion}
@@ -24,7 +24,7 @@ use Rattle.mich_base.specs.View.{tree, trees}
 use Rattle.mich_base.specs.declared.node.Node.{Node}
 use Rattle.mich_data.specs.declared.error.ValueError.{ValueError}
 use Rattle.mich_data.specs.declared.error.ValueError.TheVariants as error
-use Rattle.mich_data.specs.Answers.{IsFault}
+use Rattle.mich_data.specs.Answers.{IsFault, IsKeyBehind}
 use Rattle.mich_data.proofs.Places.{left_at, left_end}
 use Rattle.mich_data.proofs.Steps.{mapped_good, mapped_bad, then_good, then_bad}
 use Rattle.mich_data.proofs.Keys.{last_value, last_of-more, stays_increasing, none_increases, last_key_told}
@@ -64,6 +64,15 @@ module _ (r q : Reader) (before : Option Val) (at : ℕ) (t u : Tree) (ps : List
       IsFault (with_pending qs (q (at + 1 + size t) u)) e → IsFault (with_pending ps (read_binding r q before at t u)) e
   binding_value x qs (error.NotOfType l) f b g = behind_key x qs f b ∙ mapped_bad (λ z. record { key = x; value = z }) (q (at + 1 + size t) u) l qs g
   binding_value x qs error.Memory f b g = tt
+
+  pub binding_misfit : (x : Val) (qs : List Pending) (e : ValueError) → with_pending ps (r (at + 1) t) ≡ good x qs → IsKeyBehind (is_behind before x) x at (Err e) →
+      IsFault (with_pending ps (read_binding r q before at t u)) e
+  binding_misfit x qs (error.NotOfType l) f b = binding_order x qs f b.0 ∙ ap bad (sym b.1)
+  binding_misfit x qs error.Memory f b = tt
+
+  pub binding_second : (x : Val) (next : ℕ) (qs : List Pending) (e : ValueError) → with_pending ps (r (at + 1) t) ≡ good x qs → next ≡ at + 1 + size t → is_behind before x ≡ true →
+      IsFault (with_pending qs (q next u)) e → IsFault (with_pending ps (read_binding r q before at t u)) e
+  binding_second x next qs e f n b g = binding_value x qs e f b (subst (λ j. IsFault (with_pending qs (q j u)) e) n g)
 
 -- ---- all entries
 

@@ -16,7 +16,6 @@ use Rattle.mich_term.specs.declared.value.Value.TheOpen.{Value-F}
 use Rattle.mich_term.specs.declared.value.Value.TheVariants as v
 use Rattle.mich_term.specs.declared.value.Value.TheVariants.{rolls-Some, rolls-Left, rolls-Right, rolls-Pair, rolls-List, rolls-Map, rolls-BigMap, rolls-Unit, rolls-Bool, rolls-Number, rolls-Text, rolls-Bytes, rolls-None, rolls-Set, rolls-Lambda}
 use Rattle.mich_term.specs.declared.value.BigMap.{BigMap}
-use Rattle.mich_data.specs.declared.parts.Found.{Found}
 use Rattle.mich_data.specs.declared.error.ValueError.{ValueError}
 use Rattle.mich_data.specs.Whole.{IsSimple, IsOption, IsEither, IsPair, IsListOf, IsSet, IsMapTo, IsLambda, IsBig, LiesWhole, IsWhole, AreWholeEntries}
 
@@ -91,5 +90,5 @@ entries_whole a d x es fs h i e = subst (AreWholeEntries a) (sym e) (all_with (I
 
 -- ---- types that are equal
 
-pub whole_at : (a b : Kind) (r : Result Found ValueError) → a ≡ b → IfOk r (λ f. IsWhole b f.value) → IfOk r (λ f. IsWhole a f.value)
-whole_at a b r e h = subst (λ x. IfOk r (λ f. IsWhole x f.value)) (sym e) h
+pub whole_at : (a b : Kind) (r : Result Value ValueError) → a ≡ b → IfOk r (λ v. IsWhole b v) → IfOk r (λ v. IsWhole a v)
+whole_at a b r e h = subst (λ x. IfOk r (λ v. IsWhole x v)) (sym e) h

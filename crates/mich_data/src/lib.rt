@@ -1,7 +1,10 @@
 //! Literals: nodes read as values of a type, and values written as nodes.
 #![tactic(auto)]
 
+mod collections;
 mod error;
+mod lambdas;
+mod pairs;
 mod parts;
 mod pending;
 mod reading;

@@ -1,4 +1,4 @@
-// What is found at a node, and values from their parts.
+// Values from their parts.
 ghost use Rattle.std.specs.Prelude.{◌≡◌, IfOk, map};
 ghost use Rattle.std.specs.Map.{keys_of};
 ghost use Rattle.rules_types.specs.Kind.{Kind};
@@ -14,26 +14,11 @@ use mich_base::{Link, Memory, Node, Rows};
 use mich_term::{BigMap, Datum, Table, Value};
 use std::alloc::Global;
 
-// A value, and the location behind its node.
-#[derive(Debug, Drop)]
-pub(crate) struct Found {
-    pub(crate) value: Value,
-    pub(crate) next: u32,
-}
-
-// An entry of a map, and the location behind its node.
+// An entry of a map.
 #[derive(Debug, Drop)]
 pub(crate) struct Entry {
     pub(crate) key: Datum,
     pub(crate) value: Value,
-    pub(crate) next: u32,
-}
-
-// The entries of a map, and the location behind them.
-#[derive(Debug, Drop)]
-pub(crate) struct Entries {
-    pub(crate) table: Table<Value>,
-    pub(crate) next: u32,
 }
 
 // The parts of a pair: two, or the first of more and those behind it.
@@ -61,36 +46,27 @@ pub(crate) enum Wrapper {
     Right,
 }
 
-impl Found {
-    // What a wrapper makes of it.
-    pub(crate) fn wrapped(self, alloc: Global, wrapper: Wrapper) -> Result<Found, Memory>
-        ensures found { IfOk result (λ f. (val f.value ≡ wrapped wrapper (val self.value)) × (f.next ≡ self.next)) }
-        ensures whole { IfOk result (λ f. (a : Kind) → IsWhole a self.value → IsWrappedWhole wrapper a f.value) }
-    {
-        let part = Link::new(alloc, self.value)?;
-        let value = match wrapper {
-            Wrapper::Some => Value::Some(part),
-            Wrapper::Left => Value::Left(part),
-            Wrapper::Right => Value::Right(part),
-        };
-        Ok(Found {
-            value,
-            next: self.next,
-        })
-    }
+// What a wrapper makes of a value.
+pub(crate) fn wrapped_value(alloc: Global, wrapper: Wrapper, value: Value) -> Result<Value, Memory>
+    ensures value { IfOk result (λ v. val v ≡ wrapped wrapper (val value)) }
+    ensures whole { IfOk result (λ v. (a : Kind) → IsWhole a value → IsWrappedWhole wrapper a v) }
+{
+    let part = Link::new(alloc, value)?;
+    Ok(match wrapper {
+        Wrapper::Some => Value::Some(part),
+        Wrapper::Left => Value::Left(part),
+        Wrapper::Right => Value::Right(part),
+    })
+}
 
-    // The pair of it and what was found behind it.
-    pub(crate) fn paired(self, alloc: Global, second: Found) -> Result<Found, Memory>
-        ensures found { IfOk result (λ f. (val f.value ≡ both (val self.value) (val second.value)) × (f.next ≡ second.next)) }
-        ensures whole { IfOk result (λ f. (a b : Kind) → IsWhole a self.value → IsWhole b second.value → IsWhole (k.pair a b) f.value) }
-    {
-        let first = Link::new(alloc, self.value)?;
-        let last = Link::new(alloc, second.value)?;
-        Ok(Found {
-            value: Value::Pair(first, last),
-            next: second.next,
-        })
-    }
+// The pair of two values.
+pub(crate) fn pair_value(alloc: Global, first: Value, second: Value) -> Result<Value, Memory>
+    ensures value { IfOk result (λ v. val v ≡ both (val first) (val second)) }
+    ensures whole { IfOk result (λ v. (a b : Kind) → IsWhole a first → IsWhole b second → IsWhole (k.pair a b) v) }
+{
+    let head = Link::new(alloc, first)?;
+    let last = Link::new(alloc, second)?;
+    Ok(Value::Pair(head, last))
 }
 
 // A big map whose entries lie in the value itself, and which may have a base later where it shares.

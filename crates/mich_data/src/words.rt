@@ -1,5 +1,6 @@
 // The names that literals are made with.
 ghost use Rattle.std.specs.Prelude.{◌≡◌, Some};
+ghost use Rattle.std.specs.Option.{IfSome};
 ghost use Rattle.rules_values.specs.Literals.{word_of, word_of_name};
 ghost use Rattle.mich_data.specs.View.{word};
 
@@ -26,10 +27,32 @@ pub(crate) enum Word {
 pub(crate) fn word_of_name(name: &Text) -> Word
     ensures { word result ≡ word_of_name name.now }
 {
+    if let Some(word) = frequent_word(name.as_slice()) {
+        return word;
+    }
     match primitive_of_name(name) {
         Some(primitive) => word_of(primitive),
         None => Word::Other,
     }
+}
+
+// The same of the names that most literals have, without a search among all primitives.
+fn frequent_word(name: &[u8]) -> Option<Word>
+    ensures { IfSome result (λ w. word w ≡ word_of_name name.now) }
+{
+    if name == b"True".as_slice() {
+        return Some(Word::True);
+    }
+    if name == b"False".as_slice() {
+        return Some(Word::False);
+    }
+    if name == b"Pair".as_slice() {
+        return Some(Word::Pair);
+    }
+    if name == b"Elt".as_slice() {
+        return Some(Word::Entry);
+    }
+    None
 }
 
 fn word_of(primitive: Primitive) -> Word

@@ -153,7 +153,7 @@ fn step(alloc: Global, path: &Rows<bool>, right: bool) -> Result<Rows<bool>, Mem
 }
 
 // Puts the entrypoint of a name, which stands at a location, behind the others.
-#[tactic(auto, using(crate::proofs::Names::named_well, crate::proofs::Names::named_badly))]
+#[tactic(auto, using(std::proofs::lemmas::Bool::false_from_ne_true))]
 fn add_entry(
     alloc: Global,
     entries: &mut Rows<Entry>,

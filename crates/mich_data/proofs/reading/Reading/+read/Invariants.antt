@@ -12,10 +12,10 @@ use Rattle.mich_data.proofs.Tables.{AreReadUpTo}
 use Rattle.std.specs.Prelude.{None}
 use Rattle.std.specs.List.{AllByRecursion}
 use Rattle.mich_data.specs.Whole.{IsWhole, AreWholeEntries}
-use Rattle.mich_data.proofs.reading.+read.Given as goal
+use Rattle.mich_data.proofs.reading.Reading.+read.Given as goal
 
-abbrev pub decreases-read_at : goal.decreases-read_at
-decreases-read_at l = 6 * size-Ty l.ty.now
+abbrev pub decreases-read : goal.decreases-read
+decreases-read l = 6 * size-Ty l.ty.now
 
 abbrev pub decreases-read_option : goal.decreases-read_option
 decreases-read_option l = 6 * size-Ty l.part.now + 2
@@ -71,22 +71,22 @@ decreases-read_binding l = 6 * max (size-Ty l.key.now) (size-Ty l.value.now) + 1
 abbrev pub invariant-read_elements-loop-node : goal.invariant-read_elements-loop-node
 invariant-read_elements-loop-node l =
     let left = trees (drop l.node-index l.node-items) in
-    (with_pending (all_pending l.initial.pending) (read_elements (read (kind l.part)) l.initial.next (trees l.nodes))
-    ≡ mapped (put_before (map val l.values)) (with_pending (all_pending l.pending) (read_elements (read (kind l.part)) l.next left)))
-    × (l.next + sizes left ≡ l.initial.next + sizes (trees l.nodes))
+    (with_pending (all_pending l.initial.self.pending) (read_elements (read (kind l.part)) l.initial.self.next (trees l.nodes))
+    ≡ mapped (put_before (map val l.values)) (with_pending (all_pending l.self.pending) (read_elements (read (kind l.part)) l.self.next left)))
+    × (l.self.next + sizes left ≡ l.initial.self.next + sizes (trees l.nodes))
     × AllByRecursion (IsWhole (kind l.part)) l.values
 
 abbrev pub invariant-read_increasing-loop-node : goal.invariant-read_increasing-loop-node
 invariant-read_increasing-loop-node l =
     let left = trees (drop l.node-index l.node-items) in
-    IsReadUpTo (with_pending (all_pending l.initial.pending) (read_increasing (read (kind l.part)) None l.initial.next (trees l.nodes)))
-    (read (kind l.part)) l.elements l.next left (all_pending l.pending)
-    × (l.next + sizes left ≡ l.initial.next + sizes (trees l.nodes))
+    IsReadUpTo (with_pending (all_pending l.initial.self.pending) (read_increasing (read (kind l.part)) None l.initial.self.next (trees l.nodes)))
+    (read (kind l.part)) l.elements l.self.next left (all_pending l.self.pending)
+    × (l.self.next + sizes left ≡ l.initial.self.next + sizes (trees l.nodes))
 
 abbrev pub invariant-read_entries-loop-node : goal.invariant-read_entries-loop-node
 invariant-read_entries-loop-node l =
     let left = trees (drop l.node-index l.node-items) in
-    AreReadUpTo (with_pending (all_pending l.initial.pending) (read_entries (read (kind l.key)) (read (kind l.value)) None l.initial.next (trees l.nodes)))
-    (read (kind l.key)) (read (kind l.value)) l.table l.next left (all_pending l.pending)
-    × (l.next + sizes left ≡ l.initial.next + sizes (trees l.nodes))
-    × AreWholeEntries (kind l.value) l.table
+    AreReadUpTo (with_pending (all_pending l.initial.self.pending) (read_entries (read (kind l.key)) (read (kind l.value)) None l.initial.self.next (trees l.nodes)))
+    (read (kind l.key)) (read (kind l.value)) l.entries l.self.next left (all_pending l.self.pending)
+    × (l.self.next + sizes left ≡ l.initial.self.next + sizes (trees l.nodes))
+    × AreWholeEntries (kind l.value) l.entries
