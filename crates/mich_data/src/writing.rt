@@ -131,8 +131,10 @@ fn set_node(alloc: Global, elements: &Elements) -> Result<Node, Memory>
 fn entry_node(alloc: Global, key: &Datum, value: Node) -> Result<Node, Memory>
     ensures { IfOk result (λ n. tree n ≡ over_two (codes "Elt") (canonical (datum key.now)) (tree value)) }
 {
-    let key = datum_node(alloc, key)?;
-    over_two(alloc, b"Elt", key, value)
+    let mut args = Rows::with_capacity(alloc, 2)?;
+    args.push(datum_node(alloc, key)?)?;
+    args.push(value)?;
+    application(alloc, b"Elt", args)
 }
 
 #[tactic(auto, using(crate::proofs::Written::entries_written))]
@@ -140,7 +142,7 @@ fn entry_node(alloc: Global, key: &Datum, value: Node) -> Result<Node, Memory>
 fn table_node(alloc: Global, table: &Table<Value>) -> Result<Node, Memory>
     ensures { IfOk result (λ n. tree n ≡ seq (canonical_entries (pairs table.now))) }
 {
-    let mut nodes = Rows::new(alloc);
+    let mut nodes = Rows::with_capacity(alloc, table.len())?;
     for (key, value) in table.iter() {
         let literal = value_node(alloc, value)?;
         nodes.push(entry_node(alloc, key, literal)?)?;
@@ -153,7 +155,7 @@ fn table_node(alloc: Global, table: &Table<Value>) -> Result<Node, Memory>
 fn big_node(alloc: Global, big: &BigMap) -> Result<Node, Memory>
     ensures { IfOk result (λ n. tree n ≡ seq (canonical_entries (big_pairs big.now))) }
 {
-    let mut nodes = Rows::new(alloc);
+    let mut nodes = Rows::with_capacity(alloc, big.overlay.len())?;
     for (key, change) in big.overlay.as_slice() {
         if let Some(value) = change {
             let literal = value_node(alloc, value)?;

@@ -805,7 +805,7 @@ fn collections(rt: HostRuntime) -> Result<(), Fail> {
 }
 
 // Sums, products and quotients.
-const SUMS: [Run; 25] = [
+const SUMS: [Run; 30] = [
     (
         "(pair nat nat)",
         "nat",
@@ -861,6 +861,24 @@ const SUMS: [Run; 25] = [
         Outcome::Fails("IntegerLimit"),
     ),
     (
+        "(pair timestamp int)",
+        "timestamp",
+        "CAR ; UNPAIR ; ADD ; NIL operation ; PAIR",
+        "(Pair 170141183460469231731687303715884105727 1)",
+        "0",
+        4,
+        Outcome::Fails("IntegerLimit"),
+    ),
+    (
+        "(pair int timestamp)",
+        "timestamp",
+        "CAR ; UNPAIR ; ADD ; NIL operation ; PAIR",
+        "(Pair -1 -170141183460469231731687303715884105728)",
+        "0",
+        4,
+        Outcome::Fails("IntegerLimit"),
+    ),
+    (
         "(pair mutez mutez)",
         "mutez",
         "CAR ; UNPAIR ; ADD ; NIL operation ; PAIR",
@@ -901,6 +919,24 @@ const SUMS: [Run; 25] = [
         "int",
         "CAR ; UNPAIR ; SUB ; NIL operation ; PAIR",
         "(Pair -170141183460469231731687303715884105727 2)",
+        "0",
+        4,
+        Outcome::Fails("IntegerLimit"),
+    ),
+    (
+        "(pair timestamp int)",
+        "timestamp",
+        "CAR ; UNPAIR ; SUB ; NIL operation ; PAIR",
+        "(Pair -170141183460469231731687303715884105727 2)",
+        "0",
+        4,
+        Outcome::Fails("IntegerLimit"),
+    ),
+    (
+        "(pair timestamp timestamp)",
+        "int",
+        "CAR ; UNPAIR ; SUB ; NIL operation ; PAIR",
+        "(Pair 170141183460469231731687303715884105727 -1)",
         "0",
         4,
         Outcome::Fails("IntegerLimit"),
@@ -955,6 +991,15 @@ const SUMS: [Run; 25] = [
         "mutez",
         "CAR ; UNPAIR ; MUL ; NIL operation ; PAIR",
         "(Pair 2 4611686018427387904)",
+        "0",
+        4,
+        Outcome::Fails("MutezOverflow"),
+    ),
+    (
+        "(pair mutez nat)",
+        "mutez",
+        "CAR ; UNPAIR ; MUL ; NIL operation ; PAIR",
+        "(Pair 4611686018427387904 2)",
         "0",
         4,
         Outcome::Fails("MutezOverflow"),

@@ -191,10 +191,12 @@ fn levels_of_lambdas_at_their_limit(rt: HostRuntime) -> Result<(), Fail> {
     Ok(())
 }
 
-// Code that counts down from its argument by a lambda that calls itself within 99 more blocks, itself in so many sequences.
-fn counting(alloc: Global, outer: u32) -> Result<String, Memory> {
-    let step = "PUSH int -1 ; ADD ; ISNAT ; IF_NONE { DROP ; PUSH int 7 } { INT ; EXEC }";
-    let body = nested(alloc, 98, step)?;
+// Code that counts down from its argument by a lambda that calls itself within 99 more blocks, itself in so many sequences,
+// and at the end goes on so.
+fn counting(alloc: Global, outer: u32, last: &str) -> Result<String, Memory> {
+    let step =
+        format!(in alloc; "PUSH int -1 ; ADD ; ISNAT ; IF_NONE {{ DROP ; {last} }} {{ INT ; EXEC }}")?;
+    let body = nested(alloc, 98, step.as_str())?;
     let call = format!(in alloc; "LAMBDA_REC int int {{ {body} }} ; SWAP ; EXEC")?;
     let code = nested(alloc, outer, call.as_str())?;
     Ok(format!(in alloc; "CAR ; {code} ; NIL operation ; PAIR")?)
@@ -205,7 +207,10 @@ fn counting(alloc: Global, outer: u32) -> Result<String, Memory> {
 #[test]
 fn open_blocks_at_their_limit(rt: HostRuntime) -> Result<(), Fail> {
     let alloc = rt.alloc();
-    let (most, more) = (counting(alloc, 99)?, counting(alloc, 100)?);
+    let (most, more) = (
+        counting(alloc, 99, "PUSH int 7")?,
+        counting(alloc, 100, "PUSH int 7")?,
+    );
     let calls = [("998", 7_002, None)];
     assert!(rt; are_answered(alloc, &("int", most.as_str()), &calls, "7")?);
     let calls = [
@@ -213,6 +218,74 @@ fn open_blocks_at_their_limit(rt: HostRuntime) -> Result<(), Fail> {
         ("998", 6_995, Some("OutOfGas")),
     ];
     assert!(rt; are_answered(alloc, &("int", more.as_str()), &calls, "9")?);
+    Ok(())
+}
+
+// What opens one block more, the gas of all up to it, which it doesn't open as the 100,001st, and the gas of all where it does
+// as the 100,000th.
+const OPENING: [(&str, u64, u64); 11] = [
+    ("{ PUSH int 7 }", 6_998, 7_002),
+    (
+        "PUSH bool True ; IF { PUSH int 7 } { PUSH int 8 }",
+        7_001,
+        7_005,
+    ),
+    (
+        "PUSH (option int) None ; IF_NONE { PUSH int 7 } {}",
+        7_001,
+        7_005,
+    ),
+    (
+        "PUSH (or int nat) (Left 7) ; IF_LEFT {} { INT }",
+        7_002,
+        7_004,
+    ),
+    (
+        "PUSH (list int) { 7 } ; IF_CONS { SWAP ; DROP } { PUSH int 8 }",
+        7_002,
+        7_007,
+    ),
+    (
+        "PUSH bool True ; LOOP { PUSH bool False } ; PUSH int 7",
+        7_002,
+        7_008,
+    ),
+    (
+        "PUSH (or int int) (Left 7) ; LOOP_LEFT { RIGHT int }",
+        7_003,
+        7_006,
+    ),
+    (
+        "PUSH int 0 ; PUSH (list int) { 7 } ; ITER { ADD }",
+        7_005,
+        7_008,
+    ),
+    (
+        "PUSH (list nat) { 6 } ; MAP { INT } ; SIZE ; PUSH int 6 ; ADD",
+        7_003,
+        7_011,
+    ),
+    ("PUSH int 7 ; DIP {}", 7_001, 7_003),
+    (
+        "LAMBDA unit int { DROP ; PUSH int 7 } ; UNIT ; EXEC",
+        7_001,
+        7_007,
+    ),
+];
+
+#[test]
+fn each_block_at_the_limit(rt: HostRuntime) -> Result<(), Fail> {
+    let alloc = rt.alloc();
+    for (last, gas, whole) in OPENING {
+        let (most, more) = (counting(alloc, 98, last)?, counting(alloc, 99, last)?);
+        let calls = [("998", whole, None)];
+        assert!(rt; are_answered(alloc, &("int", most.as_str()), &calls, "7")?, "{last}");
+        let calls = [
+            ("998", gas, Some("DepthLimit")),
+            ("998", gas.saturating_sub(1), Some("OutOfGas")),
+        ];
+        assert!(rt; are_answered(alloc, &("int", more.as_str()), &calls, "9")?, "{last}");
+    }
     Ok(())
 }
 

@@ -4,10 +4,12 @@ ghost use Rattle.std.specs.List.Sorted.{IsStrictlySortedBy};
 ghost use Rattle.std.specs.Map.{keys_of};
 ghost use Rattle.std.specs.Prelude.{◌≡◌, ◌<ℤ◌, ◌≤ℤ◌, ℤ, pos, List, ◌∷◌, [], ◌++◌, IfOk, codes, map};
 ghost use Rattle.rules_lines.specs.Nodes.{account_node, contract_node, held_node, line, number, over, state_nodes};
+ghost use Rattle.rules_values.specs.Canonical.{canonical};
 ghost use Rattle.rules_values.specs.Tickets.{Identity};
 ghost use Rattle.rules_world.specs.World.{World as PlainWorld};
 ghost use Rattle.laws_lines.specs.Laws.{AreInOrder, amount_told};
 ghost use Rattle.mich_base.specs.View.{tree};
+ghost use Rattle.mich_bigmap.specs.Standing.{val_in};
 ghost use Rattle.mich_term.specs.TicketView.{identity};
 ghost use Rattle.mich_world.specs.Holders.{total};
 ghost use Rattle.mich_world.specs.Standing.{plain};
@@ -22,7 +24,7 @@ use mich_base::{Memory, Node, Nodes, Text, Texts};
 use mich_bigmap::{Store, flat};
 use mich_data::value_node;
 use mich_forms::{KeyHash, Place};
-use mich_term::TicketId;
+use mich_term::{TicketId, Value};
 use mich_tickets::{Ledger, Totals};
 use mich_types::{application, over_one};
 use mich_world::{Contract, World};
@@ -69,6 +71,14 @@ pub(crate) fn add_accounts(
     Ok(())
 }
 
+// The literal of a storage, with what its big maps hold.
+fn storage_node(alloc: Global, store: &Store, storage: &Value) -> Result<Node, Memory>
+    ensures { IfOk result (λ n. tree n ≡ canonical (val_in store.now.bases.present storage.now)) }
+{
+    let storage = flat(alloc, store, storage)?;
+    value_node(alloc, &storage)
+}
+
 // A contract with its balance and its storage.
 fn contract_line(
     alloc: Global,
@@ -81,8 +91,7 @@ fn contract_line(
     let mut fields = Nodes::new(alloc);
     fields.push(place_node(alloc, &Place::Contract(*hash))?)?;
     fields.push(number_node(contract.balance))?;
-    let storage = flat(alloc, store, &contract.storage)?;
-    fields.push(value_node(alloc, &storage)?)?;
+    fields.push(storage_node(alloc, store, &contract.storage)?)?;
     let node = application(alloc, b"Contract", fields)?;
     node_line(alloc, &node)
 }
