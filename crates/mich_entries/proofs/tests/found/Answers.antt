@@ -27,11 +27,11 @@ big_map_step-requires-clause-key c = subst IsKeyOnTop (sym (c.in_ok-push.ensures
 
 pub big_map_step-requires-clause-big_map : goal.big_map_step-requires-clause-big_map
 big_map_step-requires-clause-big_map c =
-    subst IsBigMapSecond (sym (two (sight c.new_store-store.result.bases.present) _ _ _ _ c.in_ok-stack.ensures (c.in_ok-push.ensures _))) ((tt, tt), refl)
+    subst IsBigMapSecond (sym (two (sight c.new_store-store.result.bases.present) _ c.in_ok-stack.stack c.push.new.stack _ c.in_ok-stack.ensures (c.in_ok-push.ensures _))) ((tt, tt), refl)
 
 pub big_map_weight-requires-clause-key : goal.big_map_weight-requires-clause-key
 big_map_weight-requires-clause-key c = subst IsKeyOnTop (sym (c.in_ok-push.ensures big_step)) (ap is_comparable (number_seen big_step _))
 
 pub big_map_weight-requires-clause-big_map : goal.big_map_weight-requires-clause-big_map
 big_map_weight-requires-clause-big_map c =
-    subst IsBigMapSecond (sym (two (sight c.new_store-store.result.bases.present) _ _ _ _ c.in_ok-stack.ensures (c.in_ok-push.ensures _))) ((tt, tt), refl)
+    subst IsBigMapSecond (sym (two (sight c.new_store-store.result.bases.present) _ c.in_ok-stack.stack c.push.new.stack _ c.in_ok-stack.ensures (c.in_ok-push.ensures _))) ((tt, tt), refl)

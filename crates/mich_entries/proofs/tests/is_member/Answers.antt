@@ -27,4 +27,4 @@ big_map_step-requires-clause-key c = subst IsKeyOnTop (sym (c.in_ok-push.ensures
 
 pub big_map_step-requires-clause-big_map : goal.big_map_step-requires-clause-big_map
 big_map_step-requires-clause-big_map c =
-    subst IsBigMapSecond (sym (two (sight c.new_store-store.result.bases.present) _ _ _ _ c.in_ok-stack.ensures (c.in_ok-push.ensures _))) ((tt, tt), refl)
+    subst IsBigMapSecond (sym (two (sight c.new_store-store.result.bases.present) _ c.in_ok-stack.stack c.push.new.stack _ c.in_ok-stack.ensures (c.in_ok-push.ensures _))) ((tt, tt), refl)

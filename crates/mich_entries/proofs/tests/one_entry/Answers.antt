@@ -21,10 +21,10 @@ some_seen : (big : Sight) (x : Value) → seen big (v.Some x) ≡ some (seen big
 some_seen big x = ap (seen big) (sym (rolls-Some x)) ∙ fold-roll-Value Val Pairs value_step big (Value-F.Some x)
 
 -- a number on an option of a number on a big map
-three : (big : Sight) (n m : ℤ) (s t u : List Value) (ps : Pairs) → values big s ≡ big_table ps ∷ [] → values big t ≡ seen big (v.Some (v.Number m)) ∷ values big s
-    → values big u ≡ seen big (v.Number n) ∷ values big t → values big u ≡ number n ∷ some (number m) ∷ big_table ps ∷ []
-three big n m s t u ps e f g =
-    g ∙ (λ i. number_seen big n i ∷ f i) ∙ (λ i. number n ∷ (some_seen big (v.Number m) ∙ ap some (number_seen big m)) i ∷ e i)
+three : (big : Sight) (n m : ℤ) (x : Value) (s t u : List Value) (ps : Pairs) → x ≡ v.Number m → values big s ≡ big_table ps ∷ []
+    → values big t ≡ seen big (v.Some x) ∷ values big s → values big u ≡ seen big (v.Number n) ∷ values big t → values big u ≡ number n ∷ some (number m) ∷ big_table ps ∷ []
+three big n m x s t u ps h e f g =
+    g ∙ (λ i. number_seen big n i ∷ f i) ∙ (λ i. number n ∷ (some_seen big x ∙ ap some (ap (seen big) h ∙ number_seen big m)) i ∷ e i)
 
 done_same : (V W : List Val) (x y : List Change) → done V x ≡ done W y → V ≡ W
 done_same V W x y e = cc
@@ -34,10 +34,10 @@ big_map_step-requires-clause-key c = subst IsKeyOnTop (sym (c.in_ok-push-2.ensur
 
 pub big_map_step-requires-clause-big_map : goal.big_map_step-requires-clause-big_map
 big_map_step-requires-clause-big_map c =
-    subst IsBigMapThird (sym (three (sight c.args.store.now.bases.present) _ _ _ _ _ _ c.in_ok-stack.ensures (c.in_ok-push.ensures _) (c.in_ok-push-2.ensures _))) (refl, (tt, refl))
+    subst IsBigMapThird (sym (three (sight c.args.store.now.bases.present) (pos 7) (pos 5) c.in_ok-new.field-0 c.in_ok-stack.stack c.push.new.stack c.push-2.new.stack no_pair c.in_ok-new.ensures c.in_ok-stack.ensures (c.in_ok-push.ensures _) (c.in_ok-push-2.ensures _))) (refl, (tt, refl))
 
-pub returns-in_ok-big_map_step : goal.returns-in_ok-big_map_step
-returns-in_ok-big_map_step c =
+pub returns : goal.returns
+returns c =
     sym (done_same _ _ _ _
-    (ap (collection_step i.update_big_map) (sym (three (sight c.args.store.now.bases.present) _ _ _ _ _ _ c.in_ok-stack.ensures (c.in_ok-push.ensures _) (c.in_ok-push-2.ensures _)))
+    (ap (collection_step i.update_big_map) (sym (three (sight c.args.store.now.bases.present) (pos 7) (pos 5) c.in_ok-new.field-0 c.in_ok-stack.stack c.push.new.stack c.push-2.new.stack no_pair c.in_ok-new.ensures c.in_ok-stack.ensures (c.in_ok-push.ensures _) (c.in_ok-push-2.ensures _)))
     ∙ c.in_ok-big_map_step.ensures))

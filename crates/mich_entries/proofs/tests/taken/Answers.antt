@@ -30,4 +30,4 @@ big_map_step-requires-clause-key c = subst IsKeyOnTop (sym (c.in_ok-push-2.ensur
 
 pub big_map_step-requires-clause-big_map : goal.big_map_step-requires-clause-big_map
 big_map_step-requires-clause-big_map c =
-    subst IsBigMapThird (sym (three (sight c.new_store-store.result.bases.present) _ _ _ _ _ c.in_ok-stack.ensures (c.in_ok-push.ensures _) (c.in_ok-push-2.ensures _))) (tt, ((tt, tt), refl))
+    subst IsBigMapThird (sym (three (sight c.new_store-store.result.bases.present) _ c.in_ok-stack.stack c.push.new.stack c.push-2.new.stack _ c.in_ok-stack.ensures (c.in_ok-push.ensures _) (c.in_ok-push-2.ensures _))) (tt, ((tt, tt), refl))
