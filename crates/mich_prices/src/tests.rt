@@ -116,26 +116,41 @@ fn what_get_finds_is_weighed(rt: HostRuntime) -> Result<(), Fail> {
     Ok(())
 }
 
+// What one on strings and bytes weighs where these are on top.
+fn text_weight(alloc: Global, row: TextRow, second: Value, first: Value) -> Result<u64, Memory> {
+    let values = stack(alloc, Value::Unit, second, first)?;
+    weight(alloc, Simple::Texts(row), &values)
+}
+
+fn strings_weight(alloc: Global, row: TextRow) -> Result<u64, Memory> {
+    let second = text(alloc, "abc")?;
+    let first = text(alloc, "de")?;
+    text_weight(alloc, row, second, first)
+}
+
 #[test]
-fn lengths_of_texts_are_weighed(rt: HostRuntime) -> Result<(), Fail> {
+fn lengths_of_strings_are_weighed(rt: HostRuntime) -> Result<(), Fail> {
     let alloc = rt.alloc();
-    let strings = stack(alloc, Value::Unit, text(alloc, "abc")?, text(alloc, "de")?)?;
+    assert_eq!(rt; strings_weight(alloc, TextRow::ConcatStrings)?, 5);
+    assert_eq!(rt; strings_weight(alloc, TextRow::SizeString)?, 0);
+    Ok(())
+}
+
+#[test]
+fn lengths_of_bytes_are_weighed(rt: HostRuntime) -> Result<(), Fail> {
+    let alloc = rt.alloc();
+    let second = bytes(alloc, "abc")?;
+    let first = bytes(alloc, "d")?;
+    assert_eq!(rt; text_weight(alloc, TextRow::ConcatBytes, second, first)?, 4);
+    Ok(())
+}
+
+#[test]
+fn lengths_in_lists_are_weighed(rt: HostRuntime) -> Result<(), Fail> {
+    let alloc = rt.alloc();
+    let first = list(alloc, "abc", "de")?;
     assert_eq!(rt;
-        weight(alloc, Simple::Texts(TextRow::ConcatStrings), &strings)?,
-        5
-    );
-    assert_eq!(rt;
-        weight(alloc, Simple::Texts(TextRow::SizeString), &strings)?,
-        0
-    );
-    let both = stack(alloc, Value::Unit, bytes(alloc, "abc")?, bytes(alloc, "d")?)?;
-    assert_eq!(rt;
-        weight(alloc, Simple::Texts(TextRow::ConcatBytes), &both)?,
-        4
-    );
-    let listed = stack(alloc, Value::Unit, Value::Unit, list(alloc, "abc", "de")?)?;
-    assert_eq!(rt;
-        weight(alloc, Simple::Texts(TextRow::ConcatStringList), &listed)?,
+        text_weight(alloc, TextRow::ConcatStringList, Value::Unit, first)?,
         7
     );
     Ok(())
