@@ -258,16 +258,27 @@ fn arrow(alloc: Global, first: &Node, second: &Node) -> Result<Arrow, CheckError
     read_arrow(alloc, first, second, 7)
 }
 
+// Whether they are a pair and bool.
+fn is_from_pairs(arrow: &Arrow) -> bool {
+    matches!(arrow.arg, Ty::Pair(_, _)) && matches!(arrow.ret, Ty::Bool)
+}
+
 #[test]
 fn types_of_lambdas_are_read(rt: HostRuntime) -> Result<(), Fail> {
     let alloc = rt.alloc();
     let first = type_node(alloc, &ty(alloc, "Pin")?)?;
     let second = type_node(alloc, &Ty::Bool)?;
-    let found = arrow(alloc, &first, &second)?;
-    assert!(rt; matches!(found.arg, Ty::Pair(_, _)) && matches!(found.ret, Ty::Bool));
+    assert!(rt; is_from_pairs(&arrow(alloc, &first, &second)?));
+    Ok(())
+}
+
+#[test]
+fn types_of_lambdas_have_faults(rt: HostRuntime) -> Result<(), Fail> {
+    let alloc = rt.alloc();
+    let node = type_node(alloc, &ty(alloc, "Pin")?)?;
     let number = Node::Int(5);
-    assert_eq!(rt; fault(arrow(alloc, &number, &second))?, Some(8));
-    assert_eq!(rt; fault(arrow(alloc, &first, &number))?, Some(11));
+    assert_eq!(rt; fault(arrow(alloc, &number, &node))?, Some(8));
+    assert_eq!(rt; fault(arrow(alloc, &node, &number))?, Some(11));
     Ok(())
 }
 
@@ -311,15 +322,19 @@ fn wide(alloc: Global, times: u32) -> Result<Arrow, Memory> {
     Ok(Arrow { arg, ret: Ty::Nat })
 }
 
+// The location of the fault where such a lambda at location 7 begins, if there is one.
+fn fault_of_wide(alloc: Global, recursive: bool, times: u32) -> Result<Option<u32>, Memory> {
+    let arrow = wide(alloc, times)?;
+    fault(begun(alloc, recursive, &arrow, 7))
+}
+
 // A type has at most 2,000 nodes; those of the pairs are 1,023 and 2,047.
 #[test]
 fn a_recursive_lambda_may_be_too_large(rt: HostRuntime) -> Result<(), Fail> {
     let alloc = rt.alloc();
-    let small = wide(alloc, 9)?;
-    assert_eq!(rt; fault(begun(alloc, true, &small, 7))?, None);
-    let large = wide(alloc, 10)?;
-    assert_eq!(rt; fault(begun(alloc, true, &large, 7))?, Some(7));
-    assert_eq!(rt; fault(begun(alloc, false, &large, 7))?, None);
+    assert_eq!(rt; fault_of_wide(alloc, true, 9)?, None);
+    assert_eq!(rt; fault_of_wide(alloc, true, 10)?, Some(7));
+    assert_eq!(rt; fault_of_wide(alloc, false, 10)?, None);
     Ok(())
 }
 
