@@ -1,4 +1,4 @@
-use Rattle.std.proofs.Common.{◌≡◌, ◌<◌, ◌^◌, ℕ, ℤ, true, List, Ok, Err, refl, sym, ap, subst, arith}
+use Rattle.std.proofs.Common.{◌≡◌, ◌<◌, ◌^◌, ℕ, ℤ, true, List, [], ◌∷◌, Ok, Err, refl, sym, ap, subst, arith}
 use Rattle.std.specs.Prelude.{Result}
 use Rattle.std.specs.List.{AllByRecursion}
 use Rattle.laws_runs.specs.Worlds.{IsWhole}
@@ -53,5 +53,5 @@ granted u v who mutez r old others answer ok key =
 
 pub returns : goal.returns
 returns c =
-    granted c.new-world.result c.grant.new.self _ _ c.grant.result (begun _ _ _ c.new-world.result c.new-world.ensures refl (omega arith) refl)
+    granted c.new-world.result c.grant.new.self (0 ∷ 1 ∷ 1 ∷ 1 ∷ 1 ∷ 1 ∷ 1 ∷ 1 ∷ 1 ∷ 1 ∷ 1 ∷ 1 ∷ 1 ∷ 1 ∷ 1 ∷ 1 ∷ 1 ∷ 1 ∷ 1 ∷ 1 ∷ 1 ∷ []) 1000 c.grant.result (begun _ _ _ c.new-world.result c.new-world.ensures refl (omega arith) refl)
     c.grant.ensures.others c.grant.ensures.answer c.in_ok-grant.was refl
