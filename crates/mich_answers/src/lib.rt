@@ -15,6 +15,3 @@ pub use checking::answer_check;
 pub use lines::{as_text, refusal_line, text_kind_name};
 pub use node_commands::{NodeCommand, answer_node};
 pub use statements::{Next, read_next};
-
-#[cfg(test)]
-mod tests;

@@ -6,6 +6,3 @@ mod literals;
 
 pub use arguments::{ArgumentError, read_argument};
 pub use literals::{has_entrypoint, is_taken_by_account, read_literal};
-
-#[cfg(test)]
-mod tests;

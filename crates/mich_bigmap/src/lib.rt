@@ -23,6 +23,3 @@ pub use printed::{flat, release};
 pub use settling::settle;
 pub use settling_all::settle_all;
 pub use store::Store;
-
-#[cfg(test)]
-mod tests;

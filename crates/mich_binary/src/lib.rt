@@ -15,6 +15,3 @@ pub use decoding::decode;
 pub use encoding::encode;
 pub use errors::{DecodeError, EncodeError};
 pub use rules_binary::DecodeKind;
-
-#[cfg(test)]
-mod tests;

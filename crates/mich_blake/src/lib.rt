@@ -4,10 +4,6 @@
 mod compression;
 mod digests;
 mod hashers;
-#[cfg(test)]
-mod tests;
-#[cfg(test)]
-mod vectors;
 
 pub use digests::Digest;
 pub use hashers::{Blake2b, blake_of};

@@ -7,6 +7,3 @@ mod marks;
 mod same;
 
 pub use bodies::{Bodies, Uses};
-
-#[cfg(test)]
-mod tests;

@@ -15,8 +15,3 @@ pub use lambdas::check_body;
 pub use literals::{Checked, check_literal, check_literal_at};
 pub use mich_control::CheckError;
 pub use scripts::check_script;
-
-#[cfg(test)]
-mod tests;
-#[cfg(test)]
-mod worked;

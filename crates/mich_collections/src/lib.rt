@@ -14,6 +14,3 @@ pub use bytes::{bytes_of, cut};
 pub use collections::collection_step;
 pub use tables::value_in;
 pub use texts::text_step;
-
-#[cfg(test)]
-mod tests;

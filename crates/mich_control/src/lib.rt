@@ -37,6 +37,3 @@ pub use shapes::{
     Both, Turning, behind_loop, branch_instr, branch_stacks, loop_instr, loop_stacks, pair_of,
 };
 pub use stacks::{only, pop_type, push_type};
-
-#[cfg(test)]
-mod tests;

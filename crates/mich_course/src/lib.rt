@@ -10,6 +10,3 @@ mod error;
 pub use begun::begin;
 pub use course::Course;
 pub use error::CourseError;
-
-#[cfg(test)]
-mod tests;

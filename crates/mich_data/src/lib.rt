@@ -16,6 +16,3 @@ pub use error::ValueError;
 pub use pending::{Pending, Read};
 pub use reading::{read_value, read_value_at};
 pub use writing::value_node;
-
-#[cfg(test)]
-mod tests;

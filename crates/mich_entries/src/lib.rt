@@ -9,6 +9,3 @@ mod weights;
 
 pub use rows::big_map_step;
 pub use weights::big_map_weight;
-
-#[cfg(test)]
-mod tests;

@@ -12,8 +12,6 @@ mod padded;
 mod places;
 mod short_bytes;
 mod signatures;
-#[cfg(test)]
-mod tests;
 
 pub use addresses::Address;
 pub use entrypoints::{Entrypoint, all_name_bytes};

@@ -8,6 +8,3 @@ mod names;
 pub use costs::{BadCosts, Costs, Price, is_table, read_costs};
 pub use meter::{Meter, OutOfGas};
 pub use rules_gas::Kind;
-
-#[cfg(test)]
-mod tests;

@@ -4,6 +4,3 @@
 mod workload;
 
 pub use workload::scenario;
-
-#[cfg(test)]
-mod tests;

@@ -10,6 +10,3 @@ mod tree;
 mod waiting;
 
 pub use group::apply_group;
-
-#[cfg(test)]
-mod tests;

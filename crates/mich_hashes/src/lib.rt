@@ -7,6 +7,3 @@ mod weights;
 
 pub use steps::hash_step;
 pub use weights::hash_weight;
-
-#[cfg(test)]
-mod tests;

@@ -14,6 +14,3 @@ mod issued;
 pub use erasing::erase;
 pub use instr::{Block, Instr, Script, ViewCode};
 pub use issued::Issued;
-
-#[cfg(test)]
-mod tests;

@@ -10,6 +10,3 @@ pub use amounts::{mutez_add, mutez_mul, mutez_sub};
 pub use bits::{and, not, or, xor};
 pub use fault::NumFault;
 pub use integers::{abs, add, ediv, mul, neg, shl, shr, sub};
-
-#[cfg(test)]
-mod tests;

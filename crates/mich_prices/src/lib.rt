@@ -7,6 +7,3 @@ mod weights;
 
 pub use prices::{collection_price, hash_price, price};
 pub use weights::weigh;
-
-#[cfg(test)]
-mod tests;

@@ -16,6 +16,3 @@ pub use line::node_line;
 pub use receipts::receipt_text;
 pub use state::{state_lines, state_text};
 pub use summary::summary_text;
-
-#[cfg(test)]
-mod tests;

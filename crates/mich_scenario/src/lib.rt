@@ -11,6 +11,3 @@ mod statement;
 pub use error::FormError;
 pub use forms::{read_form, take_form};
 pub use statement::Statement;
-
-#[cfg(test)]
-mod tests;

@@ -10,6 +10,3 @@ mod placed;
 pub use error::SectionsError;
 pub use outline::{Outline, View, read_outline};
 pub use placed::Placed;
-
-#[cfg(test)]
-mod tests;

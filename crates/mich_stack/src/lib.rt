@@ -16,6 +16,3 @@ pub use stack::{
     insert_at, optional_value, pop, push, put, read_at, split_top, take_at, take_off, three_on_top,
     two_on_top,
 };
-
-#[cfg(test)]
-mod tests;

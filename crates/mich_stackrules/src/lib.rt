@@ -21,6 +21,3 @@ pub use error::RuleError;
 pub use names::{is_view_name, named_entrypoint};
 pub use rule::{apply_rule, rule_at};
 pub use written::{Attribute, OfCount};
-
-#[cfg(test)]
-mod tests;

@@ -20,6 +20,3 @@ pub use numbers::number_step;
 pub use order::stack_step;
 pub use pairs::pair_step;
 pub use unions::union_step;
-
-#[cfg(test)]
-mod tests;

@@ -30,6 +30,3 @@ pub use table::Table;
 pub use ticket::{Burner, Change, Ticket, TicketId, copy_id};
 pub use value::{BigMap, Value, abandon, dup, shadow};
 pub use weighing::{datum_weight, weight};
-
-#[cfg(test)]
-mod tests;

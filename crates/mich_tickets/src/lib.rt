@@ -28,6 +28,3 @@ pub use ledger::Ledger;
 pub use line::Line;
 pub use lines::Lines;
 pub use totals::Totals;
-
-#[cfg(test)]
-mod tests;

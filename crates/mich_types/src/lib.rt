@@ -17,6 +17,3 @@ pub use error::TypeError;
 pub use parameter::{Entry, Parameter, entrypoint, read_parameter};
 pub use printing::{application, bare, over_one, over_two, type_node};
 pub use reading::{read_type, type_at};
-
-#[cfg(test)]
-mod tests;

@@ -5,6 +5,3 @@ mod trying;
 mod unpacking;
 
 pub use unpacking::unpack_value;
-
-#[cfg(test)]
-mod tests;

@@ -24,6 +24,3 @@ pub use laws::{
 };
 pub use mark::Mark;
 pub use world::World;
-
-#[cfg(test)]
-mod tests;

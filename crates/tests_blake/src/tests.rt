@@ -1,0 +1,83 @@
+// Digests that other programs gave.
+use crate::vectors::DIGESTS;
+use mich_blake::{Blake2b, Digest, blake_of};
+
+// The hexadecimal digit of a number modulo 16.
+fn hex_digit(n: u8) -> u8 {
+    b"0123456789abcdef"[n as usize % 16]
+}
+
+// Whether a digest is what the text says in hexadecimal.
+fn is_spelled(digest: &Digest, hex: &str) -> bool {
+    let text = hex.as_bytes();
+    let bytes = digest.as_slice();
+    if text.len() % 2 != 0 || text.len() / 2 != bytes.len() {
+        return false;
+    }
+    for (i, byte) in bytes.iter().enumerate() {
+        if text.get(2 * i) != Some(&hex_digit(*byte / 16))
+            || text.get(2 * i + 1) != Some(&hex_digit(*byte % 16))
+        {
+            return false;
+        }
+    }
+    true
+}
+
+// The sum FNV-1a of 64 bits over the bytes.
+fn sum_of(bytes: &[u8]) -> u64 {
+    let mut sum: u64 = 0xcbf2_9ce4_8422_2325;
+    for byte in bytes {
+        sum = (sum ^ *byte as u64).wrapping_mul(0x100_0000_01b3);
+    }
+    sum
+}
+
+// The message of a row in its first `len` bytes.
+fn message(len: usize) -> [u8; 1000] {
+    let mut bytes = [0; 1000];
+    for (i, byte) in bytes.iter_mut().enumerate() {
+        *byte = ((i * 7 + len % 251) % 251) as u8;
+    }
+    bytes
+}
+
+// Whether the digest of a row is right, in one piece and in three.
+fn agrees(len: usize, size: u8, sum: u64) -> bool {
+    if size == 0 || size > 64 || len > 1000 {
+        return false;
+    }
+    let all = message(len);
+    let bytes = &all[..len];
+    let (first, rest) = bytes.split_at(len / 3);
+    let (second, third) = rest.split_at(rest.len() / 2);
+    let mut hasher = Blake2b::new(size);
+    hasher.update(first);
+    hasher.update(second);
+    hasher.update(third);
+    let whole = blake_of(size, bytes);
+    let pieces = hasher.finalize();
+    sum_of(whole.as_slice()) == sum && sum_of(pieces.as_slice()) == sum
+}
+
+// How many rows are right before the first that is not.
+fn right_rows(rows: &[(usize, u8, u64)]) -> usize {
+    rows.iter()
+        .take_while(|row| agrees(row.0, row.1, row.2))
+        .count()
+}
+
+#[test]
+fn digests_of_hashlib(rt: HostRuntime) {
+    assert_eq!(rt; right_rows(&DIGESTS), 208);
+}
+
+#[test]
+fn digests_in_full(rt: HostRuntime) {
+    let abc =
+        "ba80a53f981c4d0d6a2797b69f12f6e94c212f14685ac4b74b12bb6fdbffa2d17d87c5392aab792dc252d5de4533cc9518d38aa8dbf1925ab92386edd4009923";
+    assert!(rt; is_spelled(&blake_of(64, b"abc"), abc));
+    assert!(rt; !is_spelled(&blake_of(64, b"abd"), abc));
+    let none = "0e5751c026e543b2e8ab2eb06099daa1d1e5df47778f7787faab45cdf12fe3a8";
+    assert!(rt; is_spelled(&blake_of(32, b""), none));
+}

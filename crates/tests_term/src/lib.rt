@@ -1,0 +1,5 @@
+//! Tests of `mich_term`, by its public calls.
+#![tactic(auto)]
+
+#[cfg(test)]
+mod tests;
