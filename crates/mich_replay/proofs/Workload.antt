@@ -6,6 +6,7 @@ use Rattle.std.proofs.lemmas.List.{length-append, length-drop, drop-drop, append
 use Rattle.std.proofs.Math.Seq.{drop-append_seam}
 use Rattle.std.specs.Prelude.{◌==◌}
 use Rattle.std.specs.Fmt.{decimal}
+use Rattle.hex.specs.Hex.{decode_pairs}
 use Rattle.rules_base.specs.Limits.{depth_limit}
 use Rattle.rules_base.specs.Tree.{Tree, Trees}
 use Rattle.rules_course.specs.Course.{Course, numbered}
@@ -242,7 +243,7 @@ abbrev Case : Bool → ℕ → ℕ → Type 0
 Case b c a = (s : Stack) × (parsed (lex 16 (text_call b ((48 + c) ∷ []) ((48 + a) ∷ []))) ≡ Some s) × (is_group (form_in (Some s)) ≡ true)
 
 case_of : (b : Bool) (c a : ℕ) → c < 2 → a < 8 → Case b c a
-unfolding token_at name_at string_at bytes_at number_at run step
+unfolding token_at name_at string_at bytes_at decode_pairs number_at run step
 case_of true zero zero g h = (_, refl, refl)
 case_of true zero (suc zero) g h = (_, refl, refl)
 case_of true zero (suc (suc zero)) g h = (_, refl, refl)
@@ -379,30 +380,30 @@ abbrev IsRead : ℕ → List ℕ → Type 0
 IsRead n text = (s : Stack) × (parsed (lex n text) ≡ Some s)
 
 chain_read : IsRead 4 chain_text
-unfolding token_at name_at string_at bytes_at number_at run step
+unfolding token_at name_at string_at bytes_at decode_pairs number_at run step
 chain_read = (_, refl)
 
 first_read : IsRead 3 first_text
-unfolding token_at name_at string_at bytes_at number_at run step
+unfolding token_at name_at string_at bytes_at decode_pairs number_at run step
 first_read = (_, refl)
 
 second_read : IsRead 3 second_text
-unfolding token_at name_at string_at bytes_at number_at run step
+unfolding token_at name_at string_at bytes_at decode_pairs number_at run step
 second_read = (_, refl)
 
 group_read : IsRead 133 group_text
-unfolding token_at name_at string_at bytes_at number_at run step
+unfolding token_at name_at string_at bytes_at decode_pairs number_at run step
 group_read = (_, refl)
 
 abbrev node_in : Stack → Tree
 node_in s = ended_tree (finish s) (Tree.seq Trees.none)
 
 group_form : is_group (form (node_in group_read.0)) ≡ true
-unfolding token_at name_at string_at bytes_at number_at run step group_read
+unfolding token_at name_at string_at bytes_at decode_pairs number_at run step group_read
 group_form = refl
 
 begun_run : (a b d : ℕ) → (c : Course) × (run_all (going [] None) (record { place = a; node = node_in chain_read.0 } ∷ record { place = b; node = node_in first_read.0 } ∷ record { place = d; node = node_in second_read.0 } ∷ []) ≡ going [] (Some c))
-unfolding token_at name_at string_at bytes_at number_at run step chain_read first_read second_read
+unfolding token_at name_at string_at bytes_at decode_pairs number_at run step chain_read first_read second_read
 begun_run a b d = (_, refl)
 
 chain_size : length chain_text ≡ 22

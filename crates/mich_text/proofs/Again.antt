@@ -3,13 +3,14 @@ use Rattle.std.proofs.Common.{◌≡◌, ℕ, ◌≤◌, true, ltb, List, [], �
 use Rattle.std.proofs.lemmas.List.{append-nil}
 use Rattle.std.specs.List.{AllByRecursion}
 use Rattle.rules_base.specs.Limits.{byte_limit}
+use Rattle.hex.specs.Hex.{encode_lower}
 use Rattle.rules_base.specs.Tree.{Tree, int, str, prim, seq, Trees, none, more}
 use Rattle.rules_text.specs.Token.{Token}
 use Rattle.rules_text.specs.Syntax.{Node, Items, no_items, with_annotation, with_node, parens, Element, Separated, nothing, followed, node_tokens, item_tokens, element_tokens, separated_tokens, IsStatement}
 use Rattle.rules_text.specs.Lexical.{after_gap, token_at}
 use Rattle.rules_text.specs.Text.{Leads}
 use Rattle.std.specs.Fmt.{signed_decimal}
-use Rattle.rules_text.specs.Printed.{string_text, bytes_text, annotations_text, in_parens, is_wrapped, printed, arguments_text, elements_text}
+use Rattle.rules_text.specs.Printed.{string_text, annotations_text, in_parens, is_wrapped, printed, arguments_text, elements_text}
 use Rattle.mich_text.specs.Canonical.{with_notes, wrapped, element_of, with_argument, with_arguments, sequence}
 use Rattle.mich_text.proofs.Printing.{IsApart, IsAll, is_spelt, string_token, bytes_token, is_solid, solid_gap, space_leads}
 use Rattle.mich_text.proofs.Canon.{element_is}
@@ -44,8 +45,8 @@ token_writes text t p rest us r a l = (text ++ rest, rest, p.gap rest, p.read re
 string_is : (s : List ℕ) → IsAll is_spelt s → length s ≤ byte_limit → IsToken (34 ∷ string_text s) (Token.string s)
 string_is s h short = record { gap = λ rest. solid_gap 34 (string_text s ++ rest) refl; read = λ rest a. string_token s rest h short }
 
-bytes_is : (b : List ℕ) → IsAll (λ c. ltb c 256) b → length b ≤ byte_limit → IsToken (48 ∷ 120 ∷ bytes_text b) (Token.bytes b)
-bytes_is b h short = record { gap = λ rest. solid_gap 48 (120 ∷ (bytes_text b ++ rest)) refl; read = λ rest a. bytes_token b rest h short a }
+bytes_is : (b : List ℕ) → IsAll (λ c. ltb c 256) b → length b ≤ byte_limit → IsToken (48 ∷ 120 ∷ encode_lower b) (Token.bytes b)
+bytes_is b h short = record { gap = λ rest. solid_gap 48 (120 ∷ (encode_lower b ++ rest)) refl; read = λ rest a. bytes_token b rest h short a }
 
 -- a sign is read before anything
 sign_leads : (c : ℕ) (t : Token) (text : List ℕ) (us : List Token) (r : Option (List ℕ)) → is_solid c ≡ true → token_at (c ∷ text) ≡ Ok (t, text) → Leads text us r → Leads (c ∷ text) (t ∷ us) r
@@ -145,7 +146,7 @@ mutual
   pub element_writes : (t : Tree) → IsPrintable t → Writes (printed t) (element_tokens (element_of t))
   element_writes (int n) h = token_writes (signed_decimal n) (Token.number n) h
   element_writes (str s) h = token_writes (34 ∷ string_text s) (Token.string s) (string_is s h.0 h.1)
-  element_writes (Tree.bytes b) h = token_writes (48 ∷ 120 ∷ bytes_text b) (Token.bytes b) (bytes_is b h.0 h.1)
+  element_writes (Tree.bytes b) h = token_writes (48 ∷ 120 ∷ encode_lower b) (Token.bytes b) (bytes_is b h.0 h.1)
   element_writes (prim n ns xs) h = prim_writes n ns xs h.0 (notes_add no_items ns h.1) (arguments_add (with_notes no_items ns) xs h.2)
   element_writes (seq none) h = braces_write
   element_writes (seq (more x xs)) h = sequence_writes x xs (element_writes x h.0) (elements_follow nothing (element_of x) xs h.1)
@@ -153,7 +154,7 @@ mutual
   argument_adds : (i : Items) (t : Tree) → IsPrintable t → Adds (32 ∷ in_parens (is_wrapped t) (printed t)) i (with_argument i t)
   argument_adds i (int n) h = node_adds i _ (signed_decimal n) (token_writes (signed_decimal n) (Token.number n) h)
   argument_adds i (str s) h = node_adds i _ (34 ∷ string_text s) (token_writes (34 ∷ string_text s) (Token.string s) (string_is s h.0 h.1))
-  argument_adds i (Tree.bytes b) h = node_adds i _ (48 ∷ 120 ∷ bytes_text b) (token_writes (48 ∷ 120 ∷ bytes_text b) (Token.bytes b) (bytes_is b h.0 h.1))
+  argument_adds i (Tree.bytes b) h = node_adds i _ (48 ∷ 120 ∷ encode_lower b) (token_writes (48 ∷ 120 ∷ encode_lower b) (Token.bytes b) (bytes_is b h.0 h.1))
   argument_adds i (prim n ns xs) h = wrapped_adds i n ns xs (with_arguments (with_notes no_items ns) xs) h.0 (prim_writes n ns xs h.0 (notes_add no_items ns h.1) (arguments_add (with_notes no_items ns) xs h.2))
   argument_adds i (seq none) h = node_adds i _ (123 ∷ 125 ∷ []) braces_write
   argument_adds i (seq (more x xs)) h = node_adds i (sequence nothing (element_of x) xs) (printed (seq (more x xs))) (sequence_writes x xs (element_writes x h.0) (elements_follow nothing (element_of x) xs h.1))

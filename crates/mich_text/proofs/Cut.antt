@@ -1,17 +1,19 @@
 -- What stands in a front of a text, where its end lies in that front, stands there without the bytes behind it.
-use Rattle.std.proofs.Common.{◌≡◌, ℕ, suc, ◌+◌, ◌-◌, ◌≤◌, ◌<◌, ◌/◌, ◌%◌, ◌^◌, Bool, true, false, cond, ◌||◌, ◌&&◌, eqb, ltb, leb, List, [], ◌∷◌, ◌++◌, length, take, drop, Option, Some, None, Result, Ok, Err, refl, sym, ap, subst, ◌∙◌, add-one, arith}
+use Rattle.std.proofs.Common.{◌≡◌, ℕ, suc, ◌+◌, ◌-◌, ◌≤◌, ◌<◌, ◌/◌, ◌^◌, Bool, true, false, cond, ◌||◌, ◌&&◌, eqb, ltb, leb, List, [], ◌∷◌, ◌++◌, length, take, drop, Option, Some, None, Result, Ok, Err, refl, sym, ap, subst, ◌∙◌, add-one, arith}
 use Rattle.std.proofs.lemmas.Bool.{ltb-true, ltb-false}
 use Rattle.std.proofs.lemmas.List.{take-append-le, drop-append-le, length-drop, length-append}
 use Rattle.std.specs.List.{prefix_len}
 use Rattle.std.specs.Char.{is_ascii_digit, is_ascii_hexdigit}
 use Rattle.std.specs.Str.Parse.{digits_value}
+use Rattle.hex.specs.Hex.{decode_of}
+use Rattle.hex.specs.declared.error.FromHexError.{FromHexError}
 use Rattle.rules_base.specs.Limits.{name_limit, byte_limit}
 use Rattle.rules_text.specs.Token.{Token, string, name, annotation, number, bytes}
 use Rattle.rules_text.specs.declared.Shape.{Shape}
 use Rattle.rules_text.specs.declared.Shape.TheVariants.{Digits, Quoted, Word, Note, OpenBrace, CloseBrace, OpenParen, CloseParen, Semicolon}
 use Rattle.rules_text.specs.declared.TextKind.TheVariants.{BadString, BadBytes, BadNumber, TooLong}
 use Rattle.rules_text.specs.Fault.{Flaw}
-use Rattle.rules_text.specs.Lexical.{flaw, is_word, is_noted, begins_word, is_white, opens, closes, after_gap, after_slash, after_line, after_block, name_at, annotation_at, Spelt, spelt, spelt_escape, with_byte, with_escape, escaped, string_at, ◌>>=◌, bytes_at, paired, number_at, signed, made, digits_at, begins_bytes, shape_at, shape_of, token_at}
+use Rattle.rules_text.specs.Lexical.{flaw, is_word, is_noted, begins_word, is_white, opens, closes, after_gap, after_slash, after_line, after_block, name_at, annotation_at, Spelt, spelt, spelt_escape, with_byte, with_escape, escaped, string_at, ◌>>=◌, bytes_at, decoded, number_at, signed, made, digits_at, begins_bytes, shape_at, shape_of, token_at}
 use Rattle.rules_text.specs.Text.{Leads}
 use Rattle.mich_text.proofs.Places.{IsAhead, IsWithin, EndsWithin, gap_within, line_within, block_within, spelt_within, digits_ahead, token_shorter}
 use Rattle.mich_text.proofs.Stable.{prefix_stable, prefix_grows}
@@ -151,14 +153,28 @@ two_tests_end true d more u v x rest other h = tt
 two_tests_end false true more u v x rest other h = tt
 two_tests_end false false more u v x rest other h = short_cut more other (x, rest) h
 
+decoded_cut : (b d : Bool) (more text there : List ℕ) (u v w z : Flaw) (c : ℕ) (rest : List ℕ) (r : Result (List ℕ) FromHexError)
+    → IsCut more (cond b (Err u) (cond d (Err v) (decoded text (c ∷ rest) r))) (cond b (Err w) (cond d (Err z) (decoded there (c ∷ (rest ++ more)) r)))
+decoded_cut true d more text there u v w z c rest r = tt
+decoded_cut false true more text there u v w z c rest r = tt
+decoded_cut false false more text there u v w z c rest (Ok b) = λ h. (c ∷ rest, refl, refl)
+decoded_cut false false more text there u v w z c rest (Err e) = tt
+
+decoded_end : (b d : Bool) (more text : List ℕ) (u v : Flaw) (rest : List ℕ) (r : Result (List ℕ) FromHexError) (other : Result (List ℕ × List ℕ) Flaw) → length rest ≤ length more
+    → IsCut more other (cond b (Err u) (cond d (Err v) (decoded text rest r)))
+decoded_end true d more text u v rest r other h = tt
+decoded_end false true more text u v rest r other h = tt
+decoded_end false false more text u v rest (Ok b) other h = short_cut more other (b, rest) h
+decoded_end false false more text u v rest (Err e) other h = tt
+
 bytes_cut : (c d : ℕ) (xs more : List ℕ) → IsCut more (bytes_at (c ∷ d ∷ xs)) (bytes_at (c ∷ d ∷ (xs ++ more)))
 unfolding bytes_at
 bytes_cut c d xs more = run_cut
-    (λ n front rest. cond (ltb byte_limit (n / 2)) (flaw TooLong (c ∷ d ∷ xs)) (cond (eqb (n % 2) 1 || begins_word rest) (flaw BadBytes (c ∷ d ∷ xs)) (Ok (paired front, rest))))
-    (λ n front rest. cond (ltb byte_limit (n / 2)) (flaw TooLong (c ∷ d ∷ (xs ++ more))) (cond (eqb (n % 2) 1 || begins_word rest) (flaw BadBytes (c ∷ d ∷ (xs ++ more))) (Ok (paired front, rest))))
+    (λ n front rest. cond (ltb byte_limit (n / 2)) (flaw TooLong (c ∷ d ∷ xs)) (cond (begins_word rest) (flaw BadBytes (c ∷ d ∷ xs)) (decoded (c ∷ d ∷ xs) rest (decode_of front))))
+    (λ n front rest. cond (ltb byte_limit (n / 2)) (flaw TooLong (c ∷ d ∷ (xs ++ more))) (cond (begins_word rest) (flaw BadBytes (c ∷ d ∷ (xs ++ more))) (decoded (c ∷ d ∷ (xs ++ more)) rest (decode_of front))))
     is_ascii_hexdigit xs more
-    (λ n front e rest. two_tests (ltb byte_limit (n / 2)) (eqb (n % 2) 1 || begins_word (e ∷ rest)) more _ _ _ _ (paired front) e rest)
-    (λ n front rest other h. two_tests_end (ltb byte_limit (n / 2)) (eqb (n % 2) 1 || begins_word rest) more _ _ (paired front) rest other h)
+    (λ n front e rest. decoded_cut (ltb byte_limit (n / 2)) (begins_word (e ∷ rest)) more (c ∷ d ∷ xs) (c ∷ d ∷ (xs ++ more)) _ _ _ _ e rest (decode_of front))
+    (λ n front rest other h. decoded_end (ltb byte_limit (n / 2)) (begins_word rest) more (c ∷ d ∷ (xs ++ more)) _ _ rest (decode_of front) other h)
 
 digits_cut_by : (minus : Bool) (text xs more : List ℕ) → let most = cond minus (2 ^ 127) (2 ^ 127 - 1) in
     IsCut more

@@ -1,8 +1,10 @@
 -- What holds of each flaw that a token can have.
-use Rattle.std.proofs.Common.{◌≡◌, ℕ, suc, ◌-◌, ◌/◌, ◌%◌, ◌^◌, Bool, true, false, cond, ◌||◌, ◌&&◌, eqb, ltb, leb, List, [], ◌∷◌, length, take, drop, Option, Some, None, Result, Ok, Err, refl, subst}
+use Rattle.std.proofs.Common.{◌≡◌, ℕ, suc, ◌-◌, ◌/◌, ◌^◌, Bool, true, false, cond, ◌||◌, ◌&&◌, eqb, ltb, leb, List, [], ◌∷◌, length, take, drop, Option, Some, None, Result, Ok, Err, refl, subst}
 use Rattle.std.specs.List.{prefix_len}
 use Rattle.std.specs.Char.{is_ascii_digit, is_ascii_hexdigit}
 use Rattle.std.specs.Str.Parse.{digits_value}
+use Rattle.hex.specs.Hex.{decode_of}
+use Rattle.hex.specs.declared.error.FromHexError.{FromHexError}
 use Rattle.rules_base.specs.Limits.{name_limit, byte_limit}
 use Rattle.rules_text.specs.Token.{Token, string, name, annotation, number, bytes}
 use Rattle.rules_text.specs.declared.TextKind.{TextKind}
@@ -10,7 +12,7 @@ use Rattle.rules_text.specs.declared.TextKind.TheVariants.{BadChar, BadString, B
 use Rattle.rules_text.specs.declared.Shape.{Shape}
 use Rattle.rules_text.specs.declared.Shape.TheVariants.{Digits, Quoted, Word, Note, OpenBrace, CloseBrace, OpenParen, CloseParen, Semicolon}
 use Rattle.rules_text.specs.Fault.{Flaw}
-use Rattle.rules_text.specs.Lexical.{flaw, is_word, is_noted, begins_word, name_at, annotation_at, Spelt, spelt, spelt_escape, with_byte, with_escape, escaped, string_at, ◌>>=◌, bytes_at, paired, number_at, after_minus, is_minus, signed, made, digits_at, begins_bytes, shape_at, first_shape, token_at}
+use Rattle.rules_text.specs.Lexical.{flaw, is_word, is_noted, begins_word, name_at, annotation_at, Spelt, spelt, spelt_escape, with_byte, with_escape, escaped, string_at, ◌>>=◌, bytes_at, decoded, number_at, after_minus, is_minus, signed, made, digits_at, begins_bytes, shape_at, first_shape, token_at}
 
 -- where it is a flaw, this holds of it
 abbrev pub Each : {A : Type 0} → (Flaw → Type 0) → Result (A × List ℕ) Flaw → Type 0
@@ -82,12 +84,17 @@ number_each P bad text =
     let value = digits_value 10 (take n (after_minus text)) in
     twice P (eqb n 0 || begins_word (drop n (after_minus text))) (ltb (cond (is_minus text) (2 ^ 127) (2 ^ 127 - 1)) value) BadNumber BadNumber text (signed (is_minus text) value, drop n (after_minus text)) bad bad
 
+decoded_each : (P : Flaw → Type 0) → Of P BadBytes → (text rest : List ℕ) (r : Result (List ℕ) FromHexError) → Each P (decoded text rest r)
+decoded_each P bad text rest (Ok b) = tt
+decoded_each P bad text rest (Err e) = bad (length text)
+
 bytes_each : (P : Flaw → Type 0) → Of P TooLong → Of P BadBytes → (text : List ℕ) → Each P (bytes_at text)
 unfolding bytes_at
 bytes_each P long bad text =
     let n = prefix_len is_ascii_hexdigit (drop 2 text) in
     let rest = drop n (drop 2 text) in
-    twice P (ltb byte_limit (n / 2)) (eqb (n % 2) 1 || begins_word rest) TooLong BadBytes text (paired (take n (drop 2 text)), rest) long bad
+    each_either P (ltb byte_limit (n / 2)) (flaw TooLong text) _ (long (length text))
+    (each_either P (begins_word rest) (flaw BadBytes text) _ (bad (length text)) (decoded_each P bad text rest (decode_of (take n (drop 2 text)))))
 
 -- ---- a string that isn't closed ends with the input
 

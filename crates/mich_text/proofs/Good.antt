@@ -1,20 +1,22 @@
 -- What a token that was read is like.
 use Rattle.std.specs.Prelude.{◌==◌}
-use Rattle.std.proofs.Common.{◌≡◌, ℕ, zero, suc, ◌+◌, ◌-◌, ◌*◌, ◌/◌, ◌%◌, ◌^◌, ◌≤◌, ◌<◌, Bool, true, false, cond, ◌||◌, ◌&&◌, eqb, ltb, leb, List, [], ◌∷◌, length, take, drop, Option, Some, None, ℤ, Result, Ok, Err, refl, subst, ◌∙◌, add-one, arith}
+use Rattle.std.proofs.Common.{◌≡◌, ℕ, zero, suc, ◌+◌, ◌-◌, ◌/◌, ◌^◌, ◌≤◌, ◌<◌, Bool, true, false, cond, ◌||◌, ◌&&◌, eqb, ltb, leb, List, [], ◌∷◌, length, take, drop, slice_index, Option, Some, None, ℤ, Result, Ok, Err, refl, subst, ◌∙◌, add-one, arith}
 use Rattle.std.specs.Prelude.{pos, negsuc}
 use Rattle.std.proofs.lemmas.Bool.{ltb-false, lt-ltb}
-use Rattle.std.proofs.lemmas.Bool.Decides.{nat_tests}
 use Rattle.std.proofs.lemmas.List.{length-take}
 use Rattle.std.specs.List.{prefix_len, AllByRecursion}
 use Rattle.std.specs.Char.{is_ascii_digit, is_ascii_hexdigit}
 use Rattle.std.specs.Str.Parse.{digits_value}
+use Rattle.hex.proofs.HexLemmas.{decode_of-ok}
+use Rattle.hex.specs.Hex.{decode_of}
+use Rattle.hex.specs.declared.error.FromHexError.{FromHexError}
 use Rattle.rules_base.specs.Limits.{name_limit, byte_limit}
 use Rattle.rules_text.specs.Token.{Token, string, name, annotation, number, bytes}
 use Rattle.rules_text.specs.declared.Shape.{Shape}
 use Rattle.rules_text.specs.declared.Shape.TheVariants.{Digits, Quoted, Word, Note, OpenBrace, CloseBrace, OpenParen, CloseParen, Semicolon}
 use Rattle.rules_text.specs.declared.TextKind.TheVariants.{BadString, BadBytes, BadNumber, TooLong}
 use Rattle.rules_text.specs.Fault.{Flaw}
-use Rattle.rules_text.specs.Lexical.{flaw, is_word, is_noted, begins_word, name_at, annotation_at, Spelt, spelt, spelt_escape, with_byte, with_escape, escaped, string_at, ◌>>=◌, bytes_at, paired, nibble, number_at, after_minus, is_minus, signed, made, digits_at, begins_bytes, shape_at, shape_of, first_shape, token_at}
+use Rattle.rules_text.specs.Lexical.{flaw, is_word, is_noted, begins_word, name_at, annotation_at, Spelt, spelt, spelt_escape, with_byte, with_escape, escaped, string_at, ◌>>=◌, bytes_at, decoded, number_at, after_minus, is_minus, signed, made, digits_at, begins_bytes, shape_at, shape_of, first_shape, token_at}
 use Rattle.rules_text.specs.Text.{Leads}
 use Rattle.mich_text.proofs.Places.{word_is, prefix_some}
 use Rattle.mich_text.proofs.Printing.{IsAll, IsName, is_spelt}
@@ -148,32 +150,24 @@ string_reads c rest =
 
 -- ---- bytes
 
-nibble_small : (c : ℕ) → nibble c < 16
-nibble_small c = grind (arith, nat_tests)
+all_bytes : (b : List ℕ) → ((i : ℕ) → slice_index b i < 256) → IsAll (λ c. ltb c 256) b
+all_bytes [] h = tt
+all_bytes (c ∷ b) h = (lt-ltb c 256 (h 0), all_bytes b (λ i. h (suc i)))
 
-two_nibbles : (a b : ℕ) → ltb (nibble a * 16 + nibble b) 256 ≡ true
-two_nibbles a b = lt-ltb (nibble a * 16 + nibble b) 256 (omega (arith, nibble_small a, nibble_small b))
+decoded_reads : (text rest digits : List ℕ) (r : Result (List ℕ) FromHexError) → decode_of digits ≡ r → length digits / 2 ≤ byte_limit → Reads IsBytes (decoded text rest r)
+decoded_reads text rest digits (Ok b) e h = let ok = decode_of-ok digits b e in (all_bytes b ok.3, omega (arith, ok.2, h))
+decoded_reads text rest digits (Err f) e h = tt
 
-paired_all : (xs : List ℕ) → IsAll (λ c. ltb c 256) (paired xs)
-paired_all [] = tt
-paired_all (a ∷ []) = tt
-paired_all (a ∷ b ∷ xs) = (two_nibbles a b, paired_all xs)
-
-paired_half : (xs : List ℕ) → 2 * length (paired xs) ≤ length xs
-paired_half [] = omega arith
-paired_half (a ∷ []) = omega arith
-paired_half (a ∷ b ∷ xs) = omega (arith, paired_half xs)
-
-half_limit : (n k : ℕ) → 2 * k ≤ n → n / 2 ≤ byte_limit → k ≤ byte_limit
-half_limit n k h g = omega (arith, h, g)
+taken_half : (n : ℕ) (xs : List ℕ) → n / 2 ≤ byte_limit → length (take n xs) / 2 ≤ byte_limit
+taken_half n xs h = omega (arith, h, length-take n xs)
 
 bytes_reads : (c d : ℕ) (rest : List ℕ) → Reads IsBytes (bytes_at (c ∷ d ∷ rest))
 unfolding bytes_at
 bytes_reads c d rest =
     let n = prefix_len is_ascii_hexdigit rest in
     either_reads IsBytes (ltb byte_limit (n / 2)) (flaw TooLong (c ∷ d ∷ rest)) _ (λ _. tt)
-    (λ h. either_reads IsBytes (eqb (n % 2) 1 || begins_word (drop n rest)) (flaw BadBytes (c ∷ d ∷ rest)) (Ok (paired (take n rest), drop n rest)) (λ _. tt)
-    (λ _. (paired_all (take n rest), half_limit n (length (paired (take n rest))) (omega (arith, paired_half (take n rest), length-take n rest)) (ltb-false byte_limit (n / 2) h))))
+    (λ h. either_reads IsBytes (begins_word (drop n rest)) (flaw BadBytes (c ∷ d ∷ rest)) _ (λ _. tt)
+    (λ _. decoded_reads (c ∷ d ∷ rest) (drop n rest) (take n rest) (decode_of (take n rest)) refl (taken_half n rest (ltb-false byte_limit (n / 2) h))))
 
 -- ---- numbers
 

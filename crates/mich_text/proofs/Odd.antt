@@ -1,9 +1,14 @@
 -- Bytes whose digits have no pair: what more of them shows.
-use Rattle.std.proofs.Common.{◌≡◌, ℕ, suc, ◌+◌, ◌≤◌, ◌/◌, ◌%◌, Bool, true, false, cond, ◌||◌, eqb, ltb, List, [], ◌∷◌, ◌++◌, length, take, drop, Option, Some, None, Result, Ok, Err, refl, sym, ap, subst, ◌∙◌, arith}
-use Rattle.std.proofs.lemmas.Bool.{ltb-false, le-ltb, eqb-true, ne_eqb}
-use Rattle.std.proofs.lemmas.List.{length-append, drop_all}
-use Rattle.std.specs.List.{prefix_len}
+use Rattle.std.proofs.Common.{◌≡◌, ℕ, suc, ◌+◌, ◌≤◌, ◌/◌, ◌%◌, inl, inr, Bool, true, false, cond, ltb, List, [], ◌∷◌, ◌++◌, length, take, drop, Option, Some, None, Result, Ok, Err, refl, sym, ap, subst, ◌∙◌, arith}
+use Rattle.std.proofs.lemmas.Bool.{ltb-false, le-ltb, cases_eq}
+use Rattle.std.proofs.lemmas.Bool.Decides.{nat_tests}
+use Rattle.std.proofs.lemmas.List.{length-append, drop_all, take_all}
+use Rattle.std.proofs.lemmas.List.Elements.{All-cons, All-nil}
+use Rattle.std.specs.List.{prefix_len, AllPass}
 use Rattle.std.specs.Char.{is_ascii_hexdigit}
+use Rattle.hex.proofs.HexLemmas.{decode_of-digits}
+use Rattle.hex.specs.Hex.{decode_of, is_hex_digit}
+use Rattle.hex.specs.declared.error.FromHexError.{FromHexError}
 use Rattle.rules_base.specs.Limits.{byte_limit}
 use Rattle.rules_text.specs.Token.{Token, string, name, annotation, number, bytes}
 use Rattle.rules_text.specs.declared.TextKind.{TextKind}
@@ -11,8 +16,9 @@ use Rattle.rules_text.specs.declared.TextKind.TheVariants.{BadChar, BadString, B
 use Rattle.rules_text.specs.declared.Shape.{Shape}
 use Rattle.rules_text.specs.declared.Shape.TheVariants.{Digits, Quoted, Word, Note, OpenBrace, CloseBrace, OpenParen, CloseParen, Semicolon}
 use Rattle.rules_text.specs.Fault.{Flaw}
+use Rattle.mich_text.proofs.Printing.{IsHexDigit}
 use Rattle.mich_text.proofs.Flaws.{Each, made_each, name_each, annotation_each, string_each, number_each}
-use Rattle.rules_text.specs.Lexical.{flaw, begins_word, name_at, annotation_at, string_at, bytes_at, paired, number_at, made, begins_bytes, shape_at, shape_of, token_at}
+use Rattle.rules_text.specs.Lexical.{flaw, begins_word, name_at, annotation_at, string_at, bytes_at, decoded, number_at, made, begins_bytes, shape_at, shape_of, token_at}
 
 -- of a kind other than BadBytes
 abbrev NotBytes : Flaw → Type 0
@@ -97,18 +103,36 @@ made_err (Err g) f e = ap (λ (x : Flaw). Err x) (same g f e)
 flaw_same : (g f : Flaw) → ◌≡◌ {A = Result (List ℕ × List ℕ) Flaw} (Err g) (Err f) → g ≡ f
 flaw_same g f e = cc
 
--- a flaw of bytes: they aren't too long, they have no pair or a letter behind them, and it stands at their first byte
-bytes_by : (t u : Bool) (text : List ℕ) (x : List ℕ × List ℕ) (left : ℕ) → cond t (flaw TooLong text) (cond u (flaw BadBytes text) (Ok x)) ≡ Err (record { kind = BadBytes; left = left }) → (t ≡ false) × (u ≡ true) × (left ≡ length text)
-bytes_by true u text x left e = absurd (too_long (ap (λ (f : Flaw). f.kind) (flaw_same _ _ e)))
-bytes_by false true text x left e = (refl, refl, sym (ap (λ (f : Flaw). f.left) (flaw_same _ _ e)))
-bytes_by false false text x left e = absurd cc
+-- a flaw of bytes: they aren't too long, it stands at their first byte, and behind digits without a letter it is theirs
+bytes_by : (t u : Bool) (text rest : List ℕ) (r : Result (List ℕ) FromHexError) (left : ℕ) → cond t (flaw TooLong text) (cond u (flaw BadBytes text) (decoded text rest r)) ≡ Err (record { kind = BadBytes; left = left })
+    → (t ≡ false) × (left ≡ length text) × (u ≡ false → (b : List ℕ) → r ≡ Ok b → ⊥)
+bytes_by true u text rest r left e = absurd (too_long (ap (λ (f : Flaw). f.kind) (flaw_same _ _ e)))
+bytes_by false true text rest r left e = (refl, sym (ap (λ (f : Flaw). f.left) (flaw_same _ _ e)), λ p. absurd cc)
+bytes_by false false text rest (Ok b) left e = absurd cc
+bytes_by false false text rest (Err f) left e = (refl, sym (ap (λ (f : Flaw). f.left) (flaw_same _ _ e)), λ p b q. cc q)
 
-or_end : (a b : Bool) → b ≡ false → (a || b) ≡ true → a ≡ true
-or_end true b e h = refl
-or_end false b e h = absurd (clash b e h)
-  where
-    clash : (b : Bool) → b ≡ false → b ≡ true → ⊥
-    clash b e h = cc
+-- ---- digits in pairs
+
+hex_reads : (c : ℕ) → is_ascii_hexdigit c ≡ true → is_hex_digit c ≡ true
+hex_reads c h = grind (arith, nat_tests, h)
+
+reads_by : (c : ℕ) (xs : List ℕ) (b : Bool) → is_ascii_hexdigit c ≡ b → cond (is_ascii_hexdigit c) (1 + prefix_len is_ascii_hexdigit xs) 0 ≡ suc (length xs) → (is_hex_digit c ≡ true) × (prefix_len is_ascii_hexdigit xs ≡ length xs)
+reads_by c xs true h e =
+    let inner : 1 + prefix_len is_ascii_hexdigit xs ≡ suc (length xs) = ap (λ (t : Bool). cond t (1 + prefix_len is_ascii_hexdigit xs) 0) (sym h) ∙ e in
+    (hex_reads c h, omega (arith, inner))
+reads_by c xs false h e =
+    let inner : 0 ≡ suc (length xs) = ap (λ (t : Bool). cond t (1 + prefix_len is_ascii_hexdigit xs) 0) (sym h) ∙ e in
+    absurd (omega (arith, inner))
+
+all_read : (xs : List ℕ) → prefix_len is_ascii_hexdigit xs ≡ length xs → AllPass is_hex_digit xs
+all_read [] e = All-nil IsHexDigit
+all_read (c ∷ xs) e = let p = reads_by c xs (is_ascii_hexdigit c) refl e in All-cons IsHexDigit c xs p.0 (all_read xs p.1)
+
+-- an even number of digits decodes
+pairs_decode : (xs : List ℕ) (n : ℕ) → n ≡ prefix_len is_ascii_hexdigit xs → n ≡ length xs → n % 2 ≡ 0 → (b : List ℕ) × (decode_of (take n xs) ≡ Ok b)
+pairs_decode xs n run whole even =
+    let d = decode_of-digits xs (omega (arith, even, whole)) (all_read xs (sym run ∙ whole)) in
+    (d.0, ap decode_of (take_all n xs (omega (arith, whole))) ∙ d.1)
 
 -- digits without a pair, which reach the end
 pub record IsOdd (text : List ℕ) : Type 0 where
@@ -128,8 +152,8 @@ bytes_left text left e =
     let s = starts text left e in
     let read : bytes_at (s.c ∷ s.d ∷ s.digits) ≡ Err (record { kind = BadBytes; left = left }) = made_err (bytes_at (s.c ∷ s.d ∷ s.digits)) (record { kind = BadBytes; left = left }) (sym (s.reads s.digits) ∙ ap token_at (sym s.text_is) ∙ e) in
     let n = prefix_len is_ascii_hexdigit s.digits in
-    let h = bytes_by (ltb byte_limit (n / 2)) (eqb (n % 2) 1 || begins_word (drop n s.digits)) (s.c ∷ s.d ∷ s.digits) (paired (take n s.digits), drop n s.digits) left read in
-    h.2 ∙ ap (λ (l : List ℕ). length l) (sym s.text_is)
+    let h = bytes_by (ltb byte_limit (n / 2)) (begins_word (drop n s.digits)) (s.c ∷ s.d ∷ s.digits) (drop n s.digits) (decode_of (take n s.digits)) left read in
+    h.1 ∙ ap (λ (l : List ℕ). length l) (sym s.text_is)
 
 pub is_odd : (text : List ℕ) (left : ℕ) → token_at text ≡ Err (record { kind = BadBytes; left = left }) → prefix_len is_ascii_hexdigit (drop 2 text) ≡ length (drop 2 text) → IsOdd text
 unfolding bytes_at
@@ -137,10 +161,13 @@ is_odd text left e reached =
     let s = starts text left e in
     let read : bytes_at (s.c ∷ s.d ∷ s.digits) ≡ Err (record { kind = BadBytes; left = left }) = made_err (bytes_at (s.c ∷ s.d ∷ s.digits)) (record { kind = BadBytes; left = left }) (sym (s.reads s.digits) ∙ ap token_at (sym s.text_is) ∙ e) in
     let n = prefix_len is_ascii_hexdigit s.digits in
-    let h = bytes_by (ltb byte_limit (n / 2)) (eqb (n % 2) 1 || begins_word (drop n s.digits)) (s.c ∷ s.d ∷ s.digits) (paired (take n s.digits), drop n s.digits) left read in
+    let h = bytes_by (ltb byte_limit (n / 2)) (begins_word (drop n s.digits)) (s.c ∷ s.d ∷ s.digits) (drop n s.digits) (decode_of (take n s.digits)) left read in
     let all : n ≡ length s.digits = subst (λ (l : List ℕ). prefix_len is_ascii_hexdigit (drop 2 l) ≡ length (drop 2 l)) s.text_is reached in
     let none : begins_word (drop n s.digits) ≡ false = ap begins_word (drop_all n s.digits (omega (arith, all))) in
-    let odd : n % 2 ≡ 1 = eqb-true (n % 2) 1 (or_end (eqb (n % 2) 1) (begins_word (drop n s.digits)) none h.1) in
+    let odd : n % 2 ≡ 1 = elim (cases_eq (n % 2) 1) [
+      | inl one ↦ one
+      | inr even ↦ let d = pairs_decode s.digits n refl all (omega (arith, even)) in absurd (h.2 none d.0 d.1)
+    ] in
     record {
       c = s.c;
       d = s.d;
@@ -189,15 +216,10 @@ odd_not_shown text o f e k =
     let more : n ≡ length o.digits + 1 = all_more is_ascii_hexdigit o.digits (48 ∷ []) o.all in
     let whole : n ≡ length zs = omega (arith, more, length-append o.digits (48 ∷ [])) in
     let none : begins_word (drop n zs) ≡ false = ap begins_word (drop_all n zs (omega (arith, whole))) in
-    let even : eqb (n % 2) 1 ≡ false = ne_eqb (n % 2) 1 (λ h. omega (arith, h, more, o.odd)) in
+    let d = pairs_decode zs n refl whole (omega (arith, more, o.odd)) in
     let fits : ◌≡◌ {A = Flaw} f (record { kind = BadBytes; left = f.left }) = ap (λ (x : TextKind). record { kind = x; left = f.left }) k in
-    let h = bytes_by (ltb byte_limit (n / 2)) (eqb (n % 2) 1 || begins_word (drop n zs)) (o.c ∷ o.d ∷ zs) (paired (take n zs), drop n zs) f.left (read ∙ ap (λ (x : Flaw). Err x) fits) in
-    clash (eqb (n % 2) 1) (begins_word (drop n zs)) even none h.1
-  where
-    clash : (a b : Bool) → a ≡ false → b ≡ false → (a || b) ≡ true → ⊥
-    clash true b p q h = cc p
-    clash false true p q h = cc q
-    clash false false p q h = cc h
+    let h = bytes_by (ltb byte_limit (n / 2)) (begins_word (drop n zs)) (o.c ∷ o.d ∷ zs) (drop n zs) (decode_of (take n zs)) f.left (read ∙ ap (λ (x : Flaw). Err x) fits) in
+    h.2 none d.0 d.1
 
 -- without its last digit the token is read
 pub odd_front : (text front : List ℕ) (l : ℕ) → IsOdd text → text ≡ front ++ l ∷ [] → (f : Flaw) → token_at front ≡ Err f → ⊥
@@ -216,16 +238,16 @@ odd_front text (x ∷ y ∷ zs) l o e f h =
     let n = prefix_len is_ascii_hexdigit zs in
     let whole : n ≡ length zs = all_front is_ascii_hexdigit zs (l ∷ []) all in
     let none : begins_word (drop n zs) ≡ false = ap begins_word (drop_all n zs (omega (arith, whole))) in
-    let even : eqb (n % 2) 1 ≡ false = ne_eqb (n % 2) 1 (λ g. omega (arith, g, whole, count, o.odd)) in
+    let d = pairs_decode zs n refl whole (omega (arith, whole, count, o.odd)) in
     let short : ltb byte_limit (n / 2) ≡ false = le-ltb byte_limit (n / 2) (omega (arith, o.short, whole, count)) in
-    okay_not (ltb byte_limit (n / 2)) (eqb (n % 2) 1) (begins_word (drop n zs)) (o.c ∷ o.d ∷ zs) (paired (take n zs), drop n zs) f short even none read
+    okay_not (ltb byte_limit (n / 2)) (begins_word (drop n zs)) (o.c ∷ o.d ∷ zs) (drop n zs) (decode_of (take n zs)) f short none d.0 d.1 read
   where
     head : List ℕ → ℕ
     head [] = 0
     head (k ∷ t) = k
 
-    okay_not : (t u w : Bool) (text : List ℕ) (x : List ℕ × List ℕ) (f : Flaw) → t ≡ false → u ≡ false → w ≡ false → cond t (flaw TooLong text) (cond (u || w) (flaw BadBytes text) (Ok x)) ≡ Err f → ⊥
-    okay_not true u w text x f p q r e = cc p
-    okay_not false true w text x f p q r e = cc q
-    okay_not false false true text x f p q r e = cc r
-    okay_not false false false text x f p q r e = cc e
+    okay_not : (t u : Bool) (text rest : List ℕ) (r : Result (List ℕ) FromHexError) (f : Flaw) → t ≡ false → u ≡ false → (b : List ℕ) → r ≡ Ok b → cond t (flaw TooLong text) (cond u (flaw BadBytes text) (decoded text rest r)) ≡ Err f → ⊥
+    okay_not true u text rest r f p q b g e = cc p
+    okay_not false true text rest r f p q b g e = cc q
+    okay_not false false text rest (Ok c) f p q b g e = cc e
+    okay_not false false text rest (Err h) f p q b g e = cc g

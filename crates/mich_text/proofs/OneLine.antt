@@ -6,17 +6,16 @@ use Rattle.std.proofs.lemmas.Fmt.{decimal_is_IsNumeral_wide}
 use Rattle.std.specs.Char.{is_ascii_digit, is_ascii_hexdigit}
 use Rattle.std.specs.Fmt.{decimal, signed_decimal}
 use Rattle.std.specs.List.{AllByRecursion, list_all}
+use Rattle.hex.specs.Hex.{encode_lower}
 use Rattle.rules_base.specs.Tree.{Tree, int, str, prim, seq, Trees, none, more}
 use Rattle.rules_text.specs.Token.{Token}
 use Rattle.rules_text.specs.Lexical.{is_word, is_noted}
-use Rattle.rules_text.specs.Printed.{spelling, string_text, bytes_text, annotations_text, in_parens, is_wrapped, printed, arguments_text, elements_text}
-use Rattle.rules_text.specs.Text.{IsNode}
+use Rattle.rules_text.specs.Printed.{spelling, string_text, annotations_text, in_parens, is_wrapped, printed, arguments_text, elements_text}
 use Rattle.mich_text.specs.Line.{is_printing}
 use Rattle.mich_text.proofs.Printing.{IsAll, IsName, is_spelt, hexes, digits_pass}
 use Rattle.mich_text.proofs.Again.{IsToken, IsPrintable, ArePrintable}
 use Rattle.mich_text.proofs.Good.{IsGood, IsInt, IsNote, token_good}
 use Rattle.mich_text.proofs.Printable.{note_sign, wide}
-use Rattle.mich_text.proofs.Runs.{node_printable}
 
 abbrev InLine : List ℕ → Type 0
 InLine text = IsAll is_printing text
@@ -94,7 +93,7 @@ mutual
   pub line_in : (t : Tree) → IsPrintable t → InLine (printed t)
   line_in (int n) h = int_in n (good (signed_decimal n) (Token.number n) h)
   line_in (str s) h = (refl, string_in s h.0)
-  line_in (Tree.bytes b) h = (refl, (refl, weaker is_ascii_hexdigit is_printing hex_in (bytes_text b) (hexes b h.0)))
+  line_in (Tree.bytes b) h = (refl, (refl, weaker is_ascii_hexdigit is_printing hex_in (encode_lower b) (hexes b h.0)))
   line_in (prim n ns xs) h = both n (annotations_text ns ++ arguments_text xs) (name_in n (good n (Token.name n) h.0)) (both (annotations_text ns) (arguments_text xs) (notes_in ns h.1) (arguments_in xs h.2))
   line_in (seq none) h = (refl, (refl, tt))
   line_in (seq (more x xs)) h = (refl, (refl, both (printed x) (elements_text xs ++ 32 ∷ 125 ∷ []) (line_in x h.0) (both (elements_text xs) (32 ∷ 125 ∷ []) (elements_in xs h.1) (refl, (refl, tt)))))

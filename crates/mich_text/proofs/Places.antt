@@ -1,5 +1,5 @@
 -- What is read lies further on.
-use Rattle.std.proofs.Common.{◌≡◌, ℕ, suc, ◌+◌, ◌-◌, ◌≤◌, ◌<◌, ◌/◌, ◌%◌, ◌^◌, Bool, true, false, cond, ◌||◌, ◌&&◌, eqb, ltb, leb, List, [], ◌∷◌, length, take, drop, Option, Some, None, Result, Ok, Err, refl, sym, ap, subst, ◌∙◌, arith}
+use Rattle.std.proofs.Common.{◌≡◌, ℕ, suc, ◌+◌, ◌-◌, ◌≤◌, ◌<◌, ◌/◌, ◌^◌, Bool, true, false, cond, ◌||◌, ◌&&◌, eqb, ltb, leb, List, [], ◌∷◌, length, take, drop, Option, Some, None, Result, Ok, Err, refl, sym, ap, subst, ◌∙◌, arith}
 use Rattle.std.proofs.lemmas.List.{length-drop}
 use Rattle.std.proofs.lemmas.Bool.{eqb-false}
 use Rattle.std.proofs.lemmas.Bool.Decides.{nat_tests}
@@ -7,6 +7,8 @@ use Rattle.std.proofs.lemmas.List.Sums.{prefix_len-le-length}
 use Rattle.std.specs.List.{prefix_len}
 use Rattle.std.specs.Char.{is_ascii_digit, is_ascii_hexdigit, is_ascii_alphabetic}
 use Rattle.std.specs.Str.Parse.{digits_value}
+use Rattle.hex.specs.Hex.{decode_of}
+use Rattle.hex.specs.declared.error.FromHexError.{FromHexError}
 use Rattle.rules_base.specs.Limits.{name_limit, byte_limit}
 use Rattle.rules_text.specs.Token.{Token, token_shape, string, name, annotation, number, bytes}
 use Rattle.rules_text.specs.declared.Shape.{Shape}
@@ -14,7 +16,7 @@ use Rattle.rules_text.specs.declared.Shape.TheVariants.{Digits, Quoted, Word, No
 use Rattle.rules_text.specs.declared.TextKind.TheVariants.{BadString}
 use Rattle.rules_text.specs.Fault.{Flaw}
 use Rattle.mich_text.specs.Plain.{rank}
-use Rattle.rules_text.specs.Lexical.{flaw, is_word, is_noted, begins_word, after_gap, after_slash, after_line, after_block, is_white, opens, closes, name_at, annotation_at, Spelt, spelt, spelt_escape, with_byte, with_escape, escaped, string_at, ◌>>=◌, bytes_at, number_at, after_minus, is_minus, made, digits_at, begins_bytes, shape_at, shape_of, first_shape, token_at}
+use Rattle.rules_text.specs.Lexical.{flaw, is_word, is_noted, begins_word, after_gap, after_slash, after_line, after_block, is_white, opens, closes, name_at, annotation_at, Spelt, spelt, spelt_escape, with_byte, with_escape, escaped, string_at, ◌>>=◌, bytes_at, decoded, number_at, after_minus, is_minus, made, digits_at, begins_bytes, shape_at, shape_of, first_shape, token_at}
 
 -- ---- white space and comments
 
@@ -115,12 +117,17 @@ string_ahead : (c : ℕ) (rest : List ℕ) → IsAhead (suc (length rest)) (stri
 unfolding string_at
 string_ahead c rest = either_ahead (ltb byte_limit (length (spelt rest).text)) (suc (length rest)) _ _ (λ _. (omega arith, refl)) (λ _. end_ahead (length rest) (spelt rest).text (spelt rest).end (spelt_within (length rest) rest (omega arith)))
 
+decoded_ahead : (n : ℕ) (text rest : List ℕ) (r : Result (List ℕ) FromHexError) → length text ≤ n → length rest < n → IsAhead n (decoded text rest r)
+decoded_ahead n text rest (Ok b) g h = h
+decoded_ahead n text rest (Err e) g h = (g, refl)
+
 bytes_ahead : (c d : ℕ) (rest : List ℕ) → IsAhead (suc (suc (length rest))) (bytes_at (c ∷ d ∷ rest))
 unfolding bytes_at
 bytes_ahead c d rest =
     let n = prefix_len is_ascii_hexdigit rest in
     either_ahead (ltb byte_limit (n / 2)) (suc (suc (length rest))) _ _ (λ _. (omega arith, refl))
-    (λ _. either_ahead (eqb (n % 2) 1 || begins_word (drop n rest)) (suc (suc (length rest))) _ _ (λ _. (omega arith, refl)) (λ _. omega (arith, length-drop n rest)))
+    (λ _. either_ahead (begins_word (drop n rest)) (suc (suc (length rest))) _ _ (λ _. (omega arith, refl))
+    (λ _. decoded_ahead (suc (suc (length rest))) (c ∷ d ∷ rest) (drop n rest) (decode_of (take n rest)) (omega arith) (omega (arith, length-drop n rest))))
 
 minus_le : (text : List ℕ) → length (after_minus text) ≤ length text
 minus_le [] = omega arith

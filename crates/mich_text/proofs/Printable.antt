@@ -5,12 +5,13 @@ use Rattle.std.proofs.lemmas.List.{append-nil}
 use Rattle.std.proofs.lemmas.Fmt.{decimal_is_IsNumeral_wide}
 use Rattle.std.specs.Fmt.{decimal, signed_decimal}
 use Rattle.std.specs.List.{AllByRecursion}
+use Rattle.hex.specs.Hex.{encode_lower}
 use Rattle.rules_base.specs.Tree.{Tree, int, str, prim, seq, none, more, trees_of}
 use Rattle.rules_text.specs.Token.{Token}
 use Rattle.rules_text.specs.declared.Shape.TheVariants.{Digits, Quoted, Word, Note, OpenBrace, CloseBrace, OpenParen, CloseParen, Semicolon}
 use Rattle.rules_text.specs.Syntax.{Node, number, bytes, string, parens, braces, braces_to, Items, no_items, with_annotation, with_name, with_node, Element, alone, application, Separated, nothing, followed, node_tokens, item_tokens, element_tokens, separated_tokens, annotations, node_tree, arguments, element_tree, separated_trees}
 use Rattle.rules_text.specs.Lexical.{after_gap, shape_of}
-use Rattle.rules_text.specs.Printed.{printed, string_text, bytes_text, annotations_text, arguments_text, elements_text}
+use Rattle.rules_text.specs.Printed.{printed, string_text, annotations_text, arguments_text, elements_text}
 use Rattle.mich_text.proofs.Places.{word_is}
 use Rattle.mich_text.proofs.Printing.{IsAll, IsName, name_token, digits_token, minus_token, note_token, digits_pass, digit_solid, word_solid, note_solid, is_solid, solid_gap}
 use Rattle.mich_text.proofs.Again.{IsToken, IsPrintable, ArePrintable}
@@ -137,7 +138,7 @@ mutual
 pub line_begins : (t : Tree) → IsPrintable t → after_gap (printed t) ≡ Some (printed t)
 line_begins (int n) h = subst (λ (x : List ℕ). after_gap x ≡ Some x) (append-nil (signed_decimal n)) (h.gap [])
 line_begins (str s) h = solid_gap 34 (string_text s) refl
-line_begins (Tree.bytes b) h = solid_gap 48 (120 ∷ bytes_text b) refl
+line_begins (Tree.bytes b) h = solid_gap 48 (120 ∷ encode_lower b) refl
 line_begins (prim n ns xs) h = h.0.gap (annotations_text ns ++ arguments_text xs)
 line_begins (seq none) h = solid_gap 123 (125 ∷ []) refl
 line_begins (seq (more x xs)) h = solid_gap 123 (32 ∷ (printed x ++ (elements_text xs ++ 32 ∷ 125 ∷ []))) refl

@@ -1,18 +1,21 @@
 -- What is printed is read again, token by token.
 use Rattle.std.specs.Prelude.{◌==◌, pos, neg_ℤ}
-use Rattle.std.proofs.Common.{◌≡◌, ℕ, ◌+◌, ◌-◌, ◌*◌, ◌/◌, ◌%◌, ◌^◌, ◌≤◌, ◌<◌, Bool, true, false, cond, not, ◌||◌, ◌&&◌, eqb, ltb, leb, List, [], ◌∷◌, ◌++◌, length, take, drop, Option, Some, ℤ, Result, Ok, refl, sym, ap, ◌∙◌, append_assoc, add-one, arith}
+use Rattle.std.proofs.Common.{◌≡◌, ℕ, zero, suc, ◌-◌, ◌/◌, ◌^◌, ◌≤◌, ◌<◌, Bool, true, false, cond, not, ◌||◌, ◌&&◌, eqb, ltb, leb, List, [], ◌∷◌, ◌++◌, length, take, drop, slice_index, Option, Some, ℤ, Result, Ok, refl, sym, ap, ◌∙◌, append_assoc, add-one, arith}
 use Rattle.std.proofs.lemmas.Bool.{le-ltb, eqb-true, ltb-true, ne_eqb}
 use Rattle.std.proofs.lemmas.Bool.Decides.{nat_tests}
 use Rattle.std.proofs.lemmas.List.{take_at, drop_at}
-use Rattle.std.specs.List.{prefix_len}
+use Rattle.std.proofs.lemmas.List.Elements.{All-head, All-tail}
+use Rattle.std.specs.List.{prefix_len, AllPass}
 use Rattle.std.specs.Char.{is_ascii_hexdigit, is_ascii_digit, digit_value}
 use Rattle.std.specs.Str.Parse.{AllDigits, digits_value}
+use Rattle.hex.proofs.HexLemmas.{decode_of-encode_lower, decode_of-ok, length-encode_with}
+use Rattle.hex.specs.Hex.{decode_of, encode_lower, is_hex_digit, lower_digits}
 use Rattle.rules_base.specs.Limits.{name_limit, byte_limit}
 use Rattle.rules_text.specs.Token.{Token}
 use Rattle.rules_text.specs.declared.Shape.TheVariants.{Digits, Word, Note}
 use Rattle.rules_text.specs.declared.TextKind.TheVariants.{BadNumber}
-use Rattle.rules_text.specs.Lexical.{flaw, signed, annotation_at, shape_of, is_white, is_word, is_noted, begins_word, after_gap, name_at, spelt, with_byte, string_at, bytes_at, number_at, begins_bytes, paired, nibble, made, shape_at, first_shape, token_at}
-use Rattle.rules_text.specs.Printed.{spelling, string_text, hex_digit, bytes_text}
+use Rattle.rules_text.specs.Lexical.{flaw, signed, annotation_at, shape_of, is_white, is_word, is_noted, begins_word, after_gap, name_at, spelt, with_byte, string_at, bytes_at, number_at, begins_bytes, decoded, made, shape_at, first_shape, token_at}
+use Rattle.rules_text.specs.Printed.{spelling, string_text}
 use Rattle.rules_text.specs.Text.{Leads}
 
 -- what may follow a printed token: nothing, a space or a closing parenthesis
@@ -104,42 +107,37 @@ string_token s rest h short =
 
 -- ---- bytes
 
-nibble_again : (d : ℕ) → d < 16 → nibble (hex_digit d) ≡ d
-nibble_again d h = grind (arith, nat_tests)
+hex_is : (c : ℕ) → is_hex_digit c ≡ true → is_ascii_hexdigit c ≡ true
+hex_is c h = grind (arith, nat_tests, h)
 
-hex_is : (d : ℕ) → d < 16 → is_ascii_hexdigit (hex_digit d) ≡ true
-hex_is d h = grind (arith, nat_tests)
+abbrev pub IsHexDigit : ℕ → Type 0
+IsHexDigit c = is_hex_digit c ≡ true
 
-pub hexes : (b : List ℕ) → IsAll (λ c. ltb c 256) b → IsAll is_ascii_hexdigit (bytes_text b)
-hexes [] h = tt
-hexes (c ∷ b) h =
-    let lt : c < 256 = ltb-true c 256 h.0 in
-    (hex_is (c / 16) (omega (arith, lt)), (hex_is (c % 16) (omega arith), hexes b h.1))
+all_hex : (xs : List ℕ) → AllPass is_hex_digit xs → IsAll is_ascii_hexdigit xs
+all_hex [] h = tt
+all_hex (c ∷ xs) h = (hex_is c (All-head IsHexDigit c xs h), all_hex xs (All-tail IsHexDigit c xs h))
 
-pairs_again : (b : List ℕ) → IsAll (λ c. ltb c 256) b → paired (bytes_text b) ≡ b
-pairs_again [] h = refl
-pairs_again (c ∷ b) h =
-    let lt : c < 256 = ltb-true c 256 h.0 in
-    let high : c / 16 < 16 = omega (arith, lt) in
-    let low : c % 16 < 16 = omega arith in
-    let whole : nibble (hex_digit (c / 16)) * 16 + nibble (hex_digit (c % 16)) ≡ c = omega (arith, nibble_again (c / 16) high, nibble_again (c % 16) low) in
-    rw (whole, pairs_again b h.1) refl
+each_byte : (b : List ℕ) → IsAll (λ c. ltb c 256) b → (i : ℕ) → slice_index b i < 256
+each_byte [] h i = omega arith
+each_byte (c ∷ b) h zero = ltb-true c 256 h.0
+each_byte (c ∷ b) h (suc i) = each_byte b h.1 i
 
-bytes_length : (b : List ℕ) → length (bytes_text b) ≡ 2 * length b
-bytes_length [] = refl
-bytes_length (c ∷ b) = omega (arith, bytes_length b)
+decoded_again : (b : List ℕ) → IsAll (λ c. ltb c 256) b → decode_of (encode_lower b) ≡ Ok b
+decoded_again b h = decode_of-encode_lower b (each_byte b h)
 
-pub bytes_again : (b rest : List ℕ) → IsAll (λ c. ltb c 256) b → length b ≤ byte_limit → IsApart rest → bytes_at (48 ∷ 120 ∷ (bytes_text b ++ rest)) ≡ Ok (b, rest)
+pub hexes : (b : List ℕ) → IsAll (λ c. ltb c 256) b → IsAll is_ascii_hexdigit (encode_lower b)
+hexes b h = all_hex (encode_lower b) (decode_of-ok (encode_lower b) b (decoded_again b h)).1
+
+pub bytes_again : (b rest : List ℕ) → IsAll (λ c. ltb c 256) b → length b ≤ byte_limit → IsApart rest → bytes_at (48 ∷ 120 ∷ (encode_lower b ++ rest)) ≡ Ok (b, rest)
 unfolding bytes_at
 bytes_again b rest h short a =
-    let n = length (bytes_text b) in
-    let run : prefix_len is_ascii_hexdigit (bytes_text b ++ rest) ≡ n = run_ends is_ascii_hexdigit (bytes_text b) rest (hexes b h) hex_apart a in
-    let half : n / 2 ≡ length b = omega (arith, bytes_length b) in
-    let even : n % 2 ≡ 0 = omega (arith, bytes_length b) in
-    let fits : ltb byte_limit (length b) ≡ false = le-ltb _ _ short in
-    rw (run, take_at (bytes_text b) rest n refl, drop_at (bytes_text b) rest n refl, half, even, fits, no_word rest a, pairs_again b h) refl
+    let digits = encode_lower b in
+    let n = length digits in
+    let run : prefix_len is_ascii_hexdigit (digits ++ rest) ≡ n = run_ends is_ascii_hexdigit digits rest (hexes b h) hex_apart a in
+    let fits : ltb byte_limit (n / 2) ≡ false = le-ltb _ _ (omega (arith, short, length-encode_with lower_digits b)) in
+    rw (run, take_at digits rest n refl, drop_at digits rest n refl, fits, no_word rest a) (ap (decoded (48 ∷ 120 ∷ (digits ++ rest)) rest) (decoded_again b h))
 
-pub bytes_token : (b rest : List ℕ) → IsAll (λ c. ltb c 256) b → length b ≤ byte_limit → IsApart rest → token_at (48 ∷ 120 ∷ (bytes_text b ++ rest)) ≡ Ok (Token.bytes b, rest)
+pub bytes_token : (b rest : List ℕ) → IsAll (λ c. ltb c 256) b → length b ≤ byte_limit → IsApart rest → token_at (48 ∷ 120 ∷ (encode_lower b ++ rest)) ≡ Ok (Token.bytes b, rest)
 unfolding token_at
 bytes_token b rest h short a = ap (made Token.bytes) (bytes_again b rest h short a)
 

@@ -1,11 +1,13 @@
 -- A flaw that some bytes show, whatever follows them.
-use Rattle.std.proofs.Common.{◌≡◌, ℕ, ◌+◌, ◌-◌, ◌≤◌, ◌<◌, ◌/◌, ◌%◌, ◌^◌, Bool, true, false, cond, ◌||◌, ◌&&◌, eqb, ltb, leb, List, [], ◌∷◌, ◌++◌, length, take, drop, Option, Some, None, ℤ, Result, Ok, Err, refl, sym, ap, subst, ◌∙◌, arith}
+use Rattle.std.proofs.Common.{◌≡◌, ℕ, ◌+◌, ◌-◌, ◌≤◌, ◌<◌, ◌/◌, ◌^◌, Bool, true, false, cond, ◌||◌, ◌&&◌, eqb, ltb, leb, List, [], ◌∷◌, ◌++◌, length, take, drop, Option, Some, None, ℤ, Result, Ok, Err, refl, sym, ap, subst, ◌∙◌, arith}
 use Rattle.std.proofs.lemmas.Bool.{ltb-true, ltb-false, lt-ltb, eqb-true}
 use Rattle.std.proofs.lemmas.List.{take-append-le, drop-append-le, length-drop, length-append, take-append-drop, take-take}
 use Rattle.std.proofs.lemmas.List.Sums.{prefix_len-le-length}
 use Rattle.std.specs.List.{prefix_len}
 use Rattle.std.specs.Char.{is_ascii_digit, is_ascii_hexdigit}
 use Rattle.std.specs.Str.Parse.{digits_value}
+use Rattle.hex.specs.Hex.{decode_of}
+use Rattle.hex.specs.declared.error.FromHexError.{FromHexError}
 use Rattle.rules_base.specs.Limits.{name_limit, byte_limit}
 use Rattle.rules_text.specs.Token.{Token, string, name, annotation, number, bytes}
 use Rattle.rules_text.specs.declared.TextKind.{TextKind}
@@ -13,7 +15,7 @@ use Rattle.rules_text.specs.declared.TextKind.TheVariants.{BadChar, BadString, B
 use Rattle.rules_text.specs.declared.Shape.{Shape}
 use Rattle.rules_text.specs.declared.Shape.TheVariants.{Digits, Quoted, Word, Note, OpenBrace, CloseBrace, OpenParen, CloseParen, Semicolon}
 use Rattle.rules_text.specs.Fault.{Flaw}
-use Rattle.rules_text.specs.Lexical.{flaw, is_word, is_noted, begins_word, name_at, annotation_at, Spelt, spelt, spelt_escape, with_byte, with_escape, escaped, string_at, ◌>>=◌, bytes_at, paired, number_at, signed, made, begins_bytes, shape_at, shape_of, token_at}
+use Rattle.rules_text.specs.Lexical.{flaw, is_word, is_noted, begins_word, name_at, annotation_at, Spelt, spelt, spelt_escape, with_byte, with_escape, escaped, string_at, ◌>>=◌, bytes_at, decoded, number_at, signed, made, begins_bytes, shape_at, shape_of, token_at}
 use Rattle.mich_text.specs.Shown.{Counts}
 use Rattle.mich_text.proofs.Stable.{prefix_stable, prefix_grows}
 use Rattle.mich_text.proofs.Numbers.{after_ge, after_append}
@@ -123,13 +125,15 @@ half_grows : (n m : ℕ) → n ≤ m → byte_limit < n / 2 → byte_limit < m /
 half_grows n m h g = omega (arith, h, g)
 
 abbrev bytes_of : List ℕ → ℕ → List ℕ → List ℕ → Result (List ℕ × List ℕ) Flaw
-bytes_of text n front rest = cond (ltb byte_limit (n / 2)) (flaw TooLong text) (cond (eqb (n % 2) 1 || begins_word rest) (flaw BadBytes text) (Ok (paired front, rest)))
+bytes_of text n front rest = cond (ltb byte_limit (n / 2)) (flaw TooLong text) (cond (begins_word rest) (flaw BadBytes text) (decoded text rest (decode_of front)))
 
 -- the same run, with a byte behind it
-bytes_same : (b d : Bool) (text more : List ℕ) (x y : List ℕ × List ℕ) → IsShown text more (cond b (flaw TooLong text) (cond d (flaw BadBytes text) (Ok x))) (cond b (flaw TooLong (text ++ more)) (cond d (flaw BadBytes (text ++ more)) (Ok y)))
-bytes_same true d text more x y = λ _. at_first TooLong text more
-bytes_same false true text more x y = λ _. at_first BadBytes text more
-bytes_same false false text more x y = tt
+bytes_same : (b d : Bool) (text more rest there : List ℕ) (r : Result (List ℕ) FromHexError)
+    → IsShown text more (cond b (flaw TooLong text) (cond d (flaw BadBytes text) (decoded text rest r))) (cond b (flaw TooLong (text ++ more)) (cond d (flaw BadBytes (text ++ more)) (decoded (text ++ more) there r)))
+bytes_same true d text more rest there r = λ _. at_first TooLong text more
+bytes_same false true text more rest there r = λ _. at_first BadBytes text more
+bytes_same false false text more rest there (Ok b) = tt
+bytes_same false false text more rest there (Err e) = λ _. at_first BadBytes text more
 
 bytes_inside : (c d : ℕ) (xs more : List ℕ) (n : ℕ) → n < length xs → (l : List ℕ) → drop n xs ≡ l → (m : ℕ) → m ≡ n
     → IsShown (c ∷ d ∷ xs) more (bytes_of (c ∷ d ∷ xs) n (take n xs) (drop n xs)) (bytes_of (c ∷ d ∷ (xs ++ more)) m (take m (xs ++ more)) (drop m (xs ++ more)))
@@ -137,16 +141,17 @@ bytes_inside c d xs more n lt [] e m same = absurd (omega (arith, length-drop n 
 bytes_inside c d xs more n lt (x ∷ rest) e m same =
     let front : take n (xs ++ more) ≡ take n xs = take-append-le n xs more (omega (arith, lt)) in
     let back : drop n (xs ++ more) ≡ x ∷ (rest ++ more) = drop-append-le n xs more (omega (arith, lt)) ∙ ap (λ l. l ++ more) e in
-    rw (same, front, back, e) (bytes_same (ltb byte_limit (n / 2)) (eqb (n % 2) 1 || is_word x) (c ∷ d ∷ xs) more (paired (take n xs), x ∷ rest) (paired (take n xs), x ∷ (rest ++ more)))
+    rw (same, front, back, e) (bytes_same (ltb byte_limit (n / 2)) (is_word x) (c ∷ d ∷ xs) more (x ∷ rest) (x ∷ (rest ++ more)) (decode_of (take n xs)))
 
 -- a run that reaches the end shows only that it is too long
-bytes_end : (t u : Bool) (c d : ℕ) (xs more : List ℕ) (n m : ℕ) (x : List ℕ × List ℕ) (front rest : List ℕ) → n ≡ prefix_len is_ascii_hexdigit xs → ltb byte_limit (n / 2) ≡ t → n ≤ m → length xs ≤ n
-    → IsShown (c ∷ d ∷ xs) more (cond t (flaw TooLong (c ∷ d ∷ xs)) (cond u (flaw BadBytes (c ∷ d ∷ xs)) (Ok x))) (bytes_of (c ∷ d ∷ (xs ++ more)) m front rest)
-bytes_end true u c d xs more n m x front rest same h g reached =
-    λ _. ap (λ (t : Bool). cond {A = Result (List ℕ × List ℕ) Flaw} t (flaw TooLong (c ∷ d ∷ (xs ++ more))) (cond (eqb (m % 2) 1 || begins_word rest) (flaw BadBytes (c ∷ d ∷ (xs ++ more))) (Ok (paired front, rest)))) (lt-ltb byte_limit (m / 2) (half_grows n m g (ltb-true byte_limit (n / 2) h)))
+bytes_end : (t u : Bool) (c d : ℕ) (xs more : List ℕ) (n m : ℕ) (behind : List ℕ) (r : Result (List ℕ) FromHexError) (front rest : List ℕ) → n ≡ prefix_len is_ascii_hexdigit xs → ltb byte_limit (n / 2) ≡ t → n ≤ m → length xs ≤ n
+    → IsShown (c ∷ d ∷ xs) more (cond t (flaw TooLong (c ∷ d ∷ xs)) (cond u (flaw BadBytes (c ∷ d ∷ xs)) (decoded (c ∷ d ∷ xs) behind r))) (bytes_of (c ∷ d ∷ (xs ++ more)) m front rest)
+bytes_end true u c d xs more n m behind r front rest same h g reached =
+    λ _. ap (λ (t : Bool). cond {A = Result (List ℕ × List ℕ) Flaw} t (flaw TooLong (c ∷ d ∷ (xs ++ more))) (cond (begins_word rest) (flaw BadBytes (c ∷ d ∷ (xs ++ more))) (decoded (c ∷ d ∷ (xs ++ more)) rest (decode_of front)))) (lt-ltb byte_limit (m / 2) (half_grows n m g (ltb-true byte_limit (n / 2) h)))
     ∙ at_first TooLong (c ∷ d ∷ xs) more
-bytes_end false true c d xs more n m x front rest same h g reached = λ inside. absurd (omega (arith, inside, same, reached))
-bytes_end false false c d xs more n m x front rest same h g reached = tt
+bytes_end false true c d xs more n m behind r front rest same h g reached = λ inside. absurd (omega (arith, inside, same, reached))
+bytes_end false false c d xs more n m behind (Ok b) front rest same h g reached = tt
+bytes_end false false c d xs more n m behind (Err e) front rest same h g reached = λ inside. absurd (omega (arith, inside, same, reached))
 
 bytes_shown : (c d : ℕ) (xs more : List ℕ) → IsShown (c ∷ d ∷ xs) more (bytes_at (c ∷ d ∷ xs)) (bytes_at (c ∷ d ∷ (xs ++ more)))
 unfolding bytes_at
@@ -159,7 +164,7 @@ bytes_shown c d xs more = by (ltb n (length xs)) refl where
 
   by : (b : Bool) → ltb n (length xs) ≡ b → IsShown (c ∷ d ∷ xs) more (bytes_of (c ∷ d ∷ xs) n (take n xs) (drop n xs)) (bytes_of (c ∷ d ∷ (xs ++ more)) m (take m (xs ++ more)) (drop m (xs ++ more)))
   by true e = bytes_inside c d xs more n (ltb-true n (length xs) e) (drop n xs) refl m (prefix_stable is_ascii_hexdigit xs more (ltb-true n (length xs) e))
-  by false e = bytes_end (ltb byte_limit (n / 2)) (eqb (n % 2) 1 || begins_word (drop n xs)) c d xs more n m (paired (take n xs), drop n xs) (take m (xs ++ more)) (drop m (xs ++ more)) refl refl (prefix_grows is_ascii_hexdigit xs more) (ltb-false n (length xs) e)
+  by false e = bytes_end (ltb byte_limit (n / 2)) (begins_word (drop n xs)) c d xs more n m (drop n xs) (decode_of (take n xs)) (take m (xs ++ more)) (drop m (xs ++ more)) refl refl (prefix_grows is_ascii_hexdigit xs more) (ltb-false n (length xs) e)
 
 -- ---- numbers
 

@@ -1,9 +1,11 @@
 -- A token with a byte behind it is the same whatever bytes follow.
-use Rattle.std.proofs.Common.{◌≡◌, ℕ, suc, ◌+◌, ◌-◌, ◌≤◌, ◌<◌, ◌/◌, ◌%◌, ◌^◌, Bool, true, false, cond, ◌||◌, ◌&&◌, eqb, ltb, leb, List, [], ◌∷◌, ◌++◌, length, take, drop, Option, Some, None, ℤ, Result, Ok, Err, refl, ap, subst, ◌∙◌, add-one, arith}
+use Rattle.std.proofs.Common.{◌≡◌, ℕ, suc, ◌+◌, ◌-◌, ◌≤◌, ◌<◌, ◌/◌, ◌^◌, Bool, true, false, cond, ◌||◌, ◌&&◌, eqb, ltb, leb, List, [], ◌∷◌, ◌++◌, length, take, drop, Option, Some, None, ℤ, Result, Ok, Err, refl, ap, subst, ◌∙◌, add-one, arith}
 use Rattle.std.proofs.lemmas.List.{take-append-le, drop-append-le, length-drop}
 use Rattle.std.specs.List.{prefix_len}
 use Rattle.std.specs.Char.{is_ascii_digit, is_ascii_hexdigit}
 use Rattle.std.specs.Str.Parse.{digits_value}
+use Rattle.hex.specs.Hex.{decode_of}
+use Rattle.hex.specs.declared.error.FromHexError.{FromHexError}
 use Rattle.rules_base.specs.Limits.{name_limit, byte_limit}
 use Rattle.mich_text.proofs.Places.{IsAhead, number_ahead}
 use Rattle.rules_text.specs.Token.{Token, string, name, annotation, number, bytes}
@@ -11,7 +13,7 @@ use Rattle.rules_text.specs.declared.Shape.{Shape}
 use Rattle.rules_text.specs.declared.Shape.TheVariants.{Digits, Quoted, Word, Note, OpenBrace, CloseBrace, OpenParen, CloseParen, Semicolon}
 use Rattle.rules_text.specs.declared.TextKind.TheVariants.{BadString, BadBytes, BadNumber, TooLong}
 use Rattle.rules_text.specs.Fault.{Flaw}
-use Rattle.rules_text.specs.Lexical.{flaw, is_word, is_noted, begins_word, name_at, annotation_at, Spelt, spelt, spelt_escape, with_byte, with_escape, escaped, string_at, ◌>>=◌, bytes_at, paired, number_at, signed, made, digits_at, begins_bytes, shape_at, shape_of, token_at}
+use Rattle.rules_text.specs.Lexical.{flaw, is_word, is_noted, begins_word, name_at, annotation_at, Spelt, spelt, spelt_escape, with_byte, with_escape, escaped, string_at, ◌>>=◌, bytes_at, decoded, number_at, signed, made, digits_at, begins_bytes, shape_at, shape_of, token_at}
 
 -- what was read with a byte behind it is read again with more bytes at the end
 abbrev pub IsStable : {A : Type 0} → List ℕ → Result (A × List ℕ) Flaw → Result (A × List ℕ) Flaw → Type 0
@@ -124,6 +126,18 @@ string_stable c xs more = string_by more (spelt xs).text (spelt xs).end (spelt (
 
 -- ---- bytes and numbers
 
+decoded_stable : (b d : Bool) (more text there : List ℕ) (u v w z : Flaw) (c : ℕ) (rest : List ℕ) (r : Result (List ℕ) FromHexError)
+    → IsStable more (cond b (Err u) (cond d (Err v) (decoded text (c ∷ rest) r))) (cond b (Err w) (cond d (Err z) (decoded there (c ∷ (rest ++ more)) r)))
+decoded_stable true d more text there u v w z c rest r = tt
+decoded_stable false true more text there u v w z c rest r = tt
+decoded_stable false false more text there u v w z c rest (Ok b) = refl
+decoded_stable false false more text there u v w z c rest (Err e) = tt
+
+decoded_end : (b : Bool) (more text : List ℕ) (d : Flaw) (r : Result (List ℕ) FromHexError) (again : Result (List ℕ × List ℕ) Flaw) → IsStable more (cond b (Err d) (decoded text [] r)) again
+decoded_end true more text d r again = tt
+decoded_end false more text d (Ok b) again = tt
+decoded_end false more text d (Err e) again = tt
+
 two_tests : {A : Type 0} (b d : Bool) (more : List ℕ) (u v w z : Flaw) (x : A) (c : ℕ) (rest : List ℕ) → IsStable more (cond b (Err u) (cond d (Err v) (Ok (x, c ∷ rest)))) (cond b (Err w) (cond d (Err z) (Ok (x, c ∷ (rest ++ more)))))
 two_tests true d more u v w z x c rest = tt
 two_tests false true more u v w z x c rest = tt
@@ -137,11 +151,11 @@ two_tests_end false false more u v x again = tt
 bytes_stable : (c d : ℕ) (xs more : List ℕ) → IsStable more (bytes_at (c ∷ d ∷ xs)) (bytes_at (c ∷ d ∷ (xs ++ more)))
 unfolding bytes_at
 bytes_stable c d xs more = run_stable
-    (λ n front rest. cond (ltb byte_limit (n / 2)) (flaw TooLong (c ∷ d ∷ xs)) (cond (eqb (n % 2) 1 || begins_word rest) (flaw BadBytes (c ∷ d ∷ xs)) (Ok (paired front, rest))))
-    (λ n front rest. cond (ltb byte_limit (n / 2)) (flaw TooLong (c ∷ d ∷ (xs ++ more))) (cond (eqb (n % 2) 1 || begins_word rest) (flaw BadBytes (c ∷ d ∷ (xs ++ more))) (Ok (paired front, rest))))
+    (λ n front rest. cond (ltb byte_limit (n / 2)) (flaw TooLong (c ∷ d ∷ xs)) (cond (begins_word rest) (flaw BadBytes (c ∷ d ∷ xs)) (decoded (c ∷ d ∷ xs) rest (decode_of front))))
+    (λ n front rest. cond (ltb byte_limit (n / 2)) (flaw TooLong (c ∷ d ∷ (xs ++ more))) (cond (begins_word rest) (flaw BadBytes (c ∷ d ∷ (xs ++ more))) (decoded (c ∷ d ∷ (xs ++ more)) rest (decode_of front))))
     is_ascii_hexdigit xs more
-    (λ n front e rest. two_tests (ltb byte_limit (n / 2)) (eqb (n % 2) 1 || begins_word (e ∷ rest)) more _ _ _ _ (paired front) e rest)
-    (λ n front again. two_tests_end (ltb byte_limit (n / 2)) (eqb (n % 2) 1 || begins_word []) more _ _ (paired front) again)
+    (λ n front e rest. decoded_stable (ltb byte_limit (n / 2)) (begins_word (e ∷ rest)) more (c ∷ d ∷ xs) (c ∷ d ∷ (xs ++ more)) _ _ _ _ e rest (decode_of front))
+    (λ n front again. decoded_end (ltb byte_limit (n / 2)) more (c ∷ d ∷ xs) _ (decode_of front) again)
 
 digits_stable_by : (minus : Bool) (text xs more : List ℕ) → let most = cond minus (2 ^ 127) (2 ^ 127 - 1) in
     IsStable more
@@ -175,10 +189,6 @@ made_stable f more (Ok (x, [])) again p = tt
 made_stable f more (Ok (x, c ∷ rest)) again p = ap (made f) p
 made_stable f more (Err d) again p = tt
 
-either_stable : {A : Type 0} (b : Bool) (more : List ℕ) (x y v w : Result (A × List ℕ) Flaw) → IsStable more x v → IsStable more y w → IsStable more (cond b x y) (cond b v w)
-either_stable true more x y v w p q = p
-either_stable false more x y v w p q = q
-
 -- one byte has no byte behind it
 one_byte : (c : ℕ) (more : List ℕ) (again : Result (Token × List ℕ) Flaw) → IsStable more (digits_at (c ∷ [])) again
 one_byte c more again = by (number_at (c ∷ [])) (number_ahead (c ∷ [])) where
@@ -186,6 +196,10 @@ one_byte c more again = by (number_at (c ∷ [])) (number_ahead (c ∷ [])) wher
   by (Ok (x, [])) p = tt
   by (Ok (x, d ∷ rest)) p = absurd (omega arith)
   by (Err d) p = tt
+
+either_stable : {A : Type 0} (b : Bool) (more : List ℕ) (x y v w : Result (A × List ℕ) Flaw) → IsStable more x v → IsStable more y w → IsStable more (cond b x y) (cond b v w)
+either_stable true more x y v w p q = p
+either_stable false more x y v w p q = q
 
 digits_stable : (c : ℕ) (xs more : List ℕ) → IsStable more (digits_at (c ∷ xs)) (digits_at (c ∷ (xs ++ more)))
 digits_stable c [] more = one_byte c more (digits_at (c ∷ more))

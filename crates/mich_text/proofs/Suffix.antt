@@ -1,16 +1,18 @@
 -- What is left behind a token or a gap is the end of the text.
-use Rattle.std.proofs.Common.{◌≡◌, ℕ, ◌+◌, ◌-◌, ◌/◌, ◌%◌, ◌^◌, Bool, true, false, cond, ◌||◌, ◌&&◌, eqb, ltb, leb, List, [], ◌∷◌, ◌++◌, length, take, drop, Option, Some, None, Result, Ok, Err, refl, sym, ap, subst, ◌∙◌, append_assoc, take-append-drop}
+use Rattle.std.proofs.Common.{◌≡◌, ℕ, ◌+◌, ◌-◌, ◌/◌, ◌^◌, Bool, true, false, cond, ◌||◌, ◌&&◌, eqb, ltb, leb, List, [], ◌∷◌, ◌++◌, length, take, drop, Option, Some, None, Result, Ok, Err, refl, sym, ap, subst, ◌∙◌, append_assoc, take-append-drop}
 use Rattle.std.proofs.lemmas.Bool.{eqb-true}
 use Rattle.std.specs.List.{prefix_len}
 use Rattle.std.specs.Char.{is_ascii_digit, is_ascii_hexdigit}
 use Rattle.std.specs.Str.Parse.{digits_value}
+use Rattle.hex.specs.Hex.{decode_of}
+use Rattle.hex.specs.declared.error.FromHexError.{FromHexError}
 use Rattle.rules_base.specs.Limits.{name_limit, byte_limit}
 use Rattle.rules_text.specs.Token.{Token, string, name, annotation, number, bytes}
 use Rattle.rules_text.specs.declared.Shape.{Shape}
 use Rattle.rules_text.specs.declared.Shape.TheVariants.{Digits, Quoted, Word, Note, OpenBrace, CloseBrace, OpenParen, CloseParen, Semicolon}
 use Rattle.rules_text.specs.declared.TextKind.TheVariants.{BadString, BadBytes, BadNumber, TooLong}
 use Rattle.rules_text.specs.Fault.{Flaw}
-use Rattle.rules_text.specs.Lexical.{flaw, is_word, is_noted, begins_word, is_white, opens, closes, after_gap, after_slash, after_line, after_block, name_at, annotation_at, Spelt, spelt, spelt_escape, with_byte, with_escape, escaped, string_at, ◌>>=◌, bytes_at, paired, number_at, after_minus, is_minus, signed, made, begins_bytes, shape_at, shape_of, token_at}
+use Rattle.rules_text.specs.Lexical.{flaw, is_word, is_noted, begins_word, is_white, opens, closes, after_gap, after_slash, after_line, after_block, name_at, annotation_at, Spelt, spelt, spelt_escape, with_byte, with_escape, escaped, string_at, ◌>>=◌, bytes_at, decoded, number_at, after_minus, is_minus, signed, made, begins_bytes, shape_at, shape_of, token_at}
 use Rattle.rules_text.specs.Text.{Leads}
 
 abbrev Ends : List ℕ → List ℕ → Type 0
@@ -125,13 +127,17 @@ string_ends : (c : ℕ) (rest : List ℕ) → EndsRead (c ∷ rest) (string_at (
 unfolding string_at
 string_ends c rest = read_either (ltb byte_limit (length (spelt rest).text)) (c ∷ rest) (flaw TooLong (c ∷ rest)) ((spelt rest).end >>= λ more. Ok ((spelt rest).text, more)) tt (string_made c rest (spelt rest).text (spelt rest).end (spelt_ends rest))
 
+decoded_ends : (text rest : List ℕ) (r : Result (List ℕ) FromHexError) → Ends text rest → EndsRead text (decoded text rest r)
+decoded_ends text rest (Ok b) p = p
+decoded_ends text rest (Err e) p = tt
+
 bytes_ends : (text : List ℕ) → EndsRead text (bytes_at text)
 unfolding bytes_at
 bytes_ends text =
     let n = prefix_len is_ascii_hexdigit (drop 2 text) in
     let rest = drop n (drop 2 text) in
     read_either (ltb byte_limit (n / 2)) text (flaw TooLong text) _ tt
-    (read_either (eqb (n % 2) 1 || begins_word rest) text (flaw BadBytes text) (Ok (paired (take n (drop 2 text)), rest)) tt (both_dropped n text))
+    (read_either (begins_word rest) text (flaw BadBytes text) _ tt (decoded_ends text rest (decode_of (take n (drop 2 text))) (both_dropped n text)))
   where
     both_dropped : (n : ℕ) (text : List ℕ) → Ends text (drop n (drop 2 text))
     both_dropped n text = let p = dropped 2 text in let q = dropped n (drop 2 text) in (p.0 ++ q.0, p.1 ∙ ap (λ (l : List ℕ). p.0 ++ l) q.1 ∙ sym (append_assoc p.0 q.0 (drop n (drop 2 text))))

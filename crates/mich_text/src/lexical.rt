@@ -1,7 +1,7 @@
 //! From bytes to tokens.
 ghost use Rattle.std.specs.Prelude.{◌≡◌, ℕ, ◌+◌, ◌<◌, ◌≤◌, ◌↔◌, ◌∷◌, ◌*◌, ◌^◌, option_map, if◌then◌else◌, ◌-◌, length, take, drop, IsTrue, MatchOption, IfOk, None, Some};
 ghost use Rattle.std.specs.List.{prefix_len, AllPass};
-ghost use Rattle.rules_text.specs.Lexical.{digits_at, number_at, is_minus, token_at, signed, shape_of, begins_bytes, opens, closes, bytes_at, paired, nibble, is_word, is_noted, is_white, begins_word, after_gap, after_line, after_block, name_at, annotation_at, string_at, spelt, spelt_escape, escaped};
+ghost use Rattle.rules_text.specs.Lexical.{digits_at, number_at, is_minus, token_at, signed, shape_of, begins_bytes, opens, closes, bytes_at, is_word, is_noted, is_white, begins_word, after_gap, after_line, after_block, name_at, annotation_at, string_at, spelt, spelt_escape, escaped};
 ghost use Rattle.std.specs.Char.{is_ascii_hexdigit, is_ascii_digit};
 ghost use Rattle.std.specs.Str.Parse.{digits_value};
 ghost use Rattle.rules_base.specs.Limits.{name_limit, byte_limit};
@@ -11,9 +11,10 @@ ghost use Rattle.mich_text.specs.Units.{spelt_by, IsBehind, after_block_by, IsIn
 
 use super::fault::{Flaw, LexError};
 use super::token::Token;
+use hex::FromHexError;
 use mich_base::{BYTE_LIMIT, Bytes, NAME_LIMIT, Text};
 use rules_text::{Shape, TextKind};
-use std::alloc::{AllocError, Global};
+use std::alloc::Global;
 
 fn is_word(c: u8) -> bool
     ensures { result ≡ is_word c }
@@ -286,45 +287,24 @@ pub(crate) fn hex_len(text: &[u8]) -> usize
     text.iter().take_while(|c| c.is_ascii_hexdigit()).count()
 }
 
-// The value of a hexadecimal digit.
-fn nibble(c: u8) -> u8
-    ensures is { result ≡ nibble c }
-    ensures small { result < 16 }
-{
-    match c {
-        b'0'..=b'9' => c - b'0',
-        b'a'..=b'f' => c - b'a' + 10,
-        b'A'..=b'F' => c - b'A' + 10,
-        _ => 0,
-    }
-}
-
-fn paired(alloc: Global, digits: &[u8]) -> Result<Vec<u8>, AllocError>
-    ensures { IfOk result (λ v. v.items ≡ paired digits.now) }
-{
-    let mut bytes = Vec::new(alloc);
-    let mut rest = digits;
-    'pairs: while let [a, b, behind @ ..] = rest {
-        bytes.push(nibble(*a) * 16 + nibble(*b))?;
-        rest = behind;
-    }
-    Ok(bytes)
-}
-
 #[tactic(auto, unfolding(rules_text::specs::Lexical::bytes_at), using(crate::proofs::Strings::test_laws))]
 fn bytes_at(alloc: Global, text: &[u8]) -> Result<(Bytes, &[u8]), LexError>
     requires { 2 ≤ length text.now }
     ensures { Gives (λ x. (x.0, x.1.now)) result (bytes_at text.now) }
 {
-    let (_, digits) = text.split_at(2);
-    let (pairs, rest) = digits.split_at(hex_len(digits));
-    if pairs.len() / 2 > BYTE_LIMIT {
+    let (_, behind) = text.split_at(2);
+    let (digits, rest) = behind.split_at(hex_len(behind));
+    if digits.len() / 2 > BYTE_LIMIT {
         return Err(flaw(TextKind::TooLong, text));
     }
-    if pairs.len() % 2 == 1 || begins_word(rest) {
+    if begins_word(rest) {
         return Err(flaw(TextKind::BadBytes, text));
     }
-    Ok((Bytes::from_vec(paired(alloc, pairs)?), rest))
+    match hex::decode(alloc, digits) {
+        Ok(bytes) => Ok((Bytes::from_vec(bytes), rest)),
+        Err(FromHexError::OutOfMemory) => Err(LexError::Memory),
+        Err(_) => Err(flaw(TextKind::BadBytes, text)),
+    }
 }
 
 // ---- numbers

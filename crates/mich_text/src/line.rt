@@ -1,9 +1,10 @@
 //! Printing a node on one line.
 ghost use Rattle.std.specs.Prelude.{◌≡◌, ◌<◌, ◌∷◌, ◌++◌, [], IfOk, OnOk};
 ghost use Rattle.std.specs.Fmt.{signed_decimal};
+ghost use Rattle.hex.specs.Hex.{encode_lower};
 ghost use Rattle.rules_base.specs.Tree.{seq};
 ghost use Rattle.mich_base.specs.View.{tree, trees, app_tree};
-ghost use Rattle.rules_text.specs.Printed.{spelling, hex_digit, hex_pair, string_text, bytes_text, annotations_text, is_wrapped, printed, arguments_text};
+ghost use Rattle.rules_text.specs.Printed.{spelling, string_text, annotations_text, is_wrapped, printed, arguments_text};
 ghost use Rattle.mich_text.specs.Line.{joined};
 
 use mich_base::{App, Memory, Node, Nodes, Text, Texts};
@@ -56,30 +57,12 @@ fn put_string(line: &mut Vec<u8>, text: &[u8]) -> Result<(), Memory>
     put_byte(line, b'"')
 }
 
-fn hex_digit(half: u8) -> u8
-    requires { half < 16 }
-    ensures { result ≡ hex_digit half }
+// Bytes in hexadecimal digits.
+fn put_bytes(alloc: Global, line: &mut Vec<u8>, bytes: &[u8]) -> Result<(), Memory>
+    ensures { OnOk result (line.new.items ≡ line.old.items ++ encode_lower bytes.now) }
 {
-    if half <= 9 {
-        b'0' + half
-    } else {
-        b'a' - 10 + half
-    }
-}
-
-fn put_hex_pair(line: &mut Vec<u8>, byte: u8) -> Result<(), Memory>
-    ensures { OnOk result (line.new.items ≡ line.old.items ++ hex_pair byte) }
-{
-    put(line, &[hex_digit(byte / 16), hex_digit(byte % 16)])
-}
-
-fn put_bytes(line: &mut Vec<u8>, bytes: &[u8]) -> Result<(), Memory>
-    ensures { OnOk result (line.new.items ≡ line.old.items ++ bytes_text bytes.now) }
-{
-    'bytes: for byte in bytes {
-        put_hex_pair(line, *byte)?;
-    }
-    Ok(())
+    let digits = hex::encode(alloc, bytes)?;
+    put(line, digits.as_str().as_bytes())
 }
 
 fn put_annotations(line: &mut Vec<u8>, annotations: &Texts) -> Result<(), Memory>
@@ -114,7 +97,7 @@ fn put_node(alloc: Global, line: &mut Vec<u8>, node: &Node) -> Result<(), Memory
         }
         Node::Bytes(bytes) => {
             put(line, b"0x")?;
-            put_bytes(line, bytes.as_slice())
+            put_bytes(alloc, line, bytes.as_slice())
         }
         Node::Prim(app) => put_application(alloc, line, app),
         Node::Seq(nodes) => put_sequence(alloc, line, nodes),

@@ -1,10 +1,11 @@
 -- From bytes to tokens. Each function reads at the front of the bytes, and gives what it read and the bytes after it,
 -- or a flaw: a kind of fault and how many bytes are left at its place.
-use Rattle.std.specs.Prelude.{◌≡◌, ℕ, ◌+◌, ◌-◌, ◌*◌, ◌/◌, ◌%◌, ◌^◌, ◌≤◌, ℤ, pos, neg_ℤ, List, [], ◌∷◌, ◌++◌, length, take, drop, map, Bool, true, false, not, ◌&&◌, ◌||◌, nat_lt, nat_le, ◌==◌, Option, Some, None, option_map, Result, Ok, Err, if◌then◌else◌}
+use Rattle.std.specs.Prelude.{ℕ, ◌+◌, ◌-◌, ◌/◌, ◌^◌, ℤ, pos, neg_ℤ, List, [], ◌∷◌, length, take, drop, Bool, true, false, ◌&&◌, ◌||◌, nat_lt, nat_le, ◌==◌, Option, Some, None, Result, Ok, Err, if◌then◌else◌}
 use Rattle.std.specs.List.{prefix_len}
 use Rattle.std.specs.Char.{is_ascii_digit, is_ascii_alphabetic, is_ascii_alphanumeric, is_ascii_hexdigit}
-use Rattle.std.specs.Int.{is_in_range}
 use Rattle.std.specs.Str.Parse.{digits_value}
+use Rattle.hex.specs.Hex.{decode_of}
+use Rattle.hex.specs.declared.error.FromHexError.{FromHexError}
 use Rattle.rules_base.specs.Limits.{name_limit, byte_limit}
 use Rattle.rules_text.specs.Token.{Token, number, bytes, string, name, annotation, open_brace, close_brace, open_paren, close_paren, semicolon}
 use Rattle.rules_text.specs.declared.TextKind.{TextKind}
@@ -127,15 +128,10 @@ string_at text =
 
 -- ---- bytes
 
--- the value of a hexadecimal digit
-abbrev pub nibble : ℕ → ℕ
-nibble c = if is_in_range 48 57 c then c - 48 else (if is_in_range 97 102 c then c - 97 + 10 else (if is_in_range 65 70 c then c - 65 + 10 else 0))
-
--- each two digits are a byte
-abbrev pub paired : List ℕ → List ℕ
-paired [] = []
-paired (a ∷ []) = []
-paired (a ∷ b ∷ rest) = (nibble a * 16 + nibble b) ∷ paired rest
+-- what hexadecimal digits decode to, and the bytes behind them
+abbrev pub decoded : List ℕ → List ℕ → Result (List ℕ) FromHexError → Result (List ℕ × List ℕ) Flaw
+decoded text rest (Ok b) = Ok (b, rest)
+decoded text rest (Err e) = flaw BadBytes text
 
 -- from its `0x`
 unfoldable pub bytes_at : List ℕ → Result (List ℕ × List ℕ) Flaw
@@ -143,8 +139,8 @@ bytes_at text =
     let n = prefix_len is_ascii_hexdigit (drop 2 text) in
     let rest = drop n (drop 2 text) in
     if nat_lt byte_limit (n / 2) then flaw TooLong text
-    else (if n % 2 == 1 || begins_word rest then flaw BadBytes text
-    else Ok (paired (take n (drop 2 text)), rest))
+    else (if begins_word rest then flaw BadBytes text
+    else decoded text rest (decode_of (take n (drop 2 text))))
 
 -- ---- numbers
 

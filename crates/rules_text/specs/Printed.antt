@@ -1,6 +1,7 @@
 -- The one line that stands for a node.
-use Rattle.std.specs.Prelude.{◌≡◌, ℕ, ◌+◌, ◌-◌, ◌*◌, ◌/◌, ◌%◌, List, [], ◌∷◌, ◌++◌, length, Bool, true, false, nat_le, ◌==◌, Option, Some, None, if◌then◌else◌}
+use Rattle.std.specs.Prelude.{ℕ, List, [], ◌∷◌, ◌++◌, Bool, true, false, ◌==◌, if◌then◌else◌}
 use Rattle.std.specs.Fmt.{signed_decimal}
+use Rattle.hex.specs.Hex.{encode_lower}
 use Rattle.rules_base.specs.Tree.{Tree, int, str, prim, seq, Trees, none, more}
 
 -- a byte of a string
@@ -8,20 +9,9 @@ abbrev pub spelling : ℕ → List ℕ
 spelling c =
     if c == 10 then 92 ∷ 110 ∷ [] else (if c == 92 then 92 ∷ 92 ∷ [] else (if c == 34 then 92 ∷ 34 ∷ [] else (if c == 9 then 92 ∷ 116 ∷ [] else (if c == 8 then 92 ∷ 98 ∷ [] else (if c == 13 then 92 ∷ 114 ∷ [] else c ∷ [])))))
 
-abbrev pub hex_digit : ℕ → ℕ
-hex_digit d = if nat_le d 9 then 48 + d else 87 + d
-
--- a byte in lower case
-abbrev pub hex_pair : ℕ → List ℕ
-hex_pair b = hex_digit (b / 16) ∷ hex_digit (b % 16) ∷ []
-
 abbrev pub string_text : List ℕ → List ℕ
 string_text [] = 34 ∷ []
 string_text (c ∷ cs) = spelling c ++ string_text cs
-
-abbrev pub bytes_text : List ℕ → List ℕ
-bytes_text [] = []
-bytes_text (b ∷ bs) = hex_pair b ++ bytes_text bs
 
 abbrev pub annotations_text : List (List ℕ) → List ℕ
 annotations_text [] = []
@@ -45,7 +35,7 @@ abbrev mutual
   pub printed : Tree → List ℕ
   printed (int n) = signed_decimal n
   printed (str s) = 34 ∷ string_text s
-  printed (Tree.bytes b) = 48 ∷ 120 ∷ bytes_text b
+  printed (Tree.bytes b) = 48 ∷ 120 ∷ encode_lower b
   printed (prim n ns xs) = n ++ (annotations_text ns ++ arguments_text xs)
   printed (seq none) = 123 ∷ 125 ∷ []
   printed (seq (more x xs)) = 123 ∷ 32 ∷ (printed x ++ (elements_text xs ++ 32 ∷ 125 ∷ []))
