@@ -13,32 +13,9 @@ use Rattle.rules_values.specs.Order.{order, truth_order, form}
 use Rattle.rules_values.specs.Tickets.{Identity}
 use Rattle.rules_values.specs.Val.{Val, unit, truth, number, text, bytes, nothing, some, left, right, both, list, set, table, big_table, lambda, operation, ticket, is_comparable}
 use Rattle.rules_world.specs.World.{identity_order, kind_order}
+use Rattle.laws_values.proofs.Orders.{same_truth, first_equal, then_equal, first_true, then_true}
 use Rattle.laws_accounts.proofs.KindTexts.{texts_tell_types}
 use Rattle.laws_lines.proofs.Aligned.{AreAlike}
-
-same_truth : (b c : Bool) → truth_order b c ≡ Equal → b ≡ c
-same_truth false false e = refl
-same_truth false true e = cc
-same_truth true false e = cc
-same_truth true true e = refl
-
-first_equal : (o p : Ordering) → ordering_then o p ≡ Equal → o ≡ Equal
-first_equal Less p e = cc
-first_equal Equal p e = refl
-first_equal Greater p e = cc
-
-then_equal : (o p : Ordering) → ordering_then o p ≡ Equal → p ≡ Equal
-then_equal Less p e = cc
-then_equal Equal p e = e
-then_equal Greater p e = cc
-
-first_true : (b c : Bool) → (b && c) ≡ true → b ≡ true
-first_true true c h = refl
-first_true false c h = h
-
-then_true : (b c : Bool) → (b && c) ≡ true → c ≡ true
-then_true true c h = h
-then_true false c h = cc
 
 -- a value of a comparable type is no other
 not_level : (w : Val) → is_comparable w ≡ true → nat_cmp 10 (form w) ≡ Equal → ⊥

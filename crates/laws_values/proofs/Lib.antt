@@ -1,2 +1,3 @@
 pub mod Again
 pub mod Lawful
+pub mod Orders

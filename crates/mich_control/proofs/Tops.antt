@@ -12,7 +12,7 @@ use Rattle.mich_base.specs.declared.ty.Ty.{Ty}
 use Rattle.mich_base.specs.TypeView.{kind}
 use Rattle.mich_overload.specs.View.{kinds}
 use Rattle.mich_overload.proofs.Tops.{kinds_below, length_kinds}
-use Rattle.mich_term.proofs.Faithful.{kind_faithful}
+use Rattle.mich_base.proofs.Faithful.{kind_faithful}
 
 reverse_push : (ts : List Ty) (t : Ty) → reverse (ts ++ t ∷ []) ≡ t ∷ reverse ts
 reverse_push ts t = reverse-append ts (t ∷ [])

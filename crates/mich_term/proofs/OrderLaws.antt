@@ -1,40 +1,13 @@
 -- What the order tells of values.
 use Rattle.std.proofs.Common.{◌≡◌, refl, ap, true, false, ◌&&◌, Bool}
-use Rattle.std.specs.declared.cmp.Ordering.{Ordering}
-use Rattle.std.specs.declared.cmp.Ordering.TheVariants.{Less, Equal, Greater}
 use Rattle.rules_values.specs.Val.{unit, truth, number, text, bytes, nothing, some, left, right, both, list, set, table, big_table, lambda, operation, ticket}
-use Rattle.std.specs.Ordering.{ordering_then}
 use Rattle.std.proofs.lemmas.Map.Lookups.{exact_signed, exact_bytes}
-use Rattle.rules_values.specs.Order.{truth_order}
 use Rattle.mich_term.specs.Laws.{OrderIsLawful, EqualOrderMeansEqual}
 use Rattle.laws_values.proofs.Lawful.{order_lawful}
+use Rattle.laws_values.proofs.Orders.{same_truth, first_equal, then_equal, first_true, then_true}
 
 pub lawful : OrderIsLawful
 lawful = order_lawful
-
-same_truth : (b c : Bool) → truth_order b c ≡ Equal → b ≡ c
-same_truth false false e = refl
-same_truth false true e = cc
-same_truth true false e = cc
-same_truth true true e = refl
-
-first_equal : (o p : Ordering) → ordering_then o p ≡ Equal → o ≡ Equal
-first_equal Less p e = cc
-first_equal Equal p e = refl
-first_equal Greater p e = cc
-
-then_equal : (o p : Ordering) → ordering_then o p ≡ Equal → p ≡ Equal
-then_equal Less p e = cc
-then_equal Equal p e = e
-then_equal Greater p e = cc
-
-first_true : (b c : Bool) → (b && c) ≡ true → b ≡ true
-first_true true c h = refl
-first_true false c h = h
-
-then_true : (b c : Bool) → (b && c) ≡ true → c ≡ true
-then_true true c h = h
-then_true false c h = cc
 
 pub equal : EqualOrderMeansEqual
 equal unit unit cv cw e = refl
