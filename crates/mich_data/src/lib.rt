@@ -15,4 +15,5 @@ mod writing;
 pub use error::ValueError;
 pub use pending::{Pending, Read};
 pub use reading::{read_value, read_value_at};
+pub use simple::simple_value;
 pub use writing::value_node;

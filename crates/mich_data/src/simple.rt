@@ -148,12 +148,9 @@ fn bytes_value(alloc: Global, simple: Simple, node: &Node) -> Result<Option<Valu
     }
 }
 
-// The value of a type without arguments that a node spells. None where it spells none.
-pub(crate) fn simple_value(
-    alloc: Global,
-    simple: Simple,
-    node: &Node,
-) -> Result<Option<Value>, Memory>
+/// The value of a type without arguments that a node spells (Michelson reference, "Types", the literals of each). None where it
+/// spells none, and Memory where there is no room for it.
+pub fn simple_value(alloc: Global, simple: Simple, node: &Node) -> Result<Option<Value>, Memory>
     ensures value { IfOk result (λ o. option_map val o ≡ simple_value simple (tree node.now)) }
     ensures simple { IfOk result (λ o. IfSome o (λ v. IsSimple (out-Value v))) }
 {

@@ -5,11 +5,12 @@ ghost use Rattle.rules_types.specs.Printing.{node_of, named};
 ghost use Rattle.mich_base.specs.View.{tree, trees};
 ghost use Rattle.mich_base.specs.TypeView.{kind};
 
-use mich_base::{App, Memory, Node, Nodes, Rows, Text, Ty};
+use mich_base::{App, Link, Memory, Node, Nodes, Rows, Text, Ty};
 use std::alloc::Global;
 
 /// The node that spells a type: pairs have two parts, and there are no annotations (Michelson reference, "Types").
 /// Memory where there is no room for it.
+#[cycle(type_node)]
 pub fn type_node(alloc: Global, ty: &Ty) -> Result<Node, Memory>
     ensures { IfOk result (λ n. tree n ≡ node_of (kind ty.now)) }
 {
@@ -29,32 +30,39 @@ pub fn type_node(alloc: Global, ty: &Ty) -> Result<Node, Memory>
         Ty::ChainId => bare(alloc, b"chain_id"),
         Ty::Address => bare(alloc, b"address"),
         Ty::Operation => bare(alloc, b"operation"),
-        Ty::Option(part) => over_one(alloc, b"option", type_node(alloc, part.get())?),
-        Ty::List(part) => over_one(alloc, b"list", type_node(alloc, part.get())?),
-        Ty::Set(part) => over_one(alloc, b"set", type_node(alloc, part.get())?),
-        Ty::Contract(part) => over_one(alloc, b"contract", type_node(alloc, part.get())?),
-        Ty::Ticket(part) => over_one(alloc, b"ticket", type_node(alloc, part.get())?),
-        Ty::Or(first, second) => {
-            let first = type_node(alloc, first.get())?;
-            over_two(alloc, b"or", first, type_node(alloc, second.get())?)
-        }
-        Ty::Pair(first, second) => {
-            let first = type_node(alloc, first.get())?;
-            over_two(alloc, b"pair", first, type_node(alloc, second.get())?)
-        }
-        Ty::Map(first, second) => {
-            let first = type_node(alloc, first.get())?;
-            over_two(alloc, b"map", first, type_node(alloc, second.get())?)
-        }
-        Ty::BigMap(first, second) => {
-            let first = type_node(alloc, first.get())?;
-            over_two(alloc, b"big_map", first, type_node(alloc, second.get())?)
-        }
-        Ty::Lambda(first, second) => {
-            let first = type_node(alloc, first.get())?;
-            over_two(alloc, b"lambda", first, type_node(alloc, second.get())?)
-        }
+        Ty::Option(part) => over_type(alloc, b"option", part),
+        Ty::List(part) => over_type(alloc, b"list", part),
+        Ty::Set(part) => over_type(alloc, b"set", part),
+        Ty::Contract(part) => over_type(alloc, b"contract", part),
+        Ty::Ticket(part) => over_type(alloc, b"ticket", part),
+        Ty::Or(first, second) => over_types(alloc, b"or", first, second),
+        Ty::Pair(first, second) => over_types(alloc, b"pair", first, second),
+        Ty::Map(first, second) => over_types(alloc, b"map", first, second),
+        Ty::BigMap(first, second) => over_types(alloc, b"big_map", first, second),
+        Ty::Lambda(first, second) => over_types(alloc, b"lambda", first, second),
     }
+}
+
+// The application of a name to the node of a type.
+#[cycle(type_node)]
+fn over_type(alloc: Global, name: &[u8], part: &Link<Ty>) -> Result<Node, Memory>
+    ensures { IfOk result (λ n. tree n ≡ named name.now (more (node_of (kind part.now)) none)) }
+{
+    over_one(alloc, name, type_node(alloc, part.get())?)
+}
+
+// The application of a name to the nodes of two types.
+#[cycle(type_node)]
+fn over_types(
+    alloc: Global,
+    name: &[u8],
+    first: &Link<Ty>,
+    second: &Link<Ty>,
+) -> Result<Node, Memory>
+    ensures { IfOk result (λ n. tree n ≡ named name.now (more (node_of (kind first.now)) (more (node_of (kind second.now)) none))) }
+{
+    let first = type_node(alloc, first.get())?;
+    over_two(alloc, name, first, type_node(alloc, second.get())?)
 }
 
 /// The application of a name without annotations. Memory where there is no room for it.
