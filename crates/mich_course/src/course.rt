@@ -25,7 +25,7 @@ use mich_world::{GrantError, World};
 use std::alloc::Global;
 
 /// How far a file has come: its world, its prices, how many groups it had, and whether only its chain stood.
-#[derive(Debug, Drop)]
+#[derive(Drop)]
 pub struct Course {
     pub world: World,
     pub costs: Costs,

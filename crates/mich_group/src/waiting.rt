@@ -7,7 +7,7 @@ use mich_base::{Memory, Rows};
 use mich_instr::Issued;
 
 /// An operation that the contract of these 20 bytes issued, and that waits for its turn.
-#[derive(Debug, Drop)]
+#[derive(Drop)]
 pub(crate) struct Sent {
     pub(crate) by: [u8; 20],
     pub(crate) operation: Issued,

@@ -6,7 +6,7 @@ use mich_term::Value;
 
 /// An operation that code issued, with its number: how many were issued before it in its group (Octez "operations",
 /// internal operations).
-#[derive(Debug, Drop)]
+#[derive(Drop)]
 pub enum Issued {
     /// An argument and mutez that go to an address.
     Transfer {

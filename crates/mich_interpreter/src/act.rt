@@ -20,14 +20,14 @@ pub enum Failed {
 }
 
 /// A view that opens: its code, the one value that it begins with, and where and for whom it runs.
-#[derive(Debug, Drop)]
+#[derive(Drop)]
 pub(crate) struct View {
     pub(crate) code: Block,
     pub(crate) value: Value,
     pub(crate) env: Env,
 }
 
-#[derive(Debug, Drop)]
+#[derive(Drop)]
 pub(crate) enum Act {
     // The run goes on.
     On,

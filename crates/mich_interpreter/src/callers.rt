@@ -19,7 +19,7 @@ use std::alloc::Global;
 use std::mem;
 
 // What it had in hand, and the rest of its code.
-#[derive(Debug, Drop)]
+#[derive(Drop)]
 pub(crate) struct Caller {
     pub(crate) block: Block,
     pub(crate) at: usize,

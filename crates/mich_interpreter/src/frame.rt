@@ -5,7 +5,7 @@ use mich_base::{Link, Rows};
 use mich_instr::Block;
 use mich_term::Value;
 
-#[derive(Debug, Drop)]
+#[derive(Drop)]
 pub(crate) enum Frame {
     // The instructions of a block from a place on.
     Rest(Block, usize),

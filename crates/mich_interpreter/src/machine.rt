@@ -35,7 +35,7 @@ use mich_world::World;
 use std::alloc::Global;
 
 // A run on its way: the block that runs with the place of its next instruction, and what is left to do behind it.
-#[derive(Debug, Drop)]
+#[derive(Drop)]
 pub(crate) struct Machine {
     pub(crate) state: State,
     pub(crate) block: Block,
@@ -45,7 +45,7 @@ pub(crate) struct Machine {
 }
 
 // What a step came to.
-#[derive(Debug, Drop)]
+#[derive(Drop)]
 pub(crate) enum Step {
     // Something that costs nothing.
     Free,
@@ -58,7 +58,7 @@ pub(crate) enum Step {
 }
 
 /// How a run ends: with its last state, and where it failed with the reason.
-#[derive(Debug, Drop)]
+#[derive(Drop)]
 pub enum Ended {
     Stack(State),
     Failed(State, Failed),

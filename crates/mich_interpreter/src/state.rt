@@ -18,7 +18,7 @@ pub struct Counts {
 }
 
 /// The values and the counts of a run, apart from its code.
-#[derive(Debug, Drop)]
+#[derive(Drop)]
 pub struct State {
     /// The values, the last of which is on top.
     pub stack: Rows<Value>,

@@ -21,7 +21,7 @@ use mich_world::{Contract, World};
 use std::alloc::Global;
 
 // A view that is there: its code, the 20 bytes and the balance of its contract, and a copy of the storage.
-#[derive(Debug, Drop)]
+#[derive(Drop)]
 pub(crate) struct Visit {
     pub(crate) code: Block,
     pub(crate) hash: [u8; 20],

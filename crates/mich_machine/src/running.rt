@@ -25,7 +25,7 @@ use mich_world::World;
 use std::alloc::Global;
 
 /// What a run that came to its end leaves: the operations that it returned, and its changes of tickets, each in order.
-#[derive(Debug, Drop)]
+#[derive(Drop)]
 pub struct Finished {
     pub returned: Rows<Issued>,
     pub changes: Rows<Change>,

@@ -7,7 +7,7 @@ use mich_ops::{Effect, Failure};
 
 /// What an operation that was applied did, and the operations that it emitted, in order, with the 20 bytes of the contract that issued
 /// them; where there are none these say nothing.
-#[derive(Debug, Drop)]
+#[derive(Drop)]
 pub struct Applied {
     pub effect: Effect,
     pub by: [u8; 20],

@@ -4,7 +4,7 @@ use mich_instr::Script;
 use mich_term::Value;
 
 /// A contract: its balance in mutez, its script, which others may hold too, and its storage (Octez "Accounts and addresses").
-#[derive(Debug, Drop)]
+#[derive(Drop)]
 pub struct Contract {
     pub balance: u64,
     pub script: Shared<Script>,

@@ -4,7 +4,7 @@ use mich_forms::Place;
 use mich_term::Value;
 
 /// What stood at a place before a write to it.
-#[derive(Debug, Drop)]
+#[derive(Drop)]
 pub(crate) enum Change {
     /// The balance of the account at a place. None where it wasn't there.
     Account(Place, Option<u64>),
@@ -21,7 +21,7 @@ pub(crate) enum Change {
 }
 
 /// A write, and all balances and the fees before it.
-#[derive(Debug, Drop)]
+#[derive(Drop)]
 pub(crate) struct Entry {
     pub(crate) change: Change,
     pub(crate) supply: u64,

@@ -19,7 +19,7 @@ use std::collections::BTreeMap;
 use std::marker::Model;
 
 /// Balances of accounts, contracts, the fees taken and all that was granted, in mutez, with a journal of writes.
-#[derive(Debug, Drop)]
+#[derive(Drop)]
 pub(crate) struct Funds {
     accounts: Accounts,
     contracts: Contracts,

@@ -20,7 +20,7 @@ use std::marker::Model;
 
 /// Where and when operations are applied, who has how much mutez, the contracts, the ledger of tickets and the store of big maps,
 /// with journals by which writes are taken back (Octez "Operations"). All amounts are in mutez.
-#[derive(Debug, Drop)]
+#[derive(Drop)]
 pub struct World {
     chain: ChainId,
     level: u32,
