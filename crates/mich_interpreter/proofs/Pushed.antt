@@ -7,8 +7,9 @@ use Rattle.rules_base.specs.Tree.{Tree}
 use Rattle.rules_types.specs.Kind.{Kind}
 use Rattle.rules_types.specs.Kind as k
 use Rattle.rules_types.specs.Attributes.{pushable}
+use Rattle.rules_types.specs.declared.Simple.{Simple}
 use Rattle.rules_values.specs.Val.{Val, Pairs}
-use Rattle.rules_values.specs.Literals.{Pending, good, read}
+use Rattle.rules_values.specs.Literals.{Pending, good, on_value, read, simple_value}
 use Rattle.rules_evaluation.specs.Given.{value_of}
 use Rattle.mich_data.specs.Whole.{Layer, IsSimple, IsOption, IsEither, IsPair, IsListOf, IsSet, IsMapTo, IsLambda, IsWhole}
 use Rattle.mich_term.specs.View.{vals_of, pairs_of}
@@ -96,6 +97,11 @@ whole_flat (k.ticket a) p v h = absurd cc
 -- a literal that was read is the same value however big maps are seen, and wherever it stands
 pub pushed_is : (a : Kind) (t : Tree) (v : Value) (ps : List Pending) → pushable a ≡ true → IsWhole a v → read a 0 t ≡ good (val v) ps → (big : Sight) (at : ℕ) → value_of (read a at t) ≡ Some (seen big v)
 pushed_is a t v ps p whole is big at = value_there a at 0 t ∙ ap value_of is ∙ ap Some (sym (flat_is big v (whole_flat a p v whole)))
+
+-- the same of one of a type without arguments
+pub simple_is : (s : Simple) (a : Kind) (t : Tree) (v : Value) → a ≡ k.simple s → pushable a ≡ true → Some (val v) ≡ simple_value s t → IsSimple (out-Value v) → (big : Sight) (at : ℕ) → value_of (read a at t) ≡ Some (seen big v)
+simple_is s a t v e p found simple =
+    pushed_is a t v [] p (subst (λ b. IsWhole b v) (sym e) simple) (ap (λ b. read b 0 t) e ∙ ap (on_value 0) (sym found))
 
 -- a value with the parts of such a type is the same however big maps are seen
 pub whole_is : (a : Kind) (v : Value) → pushable a ≡ true → IsWhole a v → (big : Sight) → seen big v ≡ val v

@@ -1,15 +1,18 @@
 // PUSH, LAMBDA, LAMBDA_REC and SELF.
-ghost use Rattle.std.specs.Prelude.{◌≡◌, ℕ, List, true, Some, IfOk};
+ghost use Rattle.std.specs.Prelude.{◌≡◌, ℕ, List, true, Some, IfOk, IfSome};
 ghost use Rattle.rules_base.specs.Tree.{Tree, Trees};
-ghost use Rattle.rules_types.specs.Kind.{Kind as TypeKind};
+ghost use Rattle.rules_types.specs.Kind.{Kind as TypeKind, simple};
 ghost use Rattle.rules_types.specs.Attributes.{pushable};
 ghost use Rattle.rules_forms.specs.Spelling.{contract_place, spelled_address};
 ghost use Rattle.rules_values.specs.Val.{bytes};
-ghost use Rattle.rules_values.specs.Literals.{read};
+ghost use Rattle.rules_values.specs.Literals.{read, simple_value};
 ghost use Rattle.rules_evaluation.specs.Given.{value_of};
 ghost use Rattle.mich_base.specs.TypeView.{kind};
 ghost use Rattle.mich_base.specs.View.{tree};
+ghost use Rattle.mich_data.specs.Whole.{IsSimple};
 ghost use Rattle.mich_stack.specs.Views.{Sight, seen};
+ghost use Rattle.mich_term.specs.ValueView.{val};
+ghost use Rattle.mich_term.specs.declared.value.Value.{out-Value};
 ghost use Rattle.mich_frames.specs.Shapes.{lambda_price};
 ghost use Rattle.mich_instr.specs.Code as made;
 ghost use Rattle.mich_instr.specs.Code.{Codes};
@@ -20,17 +23,56 @@ use crate::paying::{pay, pay_capped};
 use crate::stack::push;
 use crate::state::State;
 use mich_base::{Bytes, Memory, Node, Shared, Ty, size_within};
-use mich_data::read_value;
+use mich_data::{read_value, simple_value};
 use mich_forms::{Address, Entrypoint, Place};
 use mich_gas::{Costs, Kind};
 use mich_term::{Value, weight};
+use rules_types::Simple;
 use std::alloc::Global;
+
+// The type without arguments that a type is, where it is one that has literals of its own.
+fn simple_of(ty: &Ty) -> Option<Simple>
+    ensures { IfSome result (λ s. kind ty.now ≡ simple s) }
+{
+    match ty {
+        Ty::Unit => Some(Simple::Unit),
+        Ty::Never => Some(Simple::Never),
+        Ty::Bool => Some(Simple::Bool),
+        Ty::Int => Some(Simple::Int),
+        Ty::Nat => Some(Simple::Nat),
+        Ty::String => Some(Simple::String),
+        Ty::Bytes => Some(Simple::Bytes),
+        Ty::Mutez => Some(Simple::Mutez),
+        Ty::Timestamp => Some(Simple::Timestamp),
+        Ty::Key => Some(Simple::Key),
+        Ty::KeyHash => Some(Simple::KeyHash),
+        Ty::Signature => Some(Simple::Signature),
+        Ty::ChainId => Some(Simple::ChainId),
+        Ty::Address => Some(Simple::Address),
+        _ => None,
+    }
+}
+
+// The value of a literal of a type without arguments. Memory too where it is none.
+fn simple_literal(alloc: Global, simple: Simple, literal: &Node) -> Result<Value, Memory>
+    ensures value { IfOk result (λ v. Some (val v) ≡ simple_value simple (tree literal.now)) }
+    ensures simple { IfOk result (λ v. IsSimple (out-Value v)) }
+{
+    match simple_value(alloc, simple, literal)? {
+        Some(value) => Ok(value),
+        None => Err(Memory),
+    }
+}
 
 // The value of a literal of a type that can be pushed. Memory too where it has 2^32 nodes and more, or is none.
 fn literal_value(alloc: Global, ty: &Ty, literal: &Node) -> Result<Value, Memory>
     requires { pushable (kind ty.now) ≡ true }
     ensures { IfOk result (λ v. (big : Sight) (at : ℕ) → value_of (read (kind ty.now) at (tree literal.now)) ≡ Some (seen big v)) }
 {
+    if let Some(simple) = simple_of(ty) {
+        let value = simple_literal(alloc, simple, literal)?;
+        return Ok(value);
+    }
     if !size_within(literal, u32::MAX) {
         return Err(Memory);
     }
