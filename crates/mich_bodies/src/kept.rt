@@ -9,7 +9,7 @@ use std::alloc::Global;
 use std::marker::Model;
 
 // A node, the types of which it is a body, and its typed code as that. Contracts see nothing of it.
-#[derive(Debug, Drop)]
+#[derive(Drop)]
 pub(crate) struct Kept {
     arg: Ty,
     ret: Ty,

@@ -16,3 +16,6 @@ pub use laws::{a_line_is_read_again, one_reading};
 pub use line::print;
 pub use reader::{Placed, read_part, read_statement};
 pub use rules_text::TextKind;
+
+#[cfg(test)]
+mod limit_tests;

@@ -1,12 +1,11 @@
 // What the calls give with ample memory, by texts. Locations are counted in pre-order from the body, which is 0.
 use crate::worked::WORKED;
-use mich_base::{Node, Rows, Ty, size_within};
-use mich_check::{CheckError, check_body, check_literal, check_script, nodes};
-use mich_control::Place;
+use mich_base::{Node, Ty, size_within};
+use mich_check::{CheckError, check_body, check_literal, check_script};
 use mich_data::Pending;
 use mich_instr::{Block, Script, erase};
 use mich_text::read_statement;
-use mich_types::{read_parameter, read_type};
+use mich_types::read_type;
 use std::alloc::Global;
 use std::test::Fail;
 
@@ -51,9 +50,6 @@ type Row = (&'static str, &'static str, &'static str, Option<u32>);
 // A body and the location of its fault.
 type BodyRow = (&'static str, Option<u32>);
 
-// The parameter of a script, its code, which begins on no values and ends anyhow, and the location of its fault.
-type CodeRow = (&'static str, &'static str, Option<u32>);
-
 fn is_typed(
     alloc: Global,
     arg: &str,
@@ -65,18 +61,6 @@ fn is_typed(
     let ret = ty(alloc, ret)?;
     let body = node(alloc, body)?;
     let found = body_fault(alloc, &arg, &ret, &body)?;
-    Ok(found == at)
-}
-
-fn is_code(alloc: Global, section: &str, code: &str, at: Option<u32>) -> Result<bool, Fail> {
-    let section = node(alloc, section)?;
-    let code = node(alloc, code)?;
-    if !size_within(&section, 10_000) || !size_within(&code, 10_000) {
-        return Err(Fail::from("too large"));
-    }
-    let parameter = read_parameter(alloc, &section)?;
-    let types = Rows::new(alloc);
-    let found = fault(nodes::check_body(alloc, &code, 0, Place::Main(&parameter), types))?;
     Ok(found == at)
 }
 
@@ -100,16 +84,6 @@ fn misplaced_bodies(
     for (body, at) in rows {
         if !is_typed(alloc, arg, ret, body, *at)? {
             return Ok(Some(body));
-        }
-    }
-    Ok(None)
-}
-
-// The first code whose fault isn't where its row says.
-fn misplaced_code(alloc: Global, rows: &[CodeRow]) -> Result<Option<&'static str>, Fail> {
-    for (section, code, at) in rows {
-        if !is_code(alloc, section, code, *at)? {
-            return Ok(Some(code));
         }
     }
     Ok(None)
@@ -141,21 +115,32 @@ fn branches_end_alike_or_fail(rt: HostRuntime) -> Result<(), Fail> {
     Ok(())
 }
 
-const SELVES: [CodeRow; 5] = [
-    ("parameter int", "{ SELF }", None),
-    ("parameter (or (int %a) (unit %b))", "{ SELF %a }", None),
-    ("parameter (or (int %a) (unit %b))", "{ SELF %c }", Some(1)),
-    ("parameter (or (int %a) (unit %b))", "{ SELF 5 }", Some(1)),
+const SELVES: [BodyRow; 5] = [
     (
-        "parameter (or (int %a) (unit %b))",
-        "{ UNIT ; LOOP { SELF } }",
-        Some(2),
+        "{ parameter int; storage unit; code { DROP; SELF; DROP; UNIT; NIL operation; PAIR } }",
+        None,
+    ),
+    (
+        "{ parameter (or (int %a) (unit %b)); storage unit; code { DROP; SELF %a; DROP; UNIT; NIL operation; PAIR } }",
+        None,
+    ),
+    (
+        "{ parameter (or (int %a) (unit %b)); storage unit; code { DROP; SELF %c } }",
+        Some(10),
+    ),
+    (
+        "{ parameter (or (int %a) (unit %b)); storage unit; code { DROP; SELF 5 } }",
+        Some(10),
+    ),
+    (
+        "{ parameter (or (int %a) (unit %b)); storage unit; code { DROP; UNIT; LOOP { SELF } } }",
+        Some(11),
     ),
 ];
 
 #[test]
 fn self_names_an_entrypoint(rt: HostRuntime) -> Result<(), Fail> {
-    assert_eq!(rt; misplaced_code(rt.alloc(), &SELVES)?, None);
+    assert_eq!(rt; misplaced_scripts(rt.alloc(), &SELVES)?, None);
     assert!(rt;
         is_typed(
             rt.alloc(),
@@ -210,14 +195,9 @@ fn lambdas_go_from_their_argument_to_their_result(rt: HostRuntime) -> Result<(),
         misplaced_bodies(rt.alloc(), "unit", "lambda int int", &LAMBDAS)?,
         None
     );
-    assert!(rt;
-        is_code(
-            rt.alloc(),
-            "parameter int",
-            "{ LAMBDA unit (contract int) { DROP ; SELF } }",
-            Some(7)
-        )?
-    );
+    let script =
+        "{ parameter int; storage unit; code { DROP; LAMBDA unit (contract int) { DROP; SELF } } }";
+    assert_eq!(rt; script_fault(rt.alloc(), script)?, Some(14));
     Ok(())
 }
 
@@ -287,14 +267,9 @@ const PUSHES: [Row; 10] = [
 #[test]
 fn push_takes_literals_of_its_type(rt: HostRuntime) -> Result<(), Fail> {
     assert_eq!(rt; misplaced(rt.alloc(), &PUSHES)?, None);
-    assert!(rt;
-        is_code(
-            rt.alloc(),
-            "parameter int",
-            "{ PUSH (lambda unit (contract int)) { DROP ; SELF } }",
-            Some(8)
-        )?
-    );
+    let script =
+        "{ parameter int; storage unit; code { DROP; PUSH (lambda unit (contract int)) { DROP; SELF } } }";
+    assert_eq!(rt; script_fault(rt.alloc(), script)?, Some(15));
     Ok(())
 }
 

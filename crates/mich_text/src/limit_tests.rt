@@ -1,7 +1,7 @@
 //! Statements at the limit of their length, worked out by hand from the rules on TooLong.
-use mich_text::fault::LexError;
-use mich_text::reader::statement_up_to;
-use mich_text::{TextError, TextKind, read_statement};
+use crate::fault::LexError;
+use crate::reader::statement_up_to;
+use crate::{TextError, TextKind, read_statement};
 use std::alloc::Global;
 use std::test::Fail;
 
