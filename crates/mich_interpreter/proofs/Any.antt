@@ -1,5 +1,5 @@
 -- Steps on any stack that is met.
-use Rattle.std.proofs.Common.{◌≡◌, ℕ, true, false, List, [], ◌∷◌}
+use Rattle.std.proofs.Common.{◌≡◌, ℕ, Bool, true, false, List, [], ◌∷◌, sym, ap, ◌∙◌, subst}
 use Rattle.rules_gas.specs.declared.Kind.TheVariants as g
 use Rattle.rules_types.specs.Kind.{Kind}
 use Rattle.rules_values.specs.Val.{Val, no_val, more_vals}
@@ -15,12 +15,16 @@ use Rattle.mich_frames.specs.Frames as fr
 use Rattle.mich_frames.specs.Stands.{StandsAt, MeetsAt, OpensAt}
 use Rattle.mich_frames.specs.Shapes.{HasTop, HasTruth, HasOption, HasUnion, HasItems, HasList, HasMapped}
 use Rattle.mich_frames.proofs.Branches.{if_broke, if_none_opens, if_some_opens, if_none_broke, if_some_broke, if_left_opens, if_right_opens, if_left_broke, if_right_broke, if_cons_opens, if_empty_opens, if_cons_broke, if_empty_broke}
-use Rattle.mich_frames.proofs.Loops.{loop_acts, loop_broke, loop_left_acts, loop_left_broke, loop_right_acts, loop_right_broke, left_turns_end, left_turns_broke, left_turn_opens}
+use Rattle.mich_frames.proofs.Loops.{turns_end, turns_broke, turn_opens, loop_acts, loop_broke, loop_left_acts, loop_left_broke, loop_right_acts, loop_right_broke, left_turns_end, left_turns_broke, left_turn_opens}
 use Rattle.mich_frames.proofs.Items.{iter_broke, each_broke}
 use Rattle.mich_frames.proofs.Calls.{fail_broke}
 use Rattle.mich_frames.proofs.Mapping.{map_broke}
 use Rattle.mich_interpreter.specs.Items.{IsNotEmpty}
-use Rattle.mich_interpreter.specs.Parts.{is_left_top, is_none_top, is_cons_top, opened}
+use Rattle.mich_interpreter.specs.Parts.{is_true_top, is_left_top, is_none_top, is_cons_top, opened}
+
+-- the truth on top is known
+true_there : (b c : Bool) {V W : List Val} → is_true_top V ≡ b → V ≡ v.truth c ∷ W → V ≡ v.truth b ∷ W
+true_there b c {W = W} e f = f ∙ ap (λ a. v.truth a ∷ W) (sym (ap is_true_top f) ∙ e)
 
 module _ {fs : List Frame} {u : Around} {m : Tally} {d : ℕ} {Z : List Kind} {o : Outcome} {is js : Codes} where
   pub if_any_broke : (V : List Val) → Lacks u g.If 0 m → MeetsAt (made.if_bool is js) fs u V m d Z o → HasTruth V → o ≡ failed f.out_of_gas
@@ -87,6 +91,15 @@ module _ {fs : List Frame} {u : Around} {m : Tally} {d : ℕ} {Z : List Kind} {o
   loop_left_any_broke (v.left x ∷ W) lacks h top = loop_left_broke x lacks h
   loop_left_any_broke (v.right x ∷ W) lacks h top = loop_right_broke x lacks h
   loop_left_any_broke _ lacks h top = absurd top
+
+  pub turn_over : (c : Bool) {V W : List Val} → is_true_top V ≡ false → V ≡ v.truth c ∷ W → StandsAt (fr.turns is ∷ fs) u V m d Z o → StandsAt fs u W m d Z o
+  turn_over c e f h = turns_end (subst (λ X. StandsAt (fr.turns is ∷ fs) u X m d Z o) (true_there false c e f) h)
+
+  pub turn_broken : (c : Bool) {V W : List Val} → is_true_top V ≡ true → V ≡ v.truth c ∷ W → Lacks u g.Turn 0 m → StandsAt (fr.turns is ∷ fs) u V m d Z o → o ≡ failed f.out_of_gas
+  turn_broken c e f lacks h = turns_broke lacks (subst (λ X. StandsAt (fr.turns is ∷ fs) u X m d Z o) (true_there true c e f) h)
+
+  pub turn_open : (c : Bool) {V W : List Val} → is_true_top V ≡ true → V ≡ v.truth c ∷ W → Pays u g.Turn 0 m → StandsAt (fr.turns is ∷ fs) u V m d Z o → OpensAt is (fr.turns is ∷ fs) u W (less u g.Turn 0 m) d Z o
+  turn_open c e f pays h = turn_opens pays (subst (λ X. StandsAt (fr.turns is ∷ fs) u X m d Z o) (true_there true c e f) h)
 
   pub left_turns_over : (V : List Val) → is_left_top V ≡ false → StandsAt (fr.left_turns is ∷ fs) u V m d Z o → HasUnion V → StandsAt fs u (opened V) m d Z o
   left_turns_over (v.right x ∷ W) e h top = left_turns_end x h

@@ -8,7 +8,7 @@ use Rattle.mich_frames.specs.Frames as fr
 use Rattle.mich_frames.specs.Sizes.{frames_size}
 use Rattle.mich_frames.proofs.Sizes.{seq_counts, frame_counts}
 use Rattle.mich_interpreter.specs.View.{frame, frames}
-use Rattle.mich_interpreter.specs.Runs.{HasBegun, IsBegun, IsSpent, IsPaidStep, IsSettled, with_below, with_rest, size_of, left_of}
+use Rattle.mich_interpreter.specs.Runs.{HasBegun, IsBegun, IsSpent, IsPaidStep, IsSettled, HasLeft, with_below, with_rest, size_of, left_of}
 use Rattle.mich_interpreter.specs.declared.machine.Step.{Step}
 use Rattle.mich_interpreter.specs.declared.machine.Step.TheVariants as s
 use Rattle.mich_interpreter.specs.declared.frame.Frame.{Frame}
@@ -44,6 +44,14 @@ seq_smaller old mid new inner e same h =
 -- a block that is over
 pub over_smaller : (m : Machine) → frames_size (frames big_step m.frames) < size_of m
 over_smaller m = frame_counts (fr.rest (left_of m)) (frames big_step m.frames)
+
+-- what comes of the frames behind a block that is over
+pub left_spent : (step : Step) (m new : Machine) (d : ℕ) → HasLeft step (record m { depth = d }) new → IsSpent step m new
+left_spent s.Free m new d h = let less = over_smaller m in let le = h.1 in (h.0, omega (arith, less, le))
+left_spent s.Paid m new d h = h
+left_spent s.Done m new d h = h
+left_spent (s.View w) m new d h = absurd h
+left_spent (s.Failed why) m new d h = tt
 
 -- a frame that was taken off
 pub popped : (fs gs : List Frame) (x : Frame) → fs ≡ gs ++ x ∷ [] → frames big_step fs ≡ frame big_step x ∷ frames big_step gs

@@ -19,6 +19,7 @@ use Rattle.mich_stack.specs.Views.{Sight, seen}
 use Rattle.mich_step.specs.Views.{environment}
 use Rattle.mich_instr.specs.Code.{Code}
 use Rattle.mich_instr.specs.View.{codes}
+use Rattle.mich_instr.specs.declared.instr.Instr.{Instr}
 use Rattle.mich_frames.specs.Around.{Around, in_environment, with_burnt}
 use Rattle.mich_frames.specs.Frames as fr
 use Rattle.mich_frames.specs.Stands.{StandsAt, MeetsAt, OpensAt}
@@ -27,10 +28,13 @@ use Rattle.mich_interpreter.specs.declared.act.Act.TheVariants as a
 use Rattle.mich_interpreter.specs.declared.act.Failed.{Failed}
 use Rattle.mich_interpreter.specs.declared.act.Failed.TheVariants as x
 use Rattle.mich_interpreter.specs.declared.frame.Frame.{Frame}
+use Rattle.mich_interpreter.specs.declared.loops.Turn.{Turn}
+use Rattle.mich_interpreter.specs.declared.loops.Turn.TheVariants as turn
 use Rattle.mich_interpreter.specs.declared.state.State.{State}
 use Rattle.mich_term.specs.ValueView.{val}
 use Rattle.mich_tickets.specs.Effects.{Tells}
 use Rattle.mich_interpreter.specs.Issues.{KeepsScripts}
+use Rattle.mich_interpreter.specs.Parts.{is_true_top}
 use Rattle.mich_interpreter.specs.View.{Beyond, tops, frame, around, tally}
 use Rattle.mich_interpreter.specs.Sees.{Sees}
 use Rattle.mich_world.specs.World.{World}
@@ -79,6 +83,19 @@ Turns (a.Failed why) old new = Unit {0}
 Turns (a.View w) old new = ⊥
 Turns a.On old new = new ≡ old
 Turns _ old new = new < old
+
+-- what comes of a LOOP with this body, whose further turns come first
+abbrev pub HasTurned : Turn → List Instr → Beyond → Costs → State → List fr.Frame → ℕ → List Kind → Outcome → Type 0
+HasTurned turn.Over body x costs m fs d Z o = is_true_top (tops x.sight m.stack) ≡ false
+HasTurned turn.Unpaid body x costs m fs d Z o = o ≡ failed f.out_of_gas
+HasTurned turn.Paid body x costs m fs d Z o =
+    OpensAt (codes body) (fr.turns (codes body) ∷ fs) (around x costs m) (tops x.sight m.stack) (tally x m) d Z o
+
+-- a turn that is paid for leaves less gas, and where there is none nothing is changed
+abbrev pub IsTurned : Turn → State → State → Type 0
+IsTurned turn.Over old new = new ≡ old
+IsTurned turn.Unpaid old new = Unit {0}
+IsTurned turn.Paid old new = new.meter < old.meter
 
 -- what was written to the books can be taken back, the group has its number still, and the scripts of originations are typed where
 -- they were

@@ -1,7 +1,11 @@
--- Unions, options and lists on top of a stack.
+-- Truth values, unions, options and lists on top of a stack.
 use Rattle.std.specs.Prelude.{pos, Bool, true, false, List, ◌∷◌}
 use Rattle.rules_values.specs.Val.{Val, no_val, more_vals}
 use Rattle.rules_values.specs.Val as v
+
+abbrev pub is_true_top : List Val → Bool
+is_true_top (v.truth b ∷ V) = b
+is_true_top V = false
 
 abbrev pub is_left_top : List Val → Bool
 is_left_top (v.left x ∷ V) = true

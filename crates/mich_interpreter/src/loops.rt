@@ -1,17 +1,53 @@
 // LOOP and LOOP_LEFT.
-ghost use Rattle.std.specs.Prelude.{◌≡◌, IfOk};
+ghost use Rattle.std.specs.Prelude.{◌≡◌, ℕ, List, IfOk};
+ghost use Rattle.rules_types.specs.Kind.{Kind as TypeKind};
+ghost use Rattle.rules_evaluation.specs.Outcome.{Outcome};
+ghost use Rattle.mich_frames.specs.Frames.{Frame as PlainFrame};
 ghost use Rattle.mich_instr.specs.Code as made;
 ghost use Rattle.mich_instr.specs.View.{codes};
-ghost use Rattle.mich_interpreter.specs.Ends.{Comes, Carries, Waits, Resumes, Spends, Turns};
+ghost use Rattle.mich_instr.specs.declared.instr.Instr.{Instr};
+ghost use Rattle.mich_interpreter.specs.Ends.{Comes, Carries, Waits, Resumes, Spends, Stands, Turns, HasTurned, IsTurned};
+ghost use Rattle.mich_interpreter.specs.View.{Beyond};
 
 use crate::act::{Act, Failed};
 use crate::frame::Frame;
 use crate::paying::pay;
-use crate::stack::{is_left, open_union, pop_truth};
+use crate::stack::{is_left, is_true, open_union, pop_truth};
 use crate::state::State;
 use mich_base::Memory;
 use mich_gas::{Costs, Kind};
 use mich_instr::Block;
+
+// What comes after a turn of a LOOP.
+#[derive(Drop)]
+pub(crate) enum Turn {
+    // Its end: the truth value on top says so, and is still there.
+    Over,
+    // A further turn that there isn't gas for.
+    Unpaid,
+    // A further turn, which is paid for.
+    Paid,
+}
+
+// Takes the truth value on top and pays for a further turn, where it says that there is one. Else nothing is changed.
+pub(crate) fn further_turn(m: &mut State, costs: &Costs) -> Turn
+    requires { (body : List Instr) × Waits (Frame.Turns body) costs.now m.old }
+    ensures turned { (body : List Instr) (x : Beyond) (fs : List PlainFrame) (d : ℕ) (Z : List TypeKind) (o : Outcome) → Stands (Frame.Turns body) x costs.now m.old fs d Z o → HasTurned result body x costs.now m.new fs d Z o }
+    ensures gas { IsTurned result m.old m.new }
+    ensures ledger { m.new.ledger ≡ m.old.ledger }
+    ensures counts { m.new.counts ≡ m.old.counts }
+    ensures issued { m.new.issued ≡ m.old.issued }
+{
+    if !is_true(&m.stack) {
+        return Turn::Over;
+    }
+    pop_truth(&mut m.stack);
+    if pay(&mut m.meter, costs, Kind::Turn, 0) {
+        Turn::Paid
+    } else {
+        Turn::Unpaid
+    }
+}
 
 // The next turn of a LOOP, or its end.
 pub(crate) fn next_turn(m: &mut State, costs: &Costs, body: Block) -> Result<Act, Memory>
@@ -22,14 +58,17 @@ pub(crate) fn next_turn(m: &mut State, costs: &Costs, body: Block) -> Result<Act
     ensures counts { m.new.counts ≡ m.old.counts }
     ensures issued { m.new.issued ≡ m.old.issued }
 {
-    if !pop_truth(&mut m.stack) {
-        return Ok(Act::On);
+    match further_turn(m, costs) {
+        Turn::Over => {
+            pop_truth(&mut m.stack);
+            Ok(Act::On)
+        }
+        Turn::Unpaid => Ok(Act::Failed(Failed::OutOfGas)),
+        Turn::Paid => {
+            let code = body.share()?;
+            Ok(Act::Open(Some(Frame::Turns(body)), code))
+        }
     }
-    if !pay(&mut m.meter, costs, Kind::Turn, 0) {
-        return Ok(Act::Failed(Failed::OutOfGas));
-    }
-    let code = body.share()?;
-    Ok(Act::Open(Some(Frame::Turns(body)), code))
 }
 
 pub(crate) fn act_loop(m: &mut State, costs: &Costs, body: &Block) -> Result<Act, Memory>

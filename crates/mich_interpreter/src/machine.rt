@@ -1,5 +1,5 @@
 // A run: its blocks, its frames and what they come to.
-ghost use Rattle.std.specs.Prelude.{[], ◌≡◌, ◌+◌, ◌^◌, ◌<◌, ℕ, List, length, IfOk};
+ghost use Rattle.std.specs.Prelude.{[], ◌∷◌, ◌++◌, ◌≡◌, ◌+◌, ◌^◌, ◌<◌, ℕ, List, length, IfOk, IfSome, MatchOption};
 ghost use Rattle.rules_types.specs.Kind.{Kind};
 ghost use Rattle.rules_evaluation.specs.Outcome.{Outcome};
 ghost use Rattle.mich_gas.specs.declared.costs.Costs.{Costs as Prices};
@@ -22,7 +22,7 @@ use crate::dipping::act_dip;
 use crate::frame::Frame;
 use crate::giving::{act_lambda, act_push, act_self};
 use crate::iterating::{act_iter, next_each};
-use crate::loops::{act_loop, act_loop_left, next_left_turn, next_turn};
+use crate::loops::{Turn, act_loop, act_loop_left, further_turn, next_left_turn, next_turn};
 use crate::mapping::{act_map, next_made};
 use crate::stack::{put_all, put_below};
 use crate::state::State;
@@ -195,6 +195,42 @@ fn follow(m: &mut Machine, act: Act) -> Result<Step, Memory>
     }
 }
 
+// The body of the LOOP whose frame is on top.
+fn turning(frames: &Rows<Frame>) -> Option<&Block>
+    ensures { IfSome result (λ body. (below : List Frame) × (frames.now ≡ below ++ Frame.Turns body.now ∷ [])) }
+{
+    match frames.as_slice().last() {
+        Some(Frame::Turns(body)) => Some(body),
+        _ => None,
+    }
+}
+
+// A further turn of the LOOP whose frame is on top, which stays there. Nothing is changed where there is none.
+#[tactic(auto, using(crate::proofs::Keeping::same_keeps, crate::proofs::Keeping::keeps_state))]
+fn turn_again(m: &mut Machine, costs: &Costs) -> Result<Option<Step>, Memory>
+    requires { SomeEnd costs.now m.old }
+    ensures stays { (x : Beyond) (gs : List PlainFrame) (Z : List Kind) (o : Outcome) → Behind x costs.now m.old gs Z o → IfOk result (λ r. IfSome r (λ s. IsStep s x costs.now m.new gs Z o)) }
+    ensures spent { IfOk result (λ r. MatchOption r (m.new ≡ m.old) (λ s. HasLeft s m.old m.new)) }
+    ensures keeps { IfOk result (λ r. IfSome r (λ s. KeepsStep s m.old.state m.new.state)) }
+{
+    let Some(body) = turning(&m.frames) else {
+        return Ok(None);
+    };
+    match further_turn(&mut m.state, costs) {
+        Turn::Over => Ok(None),
+        Turn::Unpaid => Ok(Some(Step::Failed(Failed::OutOfGas))),
+        Turn::Paid => {
+            let code = body.share()?;
+            let begun = begin(m, None, code)?;
+            if begun {
+                Ok(Some(Step::Paid))
+            } else {
+                Ok(Some(Step::Failed(Failed::DepthLimit)))
+            }
+        }
+    }
+}
+
 // Behind its block: frames are taken off until a block goes on or opens.
 #[tactic(auto, using(crate::proofs::Keeping::same_keeps, crate::proofs::Keeping::keeps_state, crate::proofs::Keeping::keeps_on))]
 fn leave(alloc: Global, m: &mut Machine, costs: &Costs) -> Result<Step, Memory>
@@ -283,8 +319,13 @@ fn advance(
         Ok(step)
     } else {
         m.depth -= 1;
-        let step = leave(alloc, m, costs)?;
-        Ok(step)
+        match turn_again(m, costs)? {
+            Some(step) => Ok(step),
+            None => {
+                let step = leave(alloc, m, costs)?;
+                Ok(step)
+            }
+        }
     }
 }
 

@@ -5,7 +5,7 @@ ghost use Rattle.mich_forms.specs.Spelled.{address_bytes};
 ghost use Rattle.mich_stack.specs.Views.{Sight, seen};
 ghost use Rattle.mich_frames.specs.Shapes.{HasTop, HasTruth, HasOption, HasUnion, HasList};
 ghost use Rattle.mich_interpreter.specs.View.{tops};
-ghost use Rattle.mich_interpreter.specs.Parts.{HasAddress, is_left_top, is_none_top, is_cons_top, opened};
+ghost use Rattle.mich_interpreter.specs.Parts.{HasAddress, is_true_top, is_left_top, is_none_top, is_cons_top, opened};
 
 use crate::items::split_list;
 use mich_base::{Memory, Rows};
@@ -38,6 +38,17 @@ pub(crate) fn pop_truth(stack: &mut Rows<Value>) -> bool
 {
     match stack.pop() {
         Some(Value::Bool(b)) => b,
+        _ => unreachable!(),
+    }
+}
+
+// The truth value on top.
+pub(crate) fn is_true(stack: &Rows<Value>) -> bool
+    requires { (big : Sight) × HasTruth (tops big stack.now) }
+    ensures { (big : Sight) → is_true_top (tops big stack.now) ≡ result }
+{
+    match stack.as_slice().last() {
+        Some(Value::Bool(b)) => *b,
         _ => unreachable!(),
     }
 }

@@ -3,8 +3,8 @@ use Rattle.mich_base.specs.View.{tree}
 use Rattle.mich_interpreter.proofs.Pushed.{pushed_is, simple_is}
 use Rattle.mich_interpreter.proofs.giving.literal_value.Goals as goal
 
-pub returns-in_ok-value : goal.returns-in_ok-value
-returns-in_ok-value c = λ big at.
+pub returns-in-Some : goal.returns-in-Some
+returns-in-Some c = λ big at.
     simple_is c.in-Some.simple (kind c.args.ty.now) (tree c.args.literal.now) c.in_ok-value.value c.in-Some.ensures c.requires c.in_ok-value.ensures.value c.in_ok-value.ensures.simple big at
 
 pub returns-in-Ok : goal.returns-in-Ok
