@@ -77,7 +77,7 @@ pub fn bare(alloc: Global, name: &[u8]) -> Result<Node, Memory>
 pub fn over_one(alloc: Global, name: &[u8], part: Node) -> Result<Node, Memory>
     ensures { IfOk result (λ n. tree n ≡ named name.now (more (tree part) none)) }
 {
-    let mut args = Rows::new(alloc);
+    let mut args = Rows::with_capacity(alloc, 1)?;
     args.push(part)?;
     application(alloc, name, args)
 }
@@ -86,7 +86,7 @@ pub fn over_one(alloc: Global, name: &[u8], part: Node) -> Result<Node, Memory>
 pub fn over_two(alloc: Global, name: &[u8], first: Node, second: Node) -> Result<Node, Memory>
     ensures { IfOk result (λ n. tree n ≡ named name.now (more (tree first) (more (tree second) none))) }
 {
-    let mut args = Rows::new(alloc);
+    let mut args = Rows::with_capacity(alloc, 2)?;
     args.push(first)?;
     args.push(second)?;
     application(alloc, name, args)
