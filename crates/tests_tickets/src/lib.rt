@@ -2,4 +2,10 @@
 #![tactic(auto)]
 
 #[cfg(test)]
+mod carried;
+#[cfg(test)]
+mod joined;
+#[cfg(test)]
+mod samples;
+#[cfg(test)]
 mod tests;
