@@ -4,8 +4,6 @@
 #[cfg(test)]
 mod carried;
 #[cfg(test)]
-mod joined;
-#[cfg(test)]
 mod samples;
 #[cfg(test)]
 mod tests;
