@@ -17,4 +17,5 @@ pub mod Remaining
 pub mod Settled
 pub mod Standing
 pub mod Staying
+pub mod Weaving
 pub mod Written

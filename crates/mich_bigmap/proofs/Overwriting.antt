@@ -25,14 +25,6 @@ use Rattle.mich_bigmap.proofs.Meaning.{changed_with}
 use Rattle.mich_bigmap.proofs.Putting.{written_last, puts_make, put_keys, put_pairs_for}
 use Rattle.mich_bigmap.proofs.Settled.{extends_trans}
 
--- the last change is written first, into the changes below
-pub merged_last : (all cs under more : Changes) (k : Datum) (c : Option Value) → all ≡ cs ++ (k, c) ∷ [] → more ≡ with k c under
-    → (bs : Bases) (o : Option ℕ) → changed (seen cs) (changed (seen more) (entries_in bs o))
-    ≡ changed (seen all) (changed (seen under) (entries_in bs o))
-merged_last all cs under more k c e n bs o =
-    written_last all cs k c (changed (seen under) (entries_in bs o)) (changed (seen more) (entries_in bs o)) e
-    (ap (λ (ds : Changes). changed (seen ds) (entries_in bs o)) n ∙ changed_with bs o k c under)
-
 -- ---- tickets
 
 none_of : (xs ys : List Held) → xs ++ ys ≡ [] → (xs ≡ []) × (ys ≡ [])
@@ -42,20 +34,13 @@ none_of (x ∷ xs) ys h = cc
 no_more : (xs ys : List Held) → xs ≡ [] → ys ≡ [] → xs ++ ys ≡ []
 no_more xs ys h k = (λ i. h i ++ k i)
 
-parted : (k : Datum) (c : Option Value) (cs : Changes) → Bare ((k, c) ∷ cs) → Bare ((k, c) ∷ []) × Bare cs
+pub parted : (k : Datum) (c : Option Value) (cs : Changes) → Bare ((k, c) ∷ cs) → Bare ((k, c) ∷ []) × Bare cs
 parted k None cs h = (refl, h)
 parted k (Some v) cs h = let p = none_of (tickets (val v)) (pair_tickets (put_pairs cs)) h in (no_more (tickets (val v)) [] p.0 refl, p.1)
 
 joined : (k j : Datum) (c : Option Value) (cs : Changes) → Bare ((k, c) ∷ []) → Bare cs → Bare ((j, c) ∷ cs)
 joined k j None cs h r = r
 joined k j (Some v) cs h r = no_more (tickets (val v)) (pair_tickets (put_pairs cs)) (none_of (tickets (val v)) [] h).0 r
-
-pub bare_last : (cs : Changes) (k : Datum) (c : Option Value) → Bare (cs ++ (k, c) ∷ []) → Bare cs × Bare ((k, c) ∷ [])
-bare_last [] k c h = (refl, h)
-bare_last (d ∷ cs) k c h =
-    let p = parted d.0 d.1 (cs ++ (k, c) ∷ []) h in
-    let r = bare_last cs k c p.1 in
-    (joined d.0 d.0 d.1 cs p.0 r.0, r.1)
 
 pub bare_with : (k : Datum) (c : Option Value) (cs : Changes) → Bare ((k, c) ∷ []) → Bare cs → Bare (with k c cs)
 bare_with k c [] h b = h
@@ -110,16 +95,7 @@ pub handed_there : (r : Answer) (rest bs : Bases) → Extends rest bs → IfOk r
 handed_there (Ok a) rest bs x t = x.there a.0 t
 handed_there (Err m) rest bs x t = tt
 
--- ---- changes that are written over nothing, and others over them
-
-pub merged_twice : (start copies lower upper one two : Changes) → start ≡ [] → copies ≡ lower
-    → AreMerged start copies one → AreMerged one upper two → AreMerged lower upper two
-merged_twice start copies lower upper one two s c p q bs o =
-    q bs o ∙ ap (changed (seen upper)) (p bs o ∙ (λ i. changed (seen (c i)) (changed (seen (s i)) (entries_in bs o))))
-
-pub bare_twice : (start copies lower upper one two : Changes) → start ≡ [] → copies ≡ lower
-    → (Bare start → Bare copies → Bare one) → (Bare one → Bare upper → Bare two) → Bare lower → Bare upper → Bare two
-bare_twice start copies lower upper one two s c p q h t = q (p (subst Bare (sym s) refl) (subst Bare (sym c) h)) t
+-- ---- changes as an answer
 
 pub made_merged : (r : Result Changes Memory) (lower upper all : Changes) → IfOk r (λ cs. cs ≡ all)
     → AreMerged lower upper all → IfOk r (λ cs. AreMerged lower upper cs)

@@ -15,18 +15,26 @@ use mich_base::{Memory, Rows};
 use mich_term::{Datum, Table, Value, copy_datum, maps, shadow};
 use std::alloc::Global;
 
+// An equal change. Memory where there is no room for it.
+pub(crate) fn copy_change(alloc: Global, change: &Change) -> Result<Change, Memory>
+    ensures { IfOk result (λ c. c ≡ change.now) }
+{
+    let (key, value) = change;
+    let new_key = copy_datum(alloc, key)?;
+    let new_value = match value {
+        Some(value) => Some(shadow(alloc, value)?),
+        None => None,
+    };
+    Ok((new_key, new_value))
+}
+
 // Equal changes. Memory where there is no room for them.
 pub(crate) fn copy_changes(alloc: Global, changes: &Rows<Change>) -> Result<Rows<Change>, Memory>
     ensures { IfOk result (λ cs. cs ≡ changes.now) }
 {
-    let mut copies = Rows::new(alloc);
-    for (key, change) in changes.as_slice() {
-        let new_key = copy_datum(alloc, key)?;
-        let new_change = match change {
-            Some(value) => Some(shadow(alloc, value)?),
-            None => None,
-        };
-        copies.push((new_key, new_change))?;
+    let mut copies = Rows::with_capacity(alloc, changes.len())?;
+    for change in changes.as_slice() {
+        copies.push(copy_change(alloc, change)?)?;
     }
     Ok(copies)
 }
@@ -88,8 +96,7 @@ pub(crate) fn puts_of(alloc: Global, entries: Table<Value>) -> Result<Rows<Chang
     ensures changes { IfOk result (λ cs. cs ≡ puts_for entries) }
     ensures increasing { IsIncreasing (keys_of entries) }
 {
-    let _count = entries.len();
-    let mut changes = Rows::new(alloc);
+    let mut changes = Rows::with_capacity(alloc, entries.len())?;
     for (key, value) in entries.into_entries() {
         changes.push((key, Some(value)))?;
     }

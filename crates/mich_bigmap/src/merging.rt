@@ -1,5 +1,5 @@
 // Changes that are merged with those of the bases below them.
-ghost use Rattle.std.specs.Prelude.{◌≡◌, true, IfOk, OnOk};
+ghost use Rattle.std.specs.Prelude.{◌≡◌, true, IfOk};
 ghost use Rattle.std.specs.Map.{keys_of};
 ghost use Rattle.rules_values.specs.Val.{no_pair};
 ghost use Rattle.rules_bigmap.specs.Changes.{changed};
@@ -7,41 +7,62 @@ ghost use Rattle.mich_term.specs.Keyed.{IsIncreasing};
 ghost use Rattle.mich_term.specs.ValueView.{put_pairs};
 ghost use Rattle.mich_bigmap.specs.Bases.{seen};
 ghost use Rattle.mich_bigmap.specs.Formed.{is_there};
-ghost use Rattle.mich_bigmap.specs.Merged.{AreMerged, Bare, entries_over};
+ghost use Rattle.mich_bigmap.specs.Merged.{AreMerged, Bare, Passes, all_with, entries_over};
 ghost use Rattle.mich_bigmap.specs.Stacked.{AreLayers, bases_of};
 ghost use Rattle.mich_bigmap.specs.Ticketless.{HoldNoTickets};
 
-use crate::flattening::{apply, copy_changes, puts_of};
+use crate::flattening::{apply, copy_change, puts_of};
 use crate::layers::{Layer, below};
 use crate::overlay::Change;
 use mich_base::{Memory, Rows};
-use mich_term::{Table, Value};
+use mich_term::{Datum, Table, compare};
 use std::alloc::Global;
+use std::cmp::Ordering;
 
-// Writes changes over others. Memory where there is no room for them.
-fn overwrite(under: &mut Table<Option<Value>>, changes: Rows<Change>) -> Result<(), Memory>
-    ensures merged { OnOk result (AreMerged under.old changes under.new) }
-    ensures ticketless { OnOk result (Bare under.old → Bare changes → Bare under.new) }
+// Copies the lower changes whose keys are below this one, and gives those behind them, without the one at the key. Memory where there
+// is no room for them.
+fn copy_below<'a>(
+    alloc: Global,
+    lower: &'a [Change],
+    key: &Datum,
+    all: &mut Rows<Change>,
+) -> Result<&'a [Change], Memory>
+    requires { IsIncreasing (keys_of lower.now) }
+    ensures merged { IfOk result (λ left. Passes key.now lower.now left.now all.old all.new) }
+    ensures increasing { IfOk result (λ left. IsIncreasing (keys_of left.now)) }
 {
-    let mut left = changes;
-    'over: while let Some((key, change)) = left.pop() {
-        let old = under.insert(key, change)?;
-        drop(old);
+    let mut left = lower;
+    'below: while let Some((first, rest)) = left.split_first() {
+        match compare(&first.0, key) {
+            Ordering::Less => {
+                all.push(copy_change(alloc, first)?)?;
+                left = rest;
+            }
+            Ordering::Equal => return Ok(rest),
+            Ordering::Greater => return Ok(left),
+        }
     }
-    Ok(())
+    Ok(left)
 }
 
-// The changes of a table. Memory where there is no room for them.
-fn rows_of(alloc: Global, table: Table<Option<Value>>) -> Result<Rows<Change>, Memory>
-    ensures same { IfOk result (λ cs. cs ≡ table) }
-    ensures increasing { IsIncreasing (keys_of table) }
+// Changes written over the lower ones, key by key. Memory where there is no room for them.
+fn woven(alloc: Global, lower: &Rows<Change>, changes: Rows<Change>) -> Result<Rows<Change>, Memory>
+    requires lower { IsIncreasing (keys_of lower.now) }
+    requires upper { IsIncreasing (keys_of changes) }
+    ensures { IfOk result (λ cs. cs ≡ all_with changes lower.now) }
 {
-    let _count = table.len();
-    let mut changes = Rows::new(alloc);
-    for (key, change) in table.into_entries() {
-        changes.push((key, change))?;
+    let room = lower.len().saturating_add(changes.len());
+    let mut all = Rows::with_capacity(alloc, room)?;
+    let mut left = lower.as_slice();
+    for (key, change) in changes.into_vec() {
+        left = copy_below(alloc, left, &key, &mut all)?;
+        all.push((key, change))?;
     }
-    Ok(changes)
+    'rest: while let Some((first, rest)) = left.split_first() {
+        all.push(copy_change(alloc, first)?)?;
+        left = rest;
+    }
+    Ok(all)
 }
 
 // What changes make of those below them. Memory where there is no room for it.
@@ -50,15 +71,13 @@ fn overwritten(
     lower: &Rows<Change>,
     changes: Rows<Change>,
 ) -> Result<Rows<Change>, Memory>
+    requires lower { IsIncreasing (keys_of lower.now) }
+    requires upper { IsIncreasing (keys_of changes) }
     ensures merged { IfOk result (λ cs. AreMerged lower.now changes cs) }
     ensures increasing { IfOk result (λ cs. IsIncreasing (keys_of cs)) }
     ensures ticketless { IfOk result (λ cs. Bare lower.now → Bare changes → Bare cs) }
 {
-    let copies = copy_changes(alloc, lower)?;
-    let mut all = Table::new(alloc);
-    overwrite(&mut all, copies)?;
-    overwrite(&mut all, changes)?;
-    rows_of(alloc, all)
+    woven(alloc, lower, changes)
 }
 
 // Changes over nothing as changes that only put. Memory where there is no room for them.
@@ -72,8 +91,8 @@ fn alone(alloc: Global, changes: Rows<Change>) -> Result<Rows<Change>, Memory>
     puts_of(alloc, entries)
 }
 
-// Changes over a base, merged with its own where it doesn't hold at least twice as many, and so on downwards; and the base that
-// they are over then. Memory where there is no room for them.
+// Changes over a base, merged with its own where it doesn't hold at least four times as many, and so on downwards; and the base
+// that they are over then. Memory where there is no room for them.
 pub(crate) fn merged(
     alloc: Global,
     layers: &[Layer],
@@ -93,7 +112,7 @@ pub(crate) fn merged(
     let Some((layer, rest)) = below(layers, number) else {
         return Ok((None, alone(alloc, changes)?));
     };
-    if layer.changes.len() / 2 >= changes.len() {
+    if layer.changes.len() / 4 >= changes.len() {
         return Ok((base, changes));
     }
     let all = overwritten(alloc, &layer.changes, changes)?;

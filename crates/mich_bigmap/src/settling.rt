@@ -20,7 +20,7 @@ use mich_base::{Memory, Rows};
 use mich_term::BigMap;
 use std::alloc::Global;
 
-// Puts changes into the store as a base over another, merged with those that it would be over and that don't hold at least twice as many.
+// Puts changes into the store as a base over another, merged with those that it would be over and that don't hold at least four times as many.
 #[tactic(auto, using(mich_undo::proofs::Histories::keeps_same, crate::proofs::Extending::extends_same))]
 fn lay(
     alloc: Global,

@@ -11,8 +11,7 @@ use std::alloc::Global;
 pub fn node_line(alloc: Global, node: &Node) -> Result<Text, Memory>
     ensures { IfOk result (λ written. written ≡ line (tree node.now)) }
 {
-    let text = print(alloc, node)?;
-    let mut line = text.as_slice().to_vec(alloc)?;
+    let mut line = print(alloc, node)?.into_vec();
     line.push(b'\n')?;
     Ok(Text::from_vec(line))
 }
