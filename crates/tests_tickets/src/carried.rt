@@ -7,7 +7,7 @@ ghost use Rattle.mich_term.specs.ValueView.{val};
 ghost use Rattle.mich_tickets.specs.Carrying.{MayLeave};
 ghost use Rattle.mich_tickets.specs.Sums.{held_of};
 
-use crate::samples::{account, identity};
+use crate::samples::{account, identity, undo};
 use mich_base::{Link, Memory};
 use mich_forms::Place;
 use mich_term::{Ticket, Value};
@@ -76,13 +76,6 @@ fn held_of_both(ledger: &Ledger) -> (i128, i128) {
         ledger.balance(&identity(7), account(1)),
         ledger.balance(&identity(7), account(2)),
     )
-}
-
-// Takes all writes past a height back, where it is that high.
-fn undo(ledger: &mut Ledger, height: u64) {
-    if height <= ledger.height() {
-        ledger.undo_to(height);
-    }
 }
 
 #[test]

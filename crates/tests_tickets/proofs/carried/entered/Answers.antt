@@ -1,4 +1,4 @@
-use Rattle.std.proofs.Common.{◌≡◌, ℕ, ℤ, Bool, true, false, List, [], ◌∷◌, refl, sym, ap, subst, arith}
+use Rattle.std.proofs.Common.{◌≡◌, ℕ, Bool, true, false, List, [], ◌∷◌, refl, sym, ap, subst, arith}
 use Rattle.std.specs.Prelude.{pos, ◌+ℤ◌, ◌≤ℤ◌, if◌then◌else◌}
 use Rattle.std.specs.Str.{bytes_eq}
 use Rattle.std.proofs.lemmas.Int.{ints}
@@ -9,7 +9,6 @@ use Rattle.mich_term.specs.TicketView.{held}
 use Rattle.mich_term.specs.declared.ticket.Ticket.{Ticket}
 use Rattle.mich_tickets.specs.Books.{Books}
 use Rattle.mich_tickets.specs.Carrying.{MayEnter, Enters, MayLeave}
-use Rattle.mich_tickets.specs.Most.{most}
 use Rattle.mich_tickets.specs.Sums.{held_of}
 use Rattle.tests_tickets.proofs.carried.entered.Goals as goal
 
