@@ -1,15 +1,14 @@
 -- What the order of tickets holds for equal is equal, where contents are of comparable types.
-use Rattle.std.proofs.Common.{◌≡◌, refl, ap, ◌∙◌, true, false, ◌&&◌, Bool, List, [], ◌∷◌}
+use Rattle.std.proofs.Common.{◌≡◌, refl, ap, ◌∙◌, true, List, [], ◌∷◌}
 use Rattle.std.specs.Prelude.{ℤ}
 use Rattle.std.specs.List.{AllByRecursion}
-use Rattle.std.specs.declared.cmp.Ordering.{Ordering}
-use Rattle.std.specs.declared.cmp.Ordering.TheVariants.{Less, Equal, Greater}
-use Rattle.std.specs.Ordering.{nat_cmp, ordering_then}
+use Rattle.std.specs.declared.cmp.Ordering.TheVariants.{Equal}
+use Rattle.std.specs.Ordering.{nat_cmp}
 use Rattle.std.proofs.lemmas.Map.Lookups.{exact_signed, exact_bytes}
 use Rattle.rules_types.specs.Kind.{Kind}
 use Rattle.rules_types.specs.Printing.{node_of}
 use Rattle.rules_text.specs.Printed.{printed}
-use Rattle.rules_values.specs.Order.{order, truth_order, form}
+use Rattle.rules_values.specs.Order.{order, form}
 use Rattle.rules_values.specs.Tickets.{Identity}
 use Rattle.rules_values.specs.Val.{Val, unit, truth, number, text, bytes, nothing, some, left, right, both, list, set, table, big_table, lambda, operation, ticket, is_comparable}
 use Rattle.rules_world.specs.World.{identity_order, kind_order}
