@@ -1,31 +1,13 @@
 // What no clause says: that the calls answer with ample memory. Mints, burns, splits, joins, holdings and undoing.
 ghost use Rattle.std.specs.Prelude.{pos, ◌≤ℤ◌};
 
-use mich_base::{Memory, Ty};
-use mich_forms::{KeyHash, Place};
-use mich_term::{Change, Datum, Ticket, TicketId};
+use crate::samples::{account, identity};
+use mich_base::Memory;
+use mich_forms::Place;
+use mich_term::{Change, Ticket};
 use mich_tickets::{DebitError, Ledger, MintError};
 use std::alloc::Global;
 use std::test::Fail;
-
-fn issuer() -> Place {
-    Place::Contract([7; 20])
-}
-
-fn account(last: u8) -> Place {
-    let mut hash = [0; 20];
-    hash[19] = last;
-    Place::Implicit(KeyHash { tag: 0, hash })
-}
-
-// A ticket's identity: nat content.
-fn identity(content: i128) -> TicketId {
-    TicketId {
-        issuer: issuer(),
-        ty: Ty::Nat,
-        content: Datum::Number(content),
-    }
-}
 
 // So many tickets of content 7, which there is room for.
 fn minted(alloc: Global, ledger: &mut Ledger, n: i128) -> Result<Option<Ticket>, Memory>
