@@ -4,6 +4,8 @@
 #[cfg(test)]
 mod carried;
 #[cfg(test)]
+mod joined;
+#[cfg(test)]
 mod samples;
 #[cfg(test)]
 mod tests;
