@@ -23,7 +23,7 @@ use Rattle.laws_stacks.specs.Sound.{seen, total, Sound, KeepsFrom, SafeRun}
 use Rattle.laws_amounts.proofs.Sums.{among_append}
 use Rattle.laws_stacks.proofs.Amounts.{on-append, positive}
 use Rattle.laws_stacks.proofs.Nothing.{no_amount_compared}
-use Rattle.laws_accounts.proofs.More.{Knows, fits_more}
+use Rattle.laws_stacks.proofs.Grow.{Knows, fits_grow}
 use Rattle.laws_stacks.proofs.Kept.{knows_grow, sound_after, after_still, keeps_from, keeps_ends, keeps_end}
 use Rattle.laws_stacks.proofs.Paid.{sound_pop, keeps_charge}
 use Rattle.laws_stacks.proofs.Parts.{type_list, type_element, type_entry}
@@ -42,7 +42,7 @@ each_positive id w a (x ∷ xs) h =
 
 pub each_grow : (w u : Known) → Knows w u → (a : Kind) (xs : List Val) → Each w a xs → Each u a xs
 each_grow w u g a [] h = tt
-each_grow w u g a (x ∷ xs) h = (fits_more w u g a x h.0, each_grow w u g a xs h.1)
+each_grow w u g a (x ∷ xs) h = (fits_grow w u g a x h.0, each_grow w u g a xs h.1)
 
 pub each_last : (w : Known) (a : Kind) (xs : List Val) (y : Val) → Each w a xs → Fits w a y → Each w a (xs ++ y ∷ [])
 each_last w a [] y h i = (i, tt)

@@ -26,7 +26,7 @@ use Rattle.laws_evaluation.specs.Laws.{known, IsType, IsGood, amount_on}
 use Rattle.laws_stacks.specs.Sound.{seen, total, Sound, KeepsFrom, SafeRun}
 use Rattle.laws_amounts.proofs.Sums.{among_append}
 use Rattle.laws_stacks.proofs.Amounts.{on-append}
-use Rattle.laws_accounts.proofs.More.{fits_more}
+use Rattle.laws_stacks.proofs.Grow.{fits_grow}
 use Rattle.laws_types.proofs.SameKinds.{same_kinds_true}
 use Rattle.laws_stacks.proofs.Kept.{knows_grow, keeps_from}
 use Rattle.laws_stacks.proofs.Paid.{sound_pop, keeps_charge}
@@ -155,7 +155,7 @@ module _ (at : ℕ) (b : Typer) (r : Run) (sr : SafeRun (λ c A. shift at (b c A
       Makes (seen e) is (length (entries es)) z (k.map a z) (rebuilt (v.table es))
   makes_table is a c es z f = record {
     fits = λ js grow ys n h.
-        let g : Fits (known e.contract_at js) (k.map a c) (v.table es) = fits_more (known e.contract_at is)
+        let g : Fits (known e.contract_at js) (k.map a c) (v.table es) = fits_grow (known e.contract_at is)
         (known e.contract_at js) (knows_grow (seen e) is js grow) (k.map a c) (v.table es) f in
         (values_fit (known e.contract_at js) a c z es ys g.0 h, values_increase es ys g.1);
     amounts = λ js ys n h id. values_amount id (known e.contract_at js) z es ys h;

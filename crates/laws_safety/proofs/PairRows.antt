@@ -30,8 +30,7 @@ use Rattle.laws_steps.proofs.Steps.{quiet_none, quiet_burns, RowStep, StepFits}
 use Rattle.std.specs.List.{All}
 use Rattle.std.proofs.lemmas.List.Elements.{All-nil, All-append}
 use Rattle.rules_world.specs.Forms.{IsTicket}
-use Rattle.laws_accounts.proofs.Amounts.{tickets_good}
-use Rattle.laws_stacks.proofs.Wells.{one_good}
+use Rattle.laws_stacks.proofs.Wells.{tickets_good, one_good}
 
 -- ---- combs
 

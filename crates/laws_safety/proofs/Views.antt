@@ -37,8 +37,7 @@ use Rattle.laws_types.proofs.SameKinds.{same_kind_true, same_kinds_true}
 use Rattle.laws_amounts.proofs.Sums.{among_append}
 use Rattle.laws_stacks.proofs.Amounts.{positive}
 use Rattle.laws_stacks.proofs.Nothing.{no_amount, packable_duplicable}
-use Rattle.laws_accounts.proofs.More.{Knows, fits_more}
-use Rattle.laws_stacks.proofs.Grow.{fits_packed}
+use Rattle.laws_stacks.proofs.Grow.{Knows, fits_grow, fits_packed}
 use Rattle.laws_stacks.proofs.Kept.{keeps_apart}
 use Rattle.laws_steps.proofs.Steps.{quiet_burns, finish_keeps}
 use Rattle.laws_typed.proofs.Carried.{FoundHas}
@@ -48,7 +47,7 @@ use Rattle.laws_stacks.proofs.Addresses.{address_place}
 use Rattle.laws_safety.proofs.Rows.{ViewsKeep}
 use Rattle.laws_control.proofs.Safe.{SafeNodes}
 use Rattle.laws_typed.proofs.ViewBodies.{TypedGood, AllTyped, OutlineGood, outline_good, AllTried, all_tried}
-use Rattle.laws_accounts.proofs.Amounts.{tickets_good}
+use Rattle.laws_stacks.proofs.Wells.{tickets_good}
 
 -- ---- what a view that is there is
 
@@ -218,7 +217,7 @@ module _ (q : Tree → Run) (sq : SafeNodes q) (e : Surroundings) (d : ℕ) (m :
       let K : Known = known e.contract_at m.issued in
       let none_known : Knows (known e.contract_at []) K = record { contracts = λ c r h. h; issued = λ n h. absurd cc } in
       let stored : Fits K w.storage w.contract.storage = subst (λ z. Fits K z w.contract.storage) s.stored
-      (fits_more (known e.contract_at []) K none_known s.good.reading.storage w.contract.storage s.good.fits) in
+      (fits_grow (known e.contract_at []) K none_known s.good.reading.storage w.contract.storage s.good.fits) in
       let begins : Sound (seen e) m.issued m.changes (k.pair a w.storage ∷ []) (v.both x w.contract.storage ∷ []) = record {
         types = (s.whole, tt);
         fit = ((so.fit.0, stored), tt);

@@ -11,7 +11,7 @@ use Rattle.rules_steps.specs.Changes.{amount_in}
 use Rattle.laws_evaluation.specs.Laws.{amount_on}
 use Rattle.laws_stacks.specs.Sound.{AllTypes}
 use Rattle.laws_stacks.proofs.Amounts.{positive}
-use Rattle.laws_accounts.proofs.More.{Knows, fits_more}
+use Rattle.laws_stacks.proofs.Grow.{Knows, fits_grow}
 use Rattle.laws_control.proofs.Items.{Each}
 
 pub take_fit : (w : Known) (n : ℕ) (A : List Kind) (V : List Val) → AllFit w A V → AllFit w (take n A) (take n V)
@@ -42,7 +42,7 @@ of_each w a (x ∷ xs) h = (h.0, of_each w a xs h.1)
 
 pub all_one_grow : (w u : Known) → Knows w u → (a : Kind) (xs : List Val) → AllByRecursion (Fits w a) xs → AllByRecursion (Fits u a) xs
 all_one_grow w u g a [] h = tt
-all_one_grow w u g a (x ∷ xs) h = (fits_more w u g a x h.0, all_one_grow w u g a xs h.1)
+all_one_grow w u g a (x ∷ xs) h = (fits_grow w u g a x h.0, all_one_grow w u g a xs h.1)
 
 pub all_one_last : (w : Known) (a : Kind) (xs : List Val) (y : Val) → AllByRecursion (Fits w a) xs → Fits w a y → AllByRecursion (Fits w a) (xs ++ y ∷ [])
 all_one_last w a [] y h i = (i, tt)

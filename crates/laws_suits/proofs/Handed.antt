@@ -17,7 +17,7 @@ use Rattle.laws_amounts.proofs.Sums.{among_append}
 use Rattle.laws_evaluation.specs.Laws.{known, amount_on, amount_issued}
 use Rattle.laws_stacks.specs.Sound.{IsSoundIssue}
 use Rattle.laws_stacks.proofs.Amounts.{on_positive}
-use Rattle.laws_accounts.proofs.Amounts.{tickets_good}
+use Rattle.laws_stacks.proofs.Wells.{tickets_good}
 use Rattle.mich_tickets.specs.Books.{Books}
 use Rattle.mich_tickets.specs.Sums.{minted_of, burnt_of}
 use Rattle.mich_tickets.specs.Limits.{IsPositive, IsReady}

@@ -10,3 +10,6 @@ mod error;
 pub use begun::begin;
 pub use course::Course;
 pub use error::CourseError;
+
+#[cfg(test)]
+mod tests;

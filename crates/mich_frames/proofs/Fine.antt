@@ -28,8 +28,7 @@ use Rattle.laws_evaluation.specs.Laws.{known, IsCharged, IsType, IsGood, amount_
 use Rattle.laws_amounts.proofs.Sums.{among_append}
 use Rattle.laws_stacks.specs.Sound.{seen, AllTypes, Sound}
 use Rattle.laws_stacks.proofs.Amounts.{on-append, on_positive, positive}
-use Rattle.laws_accounts.proofs.More.{Knows, fits_more}
-use Rattle.laws_stacks.proofs.Grow.{fits_packed, all_grow}
+use Rattle.laws_stacks.proofs.Grow.{Knows, fits_grow, fits_packed, all_grow}
 use Rattle.laws_stacks.proofs.Kept.{fit-append, knows_grow}
 use Rattle.laws_stacks.proofs.Nothing.{no_amount, no_amount_compared, packable_duplicable}
 use Rattle.laws_stacks.proofs.Parts.{type_list, type_element, type_entry, type_option}
@@ -78,7 +77,7 @@ mapping_grows w u g m left ys xs h = record {
   item = h.item;
   whole = h.whole;
   origin = h.origin;
-  fits = fits_more w u g m.collection h.origin h.fits;
+  fits = fits_grow w u g m.collection h.origin h.fits;
   count = h.count;
   alike = h.alike;
   results = all_one_grow w u g m.result ys h.results;
@@ -385,7 +384,7 @@ in_view {u = u} {c = c} {ps = ps} {a = a} {A = A} {x = x} {address = address} {W
     let K : Known = known u.contract_at is in
     let storage : Val = seen_view.contract.storage in
     let fresh : Knows (known u.contract_at []) K = record { contracts = λ c r h. h; issued = λ n h. absurd cc } in
-    let stored : Fits K seen_view.storage storage = subst (λ z. Fits K z storage) s.stored (fits_more (known u.contract_at []) K fresh s.good.reading.storage storage s.good.fits) in
+    let stored : Fits K seen_view.storage storage = subst (λ z. Fits K z storage) s.stored (fits_grow (known u.contract_at []) K fresh s.good.reading.storage storage s.good.fits) in
     let no_tickets : (id : Identity) → amount_in id x ≡ pos 0 = λ id. no_amount id K a x (packable_duplicable a s.packs) h.fits.0 in
     record {
       good = good_in_view (at u c) h.good a b seen_view s;

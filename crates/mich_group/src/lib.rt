@@ -10,3 +10,6 @@ mod tree;
 mod waiting;
 
 pub use group::apply_group;
+
+#[cfg(test)]
+mod tests;

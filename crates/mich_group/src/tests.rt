@@ -10,10 +10,10 @@ ghost use Rattle.mich_ops.specs.View.{contents as contents_of};
 ghost use Rattle.mich_scenario.specs.View.{said};
 ghost use Rattle.mich_world.specs.Standing.{StandsFor};
 
+use crate::apply_group;
 use mich_base::size_within;
 use mich_forms::{ChainId, KeyHash, Place};
 use mich_gas::Costs;
-use mich_group::apply_group;
 use mich_machine::Bodies;
 use mich_ops::{Failure, Group, GroupReceipt, Status};
 use mich_scenario::{Statement, take_form};

@@ -5,8 +5,8 @@ ghost use Rattle.rules_course.specs.Ranges.{IsStatement};
 ghost use Rattle.mich_scenario.specs.View.{said};
 ghost use Rattle.mich_course.specs.Following.{Follows};
 
+use crate::{Course, begin};
 use mich_base::size_within;
-use mich_course::{Course, begin};
 use mich_machine::Bodies;
 use mich_scenario::{Statement, take_form};
 use mich_text::read_statement;

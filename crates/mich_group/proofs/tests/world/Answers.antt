@@ -18,7 +18,7 @@ use Rattle.mich_world.specs.Storages.{IsStored}
 use Rattle.mich_world.specs.World.{World, no_world, with_funds}
 use Rattle.mich_world.specs.declared.contract.Contract.{Contract}
 use Rattle.mich_world.specs.declared.errors.GrantError.{GrantError}
-use Rattle.tests_group.proofs.tests.world.Goals as goal
+use Rattle.mich_group.proofs.tests.world.Goals as goal
 
 -- a world of the code stands for a good one, of which no group made a contract
 abbrev IsBegun : World → Type 0

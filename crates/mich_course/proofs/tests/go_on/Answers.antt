@@ -5,7 +5,7 @@ use Rattle.mich_ops.specs.declared.receipt.GroupReceipt.{GroupReceipt}
 use Rattle.mich_scenario.specs.View.{said}
 use Rattle.mich_course.specs.Following.{Follows, Goes}
 use Rattle.mich_course.specs.declared.course.Course.{Course}
-use Rattle.tests_course.proofs.tests.go_on.Goals as goal
+use Rattle.mich_course.proofs.tests.go_on.Goals as goal
 
 -- a course that went on follows one of the rules
 followed : (step : Step) (c : Course) (r : Option GroupReceipt) → Goes step c (Ok r) → (p : PlainCourse) × Follows c p

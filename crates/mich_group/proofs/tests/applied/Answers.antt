@@ -1,7 +1,7 @@
 use Rattle.std.proofs.Common.{refl, subst, sym, arith}
 use Rattle.laws_course.proofs.Charged.{nothing_charged}
 use Rattle.laws_evaluation.specs.Laws.{IsCharged}
-use Rattle.tests_group.proofs.tests.applied.Goals as goal
+use Rattle.mich_group.proofs.tests.applied.Goals as goal
 
 pub apply_group-requires-clause-good : goal.apply_group-requires-clause-good
 apply_group-requires-clause-good c =

@@ -3,7 +3,7 @@ use Rattle.rules_base.specs.Tree.{size}
 use Rattle.laws_course.proofs.Fields.{statements_have_ranges}
 use Rattle.mich_base.specs.View.{tree}
 use Rattle.mich_scenario.specs.View.{said}
-use Rattle.tests_course.proofs.tests.statement.Goals as goal
+use Rattle.mich_group.proofs.tests.statement.Goals as goal
 
 pub returns-in-Ok : goal.returns-in-Ok
 returns-in-Ok c =

@@ -1,8 +1,8 @@
 // Workloads: their summaries, words that are none, and writes that fail.
+use crate::mich;
 use crate::tests::{numbers, one, two};
 use mich_base::{Memory, Rows};
 use mich_io::{MemFiles, MemSink};
-use mich_replay::mich;
 use std::alloc::Global;
 use std::test::Fail;
 

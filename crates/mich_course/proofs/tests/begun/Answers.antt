@@ -3,7 +3,7 @@ use Rattle.rules_course.specs.Course.{Course as PlainCourse, Step, goes_on, stop
 use Rattle.mich_scenario.specs.View.{said}
 use Rattle.mich_course.specs.Following.{Follows, Begins}
 use Rattle.mich_course.specs.declared.course.Course.{Course}
-use Rattle.tests_course.proofs.tests.begun.Goals as goal
+use Rattle.mich_course.proofs.tests.begun.Goals as goal
 
 -- a course that was begun follows one of the rules
 followed : (step : Step) (c : Course) → Begins step (Ok c) → (p : PlainCourse) × Follows c p

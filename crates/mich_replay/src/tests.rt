@@ -3,9 +3,9 @@
 ghost use Rattle.std.specs.Prelude.{◌≡◌, IfOk, ◌∷◌, [], Some};
 ghost use Rattle.rules_io.specs.Known.{content_in};
 
+use crate::{mich, replay_bytes};
 use mich_base::{Bytes, Memory, Rows, Text, Texts};
 use mich_io::{Files, FilesFault, MemFiles, MemSink, Sink, SinkFault};
-use mich_replay::{mich, replay_bytes};
 use std::alloc::Global;
 use std::test::Fail;
 

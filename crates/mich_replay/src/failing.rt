@@ -1,13 +1,13 @@
 // Calls that fail, at each place where they can, and files that come in pieces: the status, and how much is written before.
 ghost use Rattle.std.specs.Prelude.{◌≡◌, ◌∷◌, [], IfOk};
 
+use crate::mich;
 use crate::tests::{
     SlowFiles, SlowSink, TRANSFER, call, is_answered, numbers, one, run, run_into, text, two,
 };
 use crate::worked::TOKEN;
 use mich_base::{Bytes, Memory, Rows, Text, Texts};
 use mich_io::{MemFiles, MemSink};
-use mich_replay::mich;
 use std::alloc::Global;
 use std::test::Fail;
 
