@@ -16,8 +16,8 @@ use Rattle.rules_values.specs.Tickets.{Identity}
 use Rattle.rules_instructions.specs.Same.{same_kind}
 use Rattle.rules_steps.specs.Changes.{is_alike}
 use Rattle.rules_world.specs.World.{kind_order, identity_order}
-use Rattle.laws_values.proofs.Lawful.{order_lawful}
-use Rattle.laws_types.proofs.SameKinds.{same_kind_refl, same_kind_true}
+use Rattle.laws_values.proofs.ForCallers.{order_lawful}
+use Rattle.laws_types.proofs.ForCallers.{same_kind_refl, same_kind_true}
 use Rattle.laws_accounts.proofs.KindTexts.{texts_tell_types}
 
 pub identity_total : IsTotalOrder identity_order

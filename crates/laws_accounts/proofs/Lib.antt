@@ -10,3 +10,4 @@ pub mod Mutez
 pub mod ReadKinds
 pub mod ReadLiterals
 pub mod ReadParts
+pub mod ForCallers

@@ -15,9 +15,8 @@ use Rattle.rules_world.specs.World.{World, contract_at}
 use Rattle.rules_world.specs.Arguments.{false_claim, unless_false, with_claims, literal_in}
 use Rattle.rules_world.specs.Good.{known_with, FitsIn}
 use Rattle.laws_typing.specs.Laws.{AllClaimed}
-use Rattle.laws_typing.proofs.Fit.{fit}
+use Rattle.laws_typing.proofs.ForCallers.{fit, literals_hold_no_ticket}
 use Rattle.laws_accounts.proofs.ComparedLiterals.{compared_tried}
-use Rattle.laws_typing.proofs.Forms.{literals_hold_no_ticket}
 
 -- contracts that are claimed are there, where none is missed
 claims_true : (w : World) (ps : List Pending) → false_claim w (claims ps) ≡ None → AllClaimed (known_with w []) ps

@@ -13,7 +13,7 @@ use Rattle.rules_values.specs.Order.{order}
 use Rattle.rules_values.specs.Tickets.{Identity, Held}
 use Rattle.rules_instructions.specs.Same.{same_kind}
 use Rattle.rules_steps.specs.Changes.{identity_of, is_alike, amount_of}
-use Rattle.laws_values.proofs.Lawful.{order_lawful}
+use Rattle.laws_values.proofs.ForCallers.{order_lawful}
 use Rattle.laws_agreement.proofs.Same.{same_kind_true}
 
 same_bytes : (xs ys : List ℕ) → bytes_eq xs ys ≡ true → xs ≡ ys

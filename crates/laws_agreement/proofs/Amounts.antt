@@ -10,7 +10,7 @@ use Rattle.rules_values.specs.Tickets.{Identity, Held, tickets}
 use Rattle.rules_steps.specs.Changes.{Change, minted, burnt, burns, amount_of, amount_among, amount_in, minted_in, burnt_in}
 use Rattle.rules_evaluation.specs.Operations.{Tally}
 use Rattle.rules_evaluation.specs.Outcome.{with_changes}
-use Rattle.laws_amounts.proofs.Sums.{among_append}
+use Rattle.laws_amounts.proofs.ForCallers.{among_append}
 use Rattle.laws_agreement.specs.Totals.{amount_on, amount_issued, total}
 
 pub on_append : (id : Identity) (V W : List Val) → amount_on id (V ++ W) ≡ amount_on id V +ℤ amount_on id W

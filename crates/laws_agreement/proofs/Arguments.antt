@@ -7,7 +7,7 @@ use Rattle.rules_types.specs.Kind.{Kind, nodes}
 use Rattle.rules_types.specs.Reading.{Read, good, bad, Reading, a_type, bad_type, too_large, typed, limited, type_at}
 use Rattle.rules_instructions.specs.Arguments.{Found, found, fault, and_then, no_argument, with_attribute, type_argument, one_type, two_types, count_argument, one_count, count_or}
 use Rattle.laws_types.specs.Laws.{IsWellFormed}
-use Rattle.laws_types.proofs.Again.{read_well}
+use Rattle.laws_types.proofs.ForCallers.{read_well}
 
 -- what is read has P
 abbrev pub AllFound : {A : Type 0} → (A → Type 0) → Found A → Type 0

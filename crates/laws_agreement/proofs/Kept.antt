@@ -6,7 +6,7 @@ use Rattle.rules_numbers.specs.Limits.{Limit}
 use Rattle.rules_types.specs.Kind.{Kind}
 use Rattle.rules_values.specs.Val.{Val}
 use Rattle.rules_values.specs.Tickets.{Identity, tickets}
-use Rattle.rules_instructions.specs.Change.{Change, after, makes, keeps}
+use Rattle.rules_instructions.specs.Change.{Change, after}
 use Rattle.rules_instructions.specs.Change as c
 use Rattle.rules_steps.specs.Step.{Step, done, fails, wrong, kept, discarding, on_some, where_true, within_limit}
 use Rattle.laws_agreement.specs.Agreement.{Agrees, AllAgree}
@@ -36,10 +36,6 @@ keeps_discarding B V gone W a e = (a, discard_balances V W gone e)
 pub keeps_wrong : (d : Option Change) (V : List Val) → KeepsChange d V wrong
 keeps_wrong None V = tt
 keeps_wrong (Some d) V = tt
-
-pub keeps_fails : (d : Option Change) (V : List Val) (s : Step) → ((B : List Kind) → KeepsStep B V s) → KeepsChange d V s
-keeps_fails None V s h = tt
-keeps_fails (Some d) V s h = h (after d)
 
 -- ---- tests on both sides
 

@@ -11,3 +11,4 @@ pub mod Rows
 pub mod Same
 pub mod Scripts
 pub mod Views
+pub mod ForCallers

@@ -10,7 +10,7 @@ use Rattle.rules_types.specs.declared.Simple.{Simple}
 use Rattle.rules_types.specs.declared.Simple.TheVariants as s
 use Rattle.rules_types.specs.Kind.{Kind}
 use Rattle.rules_types.specs.Kind as k
-use Rattle.rules_values.specs.Val.{Val, Vals, no_val, more_vals, Pairs, no_pair, more_pairs, is_comparable}
+use Rattle.rules_values.specs.Val.{Val, more_vals, Pairs, no_pair, more_pairs, is_comparable}
 use Rattle.rules_values.specs.Val as v
 use Rattle.rules_values.specs.Order.{order}
 use Rattle.rules_values.specs.Tickets.{tickets}

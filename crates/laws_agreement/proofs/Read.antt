@@ -6,7 +6,7 @@ use Rattle.rules_base.specs.Tree.{Tree, int, str, bytes, prim, seq, Trees, none,
 use Rattle.rules_types.specs.Kind.{Kind}
 use Rattle.rules_types.specs.Kind as k
 use Rattle.rules_types.specs.Attributes.{comparable}
-use Rattle.rules_values.specs.Val.{Val, Vals, Pairs, no_pair, more_pairs}
+use Rattle.rules_values.specs.Val.{Val, Pairs, no_pair, more_pairs}
 use Rattle.rules_values.specs.Val as v
 use Rattle.rules_values.specs.Order.{order}
 use Rattle.rules_values.specs.Tables.{AreKeysAbove, AreIncreasingKeys}
@@ -15,7 +15,7 @@ use Rattle.rules_values.specs.Forms.{AllHave, AllEntriesHave}
 use Rattle.rules_values.specs.Literals.{Word, recursive_word, word_of_name, claim, good, bad, mapped, Reader, simple_value, parts_of, read_elements, read_increasing, read_entries, read_table, read_body, recursive_named, read_lambda, read_contract, read, read_rest}
 use Rattle.laws_types.specs.Laws.{IsWellFormed}
 use Rattle.laws_agreement.specs.Agreement.{Agrees}
-use Rattle.laws_values.proofs.Lawful.{order_lawful}
+use Rattle.laws_values.proofs.ForCallers.{order_lawful}
 use Rattle.laws_agreement.proofs.Literals.{AllRead, Reads, mapped_all, simple_bare, value_all, option_all, or_all, parts_all, elements_all, increasing_all, StandBehind, entries_all}
 
 -- entries that stand behind one another have increasing keys

@@ -10,7 +10,7 @@ use Rattle.rules_steps.specs.Changes.{amount_among}
 use Rattle.rules_evaluation.specs.Operations.{Issued, operation_tickets}
 use Rattle.rules_world.specs.Runs.{stands_in, has_twice, with_issued, issued_with, unreturned}
 use Rattle.laws_agreement.specs.Totals.{amount_issued, issued_tickets, AreNumbered}
-use Rattle.laws_amounts.proofs.Sums.{among_append}
+use Rattle.laws_amounts.proofs.ForCallers.{among_append}
 
 -- an operation before others
 pub issued_cons : (id : Identity) (i : Issued) (is : List Issued) →

@@ -6,12 +6,12 @@ use Rattle.rules_base.specs.Tree.{Trees, none, more, size}
 use Rattle.rules_base.specs.declared.Primitive.{Primitive}
 use Rattle.rules_base.specs.declared.Primitive.TheVariants as p
 use Rattle.rules_forms.specs.Spelling.{default_name}
-use Rattle.rules_types.specs.Kind.{Kind, nodes}
+use Rattle.rules_types.specs.Kind.{Kind}
 use Rattle.rules_types.specs.Kind as k
 use Rattle.rules_instructions.specs.Types as t
 use Rattle.rules_types.specs.Attributes.{comparable, passable, pushable, packable, big_value}
 use Rattle.rules_types.specs.Reading.{any_kind}
-use Rattle.rules_instructions.specs.Straight.{Straight, on_stack, on_pairs, on_unions, on_collections, on_numbers, on_truth, on_text, on_hashes, on_environment, on_operations, on_tickets}
+use Rattle.rules_instructions.specs.Straight.{Straight, on_stack, on_pairs, on_unions, on_collections, on_numbers, on_truth, on_hashes, on_environment, on_operations, on_tickets}
 use Rattle.rules_instructions.specs.Straight as i
 use Rattle.rules_instructions.specs.Overloads.{Overloaded, overload}
 use Rattle.rules_instructions.specs.Overloads as o

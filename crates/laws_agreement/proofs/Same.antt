@@ -6,7 +6,7 @@ use Rattle.rules_types.specs.declared.Simple.{Simple}
 use Rattle.rules_types.specs.declared.Simple.TheVariants as s
 use Rattle.rules_types.specs.Kind.{Kind, simple, operation, option, or, pair, list, set, map, big_map, lambda, contract, ticket}
 use Rattle.rules_instructions.specs.Same.{place, same_kind, same_kinds}
-use Rattle.laws_agreement.specs.Agreement.{Agrees, AllAgree}
+use Rattle.laws_agreement.specs.Agreement.{Agrees}
 use Rattle.rules_values.specs.Val.{Val}
 
 -- the types without arguments, by their numbers
@@ -77,9 +77,6 @@ same_kinds_true _ _ h = cc
 -- a value agrees with the one as with the other
 pub same_agrees : (a b : Kind) (x : Val) → same_kind a b ≡ true → Agrees a x → Agrees b x
 same_agrees a b x h g = subst (λ c. Agrees c x) (same_kind_true a b h) g
-
-pub same_all_agree : (A B : List Kind) (V : List Val) → same_kinds A B ≡ true → AllAgree A V → AllAgree B V
-same_all_agree A B V h g = subst (λ C. AllAgree C V) (same_kinds_true A B h) g
 
 pub back_agrees : (a b : Kind) (x : Val) → same_kind a b ≡ true → Agrees b x → Agrees a x
 back_agrees a b x h g = subst (λ c. Agrees c x) (sym (same_kind_true a b h)) g

@@ -12,7 +12,7 @@ use Rattle.rules_values.specs.Tables.{value_at, with_value, without_key, AreKeys
 use Rattle.rules_values.specs.Tickets.{Identity, tickets, pair_tickets}
 use Rattle.rules_values.specs.Forms.{AllEntriesHave}
 use Rattle.rules_steps.specs.Changes.{amount_among, amount_in}
-use Rattle.laws_values.proofs.Lawful.{order_lawful}
+use Rattle.laws_values.proofs.ForCallers.{order_lawful}
 use Rattle.laws_amounts.proofs.Sums.{among_append}
 
 -- ---- increasing keys

@@ -1,5 +1,5 @@
 -- Nodes are read from their spelling.
-use Rattle.std.proofs.Common.{◌≡◌, ℕ, zero, suc, ◌+◌, ◌^◌, ◌<◌, ◌≤◌, Bool, true, false, cond, nat_lt, nat_eq, List, [], ◌∷◌, ◌++◌, length, Result, Ok, refl, sym, ap, subst, ◌∙◌, append_assoc, arith, max}
+use Rattle.std.proofs.Common.{◌≡◌, ℕ, zero, suc, ◌+◌, ◌^◌, ◌<◌, ◌≤◌, true, false, cond, nat_lt, nat_eq, List, [], ◌∷◌, ◌++◌, length, Ok, refl, sym, ap, subst, ◌∙◌, append_assoc, arith}
 use Rattle.std.specs.Prelude.{ℤ}
 use Rattle.std.specs.List.{list_all}
 use Rattle.std.proofs.lemmas.Bool.Decides.{nat_tests}
@@ -10,7 +10,7 @@ use Rattle.rules_binary.specs.declared.DecodeKind.TheVariants.{Trailing}
 use Rattle.rules_binary.specs.declared.Tag.{Tag}
 use Rattle.rules_binary.specs.declared.Tag.TheVariants as tags
 use Rattle.rules_binary.specs.Spelling.{field, integer, joined, short, application, count, code, spelling, spellings}
-use Rattle.rules_binary.specs.Reading.{Spot, Fault, ◌>>=◌, fault, is_annotation, byte_at, short_annotations_at, arguments_at, nodes_within, nodes_at, application_at, many_at, node_by, tags_in_order, tag_at, node_at, decoded}
+use Rattle.rules_binary.specs.Reading.{Spot, ◌>>=◌, fault, is_annotation, byte_at, arguments_at, nodes_within, nodes_at, application_at, many_at, node_by, tags_in_order, tag_at, node_at, decoded}
 use Rattle.laws_binary.specs.Laws.{HasCode, HasBinaryForm, HaveBinaryForms, NodesAreDecoded, OneNode}
 use Rattle.laws_binary.proofs.Lengths.{HasLengths, HaveLengths, lengths}
 use Rattle.laws_binary.proofs.DecodedParts.{spot, Gives, read_field, read_string, read_bytes, read_integer, read_name, read_annotations, read_any_annotations}

@@ -1,7 +1,7 @@
 -- Fields, integers, texts, names and annotations are read from their spelling.
-use Rattle.std.proofs.Common.{◌≡◌, ℕ, zero, suc, ◌+◌, ◌-◌, ◌*◌, ◌/◌, ◌%◌, ◌^◌, ◌<◌, ◌≤◌, Bool, true, false, ◌&&◌, ◌||◌, get_or, cond, ltb, nat_lt, nat_le, nat_eq, List, [], ◌∷◌, ◌++◌, length, take, drop, slice_get, Option, Some, None, Result, Ok, refl, sym, ap, ◌∙◌, append_assoc, arith}
+use Rattle.std.proofs.Common.{◌≡◌, ℕ, zero, suc, ◌+◌, ◌-◌, ◌*◌, ◌/◌, ◌%◌, ◌^◌, ◌<◌, ◌≤◌, Bool, true, false, ◌&&◌, ◌||◌, get_or, cond, nat_lt, nat_le, nat_eq, List, [], ◌∷◌, ◌++◌, length, take, drop, slice_get, Some, Result, Ok, refl, sym, ap, ◌∙◌, arith}
 use Rattle.std.specs.Prelude.{ℤ, pos, negsuc, unwrap_or}
-use Rattle.std.specs.Int.{w32, from_be_bytes, to_be_bytes}
+use Rattle.std.specs.Int.{w32, from_be_bytes}
 use Rattle.std.specs.List.{list_all, prefix_len}
 use Rattle.std.specs.Str.{bytes_eq}
 use Rattle.std.proofs.Math.Seq.{take-append_seam, drop-append_seam}
@@ -14,11 +14,10 @@ use Rattle.std.proofs.lemmas.Option.{slice_get-get_or}
 use Rattle.std.proofs.lemmas.Slice.Eq.{bytes_eq-Decides}
 use Rattle.rules_base.specs.Limits.{byte_limit}
 use Rattle.rules_base.specs.Primitives.{primitive_names, name_of_code, code_of_name}
-use Rattle.rules_binary.specs.Spelling.{groups_within, groups, signed_groups, integer, field, joined, code}
-use Rattle.rules_binary.specs.Reading.{Spot, Fault, ◌>>=◌, field_of, field_at, narrow_field_at, goes_on, groups_value, is_longer, is_longer_by, ranged, integer_of, integer_by, integer_at, is_text, string_at, bytes_at, is_noted, is_annotation, before, pieces, annotations_of, any_annotations, annotations_at, any_annotations_at, byte_at, name_by, name_at}
+use Rattle.rules_binary.specs.Spelling.{groups_within, groups, integer, field, joined, code}
+use Rattle.rules_binary.specs.Reading.{Spot, Fault, field_at, narrow_field_at, goes_on, groups_value, is_longer, is_longer_by, ranged, integer_of, integer_at, is_text, string_at, bytes_at, is_noted, is_annotation, before, pieces, annotations_of, any_annotations, annotations_at, any_annotations_at, byte_at, name_at}
 use Rattle.laws_binary.specs.Laws.{IsWithinRange, HasCode}
 use Rattle.laws_binary.proofs.Integers.{IsRun}
-use Rattle.laws_binary.proofs.Lengths.{length_field}
 use Rattle.laws_binary.proofs.Prefixes.{integer_run}
 
 abbrev pub spot : ℕ → List ℕ → Spot

@@ -3,16 +3,13 @@ use Rattle.std.proofs.Common.{◌≡◌, ℕ, zero, suc, ◌+◌, ◌≤◌, Boo
 use Rattle.std.specs.Int.{w32, from_be_bytes, to_be_bytes}
 use Rattle.std.specs.List.{prefix_len}
 use Rattle.std.proofs.lemmas.Bool.{cases_lt, ltb-false}
-use Rattle.std.proofs.lemmas.List.{take-append-drop, length-take, length-drop, get_or-drop, get_or-take, get_or_past, drop-drop}
+use Rattle.std.proofs.lemmas.List.{take-append-drop, length-take, length-drop, get_or-take, get_or_past, drop-drop}
 use Rattle.std.proofs.lemmas.Nat.{be_bytes_4}
 use Rattle.rules_base.specs.Limits.{byte_limit}
 use Rattle.rules_binary.specs.declared.DecodeKind.TheVariants.{BadLength, TooWide, BadString}
 use Rattle.rules_binary.specs.Spelling.{field}
 use Rattle.rules_binary.specs.Reading.{Spot, Fault, ◌>>=◌, fault, past, byte_of, byte_at, field_of, field_at, narrow_field_at, is_text, string_at, bytes_at}
 use Rattle.laws_binary.specs.Laws.{IsBytes, Took, FieldsAreSpelt}
-
-pub IsBytes-drop : (n : ℕ) (bytes : List ℕ) → IsBytes bytes → IsBytes (drop n bytes)
-IsBytes-drop n bytes h i = rw get_or-drop (h (n + i))
 
 pub IsBytes-take : (n : ℕ) (bytes : List ℕ) → IsBytes bytes → IsBytes (take n bytes)
 IsBytes-take n bytes h i =

@@ -7,3 +7,5 @@ pub mod Lengths
 pub mod Names
 pub mod Nodes
 pub mod Prefixes
+pub mod Sizes
+pub mod ForCallers

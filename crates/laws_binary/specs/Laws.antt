@@ -1,8 +1,8 @@
 -- What is read stands in the bytes as it is spelt.
-use Rattle.std.specs.Prelude.{◌≡◌, ◌^◌, [], length, ℕ, ◌<◌, ◌≤◌, ℤ, pos, negsuc, true, List, ◌++◌, Some, Ok, slice_index}
+use Rattle.std.specs.Prelude.{◌≡◌, ◌*◌, ◌^◌, [], length, ℕ, ◌<◌, ◌≤◌, ℤ, pos, negsuc, true, List, ◌++◌, Some, Ok, slice_index}
 use Rattle.std.specs.List.{list_all}
 use Rattle.rules_base.specs.Limits.{depth_limit, byte_limit}
-use Rattle.rules_base.specs.Tree.{Tree, int, str, bytes, prim, seq, Trees, none, more, depth}
+use Rattle.rules_base.specs.Tree.{Tree, int, str, bytes, prim, seq, Trees, none, more, depth, size}
 use Rattle.rules_base.specs.Primitives.{code_of_name}
 use Rattle.rules_binary.specs.Spelling.{field, integer, spelling}
 use Rattle.rules_binary.specs.Reading.{Spot, is_text, is_annotation, field_at, integer_at, decoded}
@@ -23,6 +23,10 @@ IntegersAreSpelt = (s after : Spot) (z : ℤ) → IsBytes s.left → integer_at 
 
 abbrev pub DecodedIsSpelt : Type 0
 DecodedIsSpelt = (bs : List ℕ) (t : Tree) → IsBytes bs → decoded bs ≡ Ok t → bs ≡ spelling t
+
+-- a node that is decoded has at most half as many nodes as there are bytes
+abbrev pub DecodedNodesAreFew : Type 0
+DecodedNodesAreFew = (bs : List ℕ) (t : Tree) → IsBytes bs → decoded bs ≡ Ok t → 2 * size t ≤ length bs
 
 -- the spelling of a node that was decoded is decoded as that node
 abbrev pub SpellingIsDecoded : Type 0

@@ -2,7 +2,7 @@
 // spelling for each node). Each function makes no call; its contract is the law.
 #![tactic(auto)]
 
-ghost use Rattle.laws_binary.specs.Laws.{FieldsAreSpelt, IntegersAreSpelt, DecodedIsSpelt, SpellingIsDecoded, OneSpelling, NodesAreDecoded, OneNode, NoPrefix};
+ghost use Rattle.laws_binary.specs.Laws.{FieldsAreSpelt, IntegersAreSpelt, DecodedIsSpelt, DecodedNodesAreFew, SpellingIsDecoded, OneSpelling, NodesAreDecoded, OneNode, NoPrefix};
 
 /// A field that is read stands in the bytes as its spelling: its length and its content.
 pub fn fields_are_spelt()
@@ -17,6 +17,11 @@ pub fn integers_are_spelt()
 /// Bytes that are decoded as a node are that node's spelling.
 pub fn decoded_is_spelt()
     ensures { DecodedIsSpelt }
+{}
+
+/// A node that is decoded has at most half as many nodes as there are bytes.
+pub fn decoded_nodes_are_few()
+    ensures { DecodedNodesAreFew }
 {}
 
 /// The spelling of a node that was decoded is decoded as that node.

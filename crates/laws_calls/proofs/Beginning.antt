@@ -27,10 +27,8 @@ use Rattle.rules_world.specs.RunLaws.{IsCall}
 use Rattle.rules_world.specs.Forms.{IsChange}
 use Rattle.laws_evaluation.specs.Laws.{Stands, amount_on}
 use Rattle.laws_stacks.specs.Sound.{IsSoundIssue}
-use Rattle.laws_runs.proofs.Codes.{script_code}
-use Rattle.laws_runs.proofs.Scripts.{IsMet}
-use Rattle.laws_runs.proofs.Surrounded.{held_within, orderly, is_met, before_amount, stands}
-use Rattle.laws_code.proofs.Leading.{seq_leads}
+use Rattle.laws_runs.proofs.ForCallers.{script_code, IsMet, held_within, orderly, is_met, before_amount, stands}
+use Rattle.laws_code.proofs.ForCallers.{seq_leads}
 use Rattle.mich_instr.specs.Code.{Codes, ViewCodes}
 use Rattle.mich_instr.specs.Code as made
 use Rattle.mich_instr.specs.Typed.{AreCode, IsScript, is_script}
@@ -38,7 +36,7 @@ use Rattle.mich_frames.specs.Around.{Around, around}
 use Rattle.mich_frames.specs.Fine.{IsFine}
 use Rattle.mich_frames.specs.Frames.{IsBlock}
 use Rattle.mich_frames.specs.Stands.{OpensAt}
-use Rattle.mich_frames.proofs.Ends.{starts}
+use Rattle.mich_frames.proofs.ForCallers.{starts}
 
 left_within : (h a m b s v : ℤ) → (h +ℤ a) ≤ℤ (m -ℤ b) → s ≤ℤ h → v ≡ a +ℤ s → (v +ℤ pos 0 +ℤ pos 0 +ℤ pos 0 +ℤ (b +ℤ pos 0)) ≤ℤ (m +ℤ pos 0)
 left_within h a m b s v e f g = omega (arith, ints, e, f, g)

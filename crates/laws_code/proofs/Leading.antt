@@ -1,21 +1,21 @@
 -- Where typing leads from types to types over an instruction, it leads so over the bodies of its typed code.
-use Rattle.std.proofs.Common.{◌≡◌, ◌+◌, ◌≤◌, ℕ, Bool, true, false, List, [], ◌∷◌, ◌++◌, Option, Some, None, refl, sym, ap, ◌∙◌, subst, take, drop, length, nat_le}
+use Rattle.std.proofs.Common.{◌≡◌, ◌+◌, ℕ, List, ◌∷◌, Some, ◌∙◌, subst, take, drop, length, nat_le}
 use Rattle.rules_base.specs.Limits.{count_limit}
 use Rattle.rules_base.specs.Tree.{Tree, Trees, prim, seq, none, more, size}
 use Rattle.rules_base.specs.Primitives.{primitive_of_name}
 use Rattle.rules_types.specs.Kind.{Kind}
 use Rattle.rules_types.specs.Kind as k
 use Rattle.rules_instructions.specs.Types as t
-use Rattle.rules_instructions.specs.Arguments.{Found, found, count_argument}
+use Rattle.rules_instructions.specs.Arguments.{found, count_argument}
 use Rattle.rules_instructions.specs.Context.{Context}
 use Rattle.rules_instructions.specs.Forms as f
-use Rattle.rules_typing.specs.Typing.{Typing, goes, fails, bad, shift, under, mapped, part_kind, on_found, in_block}
+use Rattle.rules_typing.specs.Typing.{Typing, goes, fails, bad, shift, mapped, part_kind, on_found, in_block}
 use Rattle.rules_typing.specs.Acts.{act_type, dip_type}
 use Rattle.rules_typing.specs.Nodes.{tree_type, trees_type}
 use Rattle.rules_typing.specs.Fits.{Leads}
 use Rattle.mich_instr.specs.Code.{Code, Codes}
-use Rattle.mich_instr.specs.Typed.{HasForm, IsMapped, to_list, to_option, to_map, HasParts, of_list, of_set, of_map, IsCode, AreCode, no_code}
-use Rattle.laws_code.proofs.Sayings.{meanings, type_is, Says, IsTyped, typed_shift, typed_if, typed_join, typed_ends, typed_under, typed_mapped, mapped_goes, part_shift, typed_part, leads_of, typed_of}
+use Rattle.mich_instr.specs.Typed.{HasForm, IsMapped, to_list, to_option, to_map, HasParts, of_list, of_set, of_map, IsCode, AreCode}
+use Rattle.laws_code.proofs.Sayings.{meanings, type_is, Says, IsTyped, typed_shift, typed_if, typed_join, typed_ends, typed_under, mapped_goes, part_shift, typed_part, leads_of, typed_of}
 use Rattle.laws_code.proofs.Said.{code_says, codes_say}
 
 -- typed code whose typing has no fault

@@ -1,3 +1,4 @@
 pub mod Sayings
 pub mod Said
 pub mod Leading
+pub mod ForCallers

@@ -1,6 +1,6 @@
 -- Where typing says that typed code goes to types, these are those that the code leads to.
-use Rattle.std.proofs.Common.{◌≡◌, ◌+◌, ℕ, Bool, true, false, List, [], ◌∷◌, ◌++◌, Option, Some, None, refl, sym, ap, ◌∙◌, subst, take, drop, length, nat_le}
-use Rattle.std.specs.Prelude.{if◌then◌else◌, ◌&&◌}
+use Rattle.std.proofs.Common.{◌≡◌, ◌+◌, ℕ, true, false, List, [], ◌∷◌, ◌++◌, Option, Some, refl, sym, ◌∙◌, subst, take, drop, length, nat_le}
+use Rattle.std.specs.Prelude.{◌&&◌}
 use Rattle.rules_base.specs.Limits.{type_limit}
 use Rattle.rules_base.specs.Tree.{Tree, Trees, prim, seq, none, more, size}
 use Rattle.rules_base.specs.Primitives.{primitive_of_name}
@@ -9,18 +9,17 @@ use Rattle.rules_types.specs.Kind as k
 use Rattle.rules_types.specs.Attributes.{pushable}
 use Rattle.rules_types.specs.Entrypoints.{Entry, find_entry}
 use Rattle.rules_instructions.specs.Types as t
-use Rattle.rules_instructions.specs.Arguments.{Found, found, fault}
 use Rattle.rules_instructions.specs.Context.{Context}
 use Rattle.rules_instructions.specs.Context as place
-use Rattle.rules_instructions.specs.Control.{Arrow, lambda_of, dip_of, call_kinds, self_of}
+use Rattle.rules_instructions.specs.Control.{Arrow, call_kinds}
 use Rattle.rules_instructions.specs.Forms as f
 use Rattle.rules_instructions.specs.Rules.{Ruled, rule, ruled}
 use Rattle.rules_instructions.specs.Same.{same_kind}
-use Rattle.rules_typing.specs.Typing.{Typing, goes, fails, bad, shift, made, join, ends, under, mapped, part_kind, on_found}
-use Rattle.rules_typing.specs.Acts.{act_type, of_rule, dip_type, lambda_type, lambda_rec_type, self_type, of_entry, last_body, no_body}
-use Rattle.rules_typing.specs.Nodes.{tree_type, trees_type, bodies}
+use Rattle.rules_typing.specs.Typing.{Typing, goes, fails, shift, on_found}
+use Rattle.rules_typing.specs.Acts.{act_type, of_rule, dip_type, lambda_type, lambda_rec_type, self_type, of_entry}
+use Rattle.rules_typing.specs.Nodes.{tree_type, trees_type}
 use Rattle.mich_instr.specs.Code.{Code, Codes}
-use Rattle.mich_instr.specs.Typed.{HasForm, lambda_form, IsMapped, to_list, to_option, to_map, HasParts, of_list, of_set, of_map, IsCode, AreCode}
+use Rattle.mich_instr.specs.Typed.{HasForm, to_list, to_option, to_map, of_list, of_set, of_map, IsCode, AreCode}
 use Rattle.mich_instr.specs.Typed as typed
 use Rattle.laws_code.proofs.Sayings.{type_is, Says, says_shift, says_if, says_join, says_ends, says_under, says_made, says_mapped, says_block, part_shift}
 

@@ -1,5 +1,5 @@
 -- Typings that go to certain types or nowhere, and typings without fault.
-use Rattle.std.proofs.Common.{◌≡◌, ◌+◌, ℕ, Bool, true, false, List, [], ◌∷◌, ◌++◌, Option, Some, None, refl, sym, ap, ◌∙◌, subst}
+use Rattle.std.proofs.Common.{◌≡◌, ◌+◌, ℕ, Bool, true, false, List, [], ◌∷◌, ◌++◌, Some, refl, sym, ap, subst}
 use Rattle.std.specs.Prelude.{nat_le, if◌then◌else◌, slice_get, ◌-◌}
 use Rattle.rules_base.specs.Limits.{type_limit}
 use Rattle.rules_base.specs.Tree.{Trees, prim, none, more}
@@ -12,7 +12,6 @@ use Rattle.rules_typing.specs.Typing.{Typing, goes, fails, bad, shift, made, in_
 use Rattle.rules_typing.specs.Acts.{Meanings, act_type}
 use Rattle.rules_typing.specs.Nodes.{tree_type, bodies, script_in, typings, typing_of}
 use Rattle.rules_typing.specs.Fits.{Leads}
-use Rattle.laws_types.proofs.SameKinds.{same_kinds_true}
 use Rattle.mich_instr.specs.Typed.{HasForm}
 
 abbrev pub meanings : Trees → Meanings
@@ -106,11 +105,6 @@ pub typed_under : (A : List Kind) (t : Typing) → IsTyped (under A t) → IsTyp
 typed_under A (goes C) h = tt
 typed_under A fails h = tt
 typed_under A (bad l) h = h
-
-pub typed_mapped : (t : Typing) (f : Kind → Kind) (A : List Kind) → IsTyped (mapped t f A) → IsTyped t
-typed_mapped (goes C) f A h = tt
-typed_mapped fails f A h = tt
-typed_mapped (bad l) f A h = h
 
 -- what can be mapped goes to what is made
 pub mapped_goes : (t : Typing) (f : Kind → Kind) (A : List Kind) (b : Kind) → part_kind t A ≡ Some b → IsTyped (mapped t f A) → mapped t f A ≡ goes (f b ∷ A)

@@ -22,10 +22,7 @@ use Rattle.rules_evaluation.specs.Branches.{paid, chosen, if_run, if_none_run, i
 use Rattle.rules_evaluation.specs.Loops.{turn_where, turns_run, left_turns_run, loop_run, loop_left_run}
 use Rattle.laws_evaluation.specs.Laws.{known, IsGood, amount_on}
 use Rattle.laws_stacks.specs.Sound.{seen, AllTypes, Sound, KeepsFrom, SafeRun}
-use Rattle.laws_stacks.proofs.Amounts.{on-append, on_positive}
-use Rattle.laws_stacks.proofs.Kept.{keeps_failed, sound_after, after_still, keeps_ends, keeps_end, ends_shift, keeps_first, keeps_second, keeps_under}
-use Rattle.laws_stacks.proofs.Paid.{sound_with, keeps_charge}
-use Rattle.laws_stacks.proofs.Parts.{bool_type, safe_truth, safe_option, safe_union, safe_list}
+use Rattle.laws_stacks.proofs.ForCallers.{on-append, on_positive, keeps_failed, sound_after, after_still, keeps_ends, keeps_end, ends_shift, keeps_first, keeps_second, keeps_under, sound_with, keeps_charge, bool_type, safe_truth, safe_option, safe_union, safe_list}
 
 pub safe_block : (t : Typer) (r : Run) → SafeRun t r → SafeRun t (block r)
 safe_block t r s e d A V m g so = by_test (nat_lt d block_limit)

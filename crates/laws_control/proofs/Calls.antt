@@ -30,11 +30,8 @@ use Rattle.rules_evaluation.specs.Calls.{in_lambda, call_values, exec_run, fail_
 use Rattle.rules_gas.specs.declared.Kind.TheVariants as price
 use Rattle.laws_evaluation.specs.Laws.{known, IsType, IsGood, IsGoodContract, amount_on}
 use Rattle.laws_stacks.specs.Sound.{seen, AllTypes, Sound, After, KeepsFrom, SafeRun}
-use Rattle.laws_stacks.proofs.Amounts.{on-append, on_positive}
-use Rattle.laws_stacks.proofs.Grow.{all_grow}
-use Rattle.laws_types.proofs.SameKinds.{same_kind_true, same_kinds_refl}
-use Rattle.laws_stacks.proofs.Kept.{knows_grow, keeps_from, keeps_leads}
-use Rattle.laws_stacks.proofs.Paid.{sound_with, keeps_charge}
+use Rattle.laws_stacks.proofs.ForCallers.{on-append, on_positive, all_grow, knows_grow, keeps_from, keeps_leads, sound_with, keeps_charge}
+use Rattle.laws_types.proofs.ForCallers.{same_kind_true, same_kinds_refl}
 
 -- ---- the surroundings of a lambda
 

@@ -20,13 +20,8 @@ use Rattle.rules_evaluation.specs.Items.{elements, entries}
 use Rattle.rules_evaluation.specs.Loops.{each_run, iter_run}
 use Rattle.laws_evaluation.specs.Laws.{known, IsType, IsGood, amount_on}
 use Rattle.laws_stacks.specs.Sound.{seen, total, Sound, KeepsFrom, SafeRun}
-use Rattle.laws_amounts.proofs.Sums.{among_append}
-use Rattle.laws_stacks.proofs.Amounts.{on-append, positive}
-use Rattle.laws_stacks.proofs.Nothing.{no_amount_compared}
-use Rattle.laws_stacks.proofs.Grow.{Knows, fits_grow}
-use Rattle.laws_stacks.proofs.Kept.{knows_grow, sound_after, after_still, keeps_from, keeps_ends, keeps_end}
-use Rattle.laws_stacks.proofs.Paid.{sound_pop, keeps_charge}
-use Rattle.laws_stacks.proofs.Parts.{type_list, type_element, type_entry}
+use Rattle.laws_amounts.proofs.ForCallers.{among_append}
+use Rattle.laws_stacks.proofs.ForCallers.{on-append, positive, no_amount_compared, Knows, fits_grow, knows_grow, sound_after, after_still, keeps_from, keeps_ends, keeps_end, sound_pop, keeps_charge, type_list, type_element, type_entry}
 
 -- values of one type
 abbrev pub Each : Known → Kind → List Val → Type 0

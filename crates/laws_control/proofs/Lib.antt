@@ -6,3 +6,4 @@ pub mod Mapped
 pub mod Promises
 pub mod Safe
 pub mod Typed
+pub mod ForCallers

@@ -18,9 +18,7 @@ use Rattle.rules_evaluation.specs.Loops.{ending, map_each_run}
 use Rattle.rules_gas.specs.declared.Kind.TheVariants as price
 use Rattle.laws_evaluation.specs.Laws.{known, IsType, IsGood, amount_on}
 use Rattle.laws_stacks.specs.Sound.{Seen, seen, total, Sound, After, KeepsFrom, SafeRun}
-use Rattle.laws_stacks.proofs.Amounts.{on-append, positive}
-use Rattle.laws_stacks.proofs.Kept.{knows_grow, keeps_from, keeps_leads}
-use Rattle.laws_stacks.proofs.Paid.{keeps_charge}
+use Rattle.laws_stacks.proofs.ForCallers.{on-append, positive, knows_grow, keeps_from, keeps_leads, keeps_charge}
 use Rattle.laws_control.proofs.Items.{Each, each_positive, each_grow, each_last}
 
 -- more operations were issued

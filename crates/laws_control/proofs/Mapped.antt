@@ -6,7 +6,7 @@ use Rattle.rules_base.specs.Limits.{type_limit}
 use Rattle.rules_types.specs.Kind.{Kind, nodes}
 use Rattle.rules_types.specs.Kind as k
 use Rattle.rules_instructions.specs.Same.{same_kinds}
-use Rattle.rules_values.specs.Val.{Val, Vals, no_val, more_vals, Pairs, no_pair, more_pairs}
+use Rattle.rules_values.specs.Val.{Val, Vals, Pairs, no_pair, more_pairs}
 use Rattle.rules_values.specs.Val as v
 use Rattle.rules_values.specs.Forms.{AllHave, AllEntriesHave}
 use Rattle.rules_values.specs.Tables.{AreKeysAbove, AreIncreasingKeys}
@@ -24,13 +24,9 @@ use Rattle.rules_evaluation.specs.Loops.{map_each_run, map_run}
 use Rattle.rules_gas.specs.declared.Kind.TheVariants as price
 use Rattle.laws_evaluation.specs.Laws.{known, IsType, IsGood, amount_on}
 use Rattle.laws_stacks.specs.Sound.{seen, total, Sound, KeepsFrom, SafeRun}
-use Rattle.laws_amounts.proofs.Sums.{among_append}
-use Rattle.laws_stacks.proofs.Amounts.{on-append}
-use Rattle.laws_stacks.proofs.Grow.{fits_grow}
-use Rattle.laws_types.proofs.SameKinds.{same_kinds_true}
-use Rattle.laws_stacks.proofs.Kept.{knows_grow, keeps_from}
-use Rattle.laws_stacks.proofs.Paid.{sound_pop, keeps_charge}
-use Rattle.laws_stacks.proofs.Parts.{type_list, type_option, type_entry}
+use Rattle.laws_amounts.proofs.ForCallers.{among_append}
+use Rattle.laws_stacks.proofs.ForCallers.{on-append, fits_grow, knows_grow, keeps_from, sound_pop, keeps_charge, type_list, type_option, type_entry}
+use Rattle.laws_types.proofs.ForCallers.{same_kinds_true}
 use Rattle.laws_control.proofs.Items.{Each, each_positive, each_element, each_entry, element_amount, entry_amount}
 use Rattle.laws_control.proofs.MapTurns.{Makes, safe_map_each}
 

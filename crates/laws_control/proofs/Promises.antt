@@ -9,13 +9,12 @@ use Rattle.rules_values.specs.Val.{Val}
 use Rattle.rules_typing.specs.Typing.{Typing, goes, fails, bad, Typer, shift}
 use Rattle.rules_typing.specs.Typing as typing
 use Rattle.rules_typing.specs.Stacks as asked
-use Rattle.rules_typing.specs.Acts.{Meanings, act_type, of_rule, dip_type, lambda_type, lambda_rec_type, push_type, self_type, of_script}
 use Rattle.rules_typing.specs.Acts as acts
 use Rattle.rules_typing.specs.Nodes.{tree_type, trees_type}
 use Rattle.rules_evaluation.specs.Surroundings.{Surroundings}
 use Rattle.rules_evaluation.specs.Operations.{Tally}
 use Rattle.rules_evaluation.specs.Outcome.{Outcome, stuck, Run}
-use Rattle.rules_evaluation.specs.Evaluation.{Task, node, turns, left_turns, Arg, other, no_body, one_body, two_bodies, last_body, outside_views, act, tree_run, trees_run, args_run, arg_run, task_run, level, eval_task, eval}
+use Rattle.rules_evaluation.specs.Evaluation.{Task, node, turns, left_turns, Arg, other, no_body, one_body, two_bodies, last_body}
 use Rattle.rules_evaluation.specs.Evaluation as run
 use Rattle.laws_stacks.specs.Sound.{seen, KeepsFrom, SafeRun}
 use Rattle.laws_control.proofs.Branches.{turns_type, left_turns_type}

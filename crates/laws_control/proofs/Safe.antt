@@ -15,10 +15,10 @@ use Rattle.rules_instructions.specs.Control.{dip_of}
 use Rattle.rules_instructions.specs.Forms.{Form, form_of}
 use Rattle.rules_instructions.specs.Forms as f
 use Rattle.rules_values.specs.Val.{Val}
-use Rattle.rules_typing.specs.Typing.{Typing, goes, fails, bad, Typer, shift}
+use Rattle.rules_typing.specs.Typing.{Typing, goes, Typer, shift}
 use Rattle.rules_typing.specs.Typing as typing
 use Rattle.rules_typing.specs.Stacks as asked
-use Rattle.rules_typing.specs.Acts.{Meanings, act_type, of_rule, dip_type, lambda_type, lambda_rec_type, push_type, self_type, of_script}
+use Rattle.rules_typing.specs.Acts.{Meanings, act_type, of_rule, dip_type}
 use Rattle.rules_typing.specs.Acts as acts
 use Rattle.rules_typing.specs.Nodes.{tree_type, trees_type, bodies, body, typings, typing_of, script_in}
 use Rattle.rules_gas.specs.declared.Kind.TheVariants as g
@@ -32,12 +32,12 @@ use Rattle.rules_evaluation.specs.Straight.{ruled_run}
 use Rattle.rules_evaluation.specs.Evaluation.{Task, node, turns, left_turns, Arg, last_body, outside_views, act, tree_run, trees_run, args_run, arg_run, task_run, level, eval}
 use Rattle.laws_evaluation.specs.Laws.{IsGood}
 use Rattle.laws_stacks.specs.Sound.{seen, Sound, KeepsFrom, SafeRun}
-use Rattle.laws_stacks.proofs.Kept.{keeps_failed, sound_after, after_still, keeps_shift, keeps_in_block}
+use Rattle.laws_stacks.proofs.ForCallers.{keeps_failed, sound_after, after_still, keeps_shift, keeps_in_block}
 use Rattle.laws_control.proofs.Branches.{safe_block, safe_if, safe_if_none, safe_if_left, safe_if_cons, safe_dip, safe_turns, safe_left_turns, safe_loop, safe_loop_left}
 use Rattle.laws_control.proofs.Items.{safe_iter}
 use Rattle.laws_control.proofs.Mapped.{safe_map}
 use Rattle.laws_control.proofs.Calls.{safe_exec, safe_fail, safe_never}
-use Rattle.laws_typed.proofs.Typings.{HasTypes, Types}
+use Rattle.laws_typed.proofs.ForCallers.{HasTypes, Types}
 use Rattle.laws_control.proofs.Typed.{tree_types}
 use Rattle.laws_control.proofs.Promises.{task_type, IsSmall, SafeAgain, SafeArg, safe_body, safe_other, SafeArgs, safe_none, safe_more, safe_no_body, safe_one_body, safe_two_bodies, safe_last_body, bad_if, bad_bool, bad_option, bad_or, bad_list, bad_parts, bad_mapped, bad_second}
 

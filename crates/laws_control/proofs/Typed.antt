@@ -31,9 +31,8 @@ use Rattle.rules_typing.specs.Bodies.{bodies_fault}
 use Rattle.rules_typing.specs.Nodes.{tree_type, trees_type, bodies, body}
 use Rattle.laws_evaluation.specs.Laws.{IsType}
 use Rattle.laws_stacks.specs.Sound.{AllTypes}
-use Rattle.laws_stacks.proofs.Parts.{type_option, type_list, type_left, type_right, type_result, type_entry}
-use Rattle.laws_typed.proofs.TypedRules.{RuledTypes, rule_taken}
-use Rattle.laws_typed.proofs.Typings.{EntriesAreTypes, HasTypes, Types, TypesKept, types_shift, types_block, types_if, types_join, types_ends, types_under, types_made, types_mapped, types_found, AllKept, none_kept, one_kept, two_kept, last_kept, PushedType, push_read, ArrowTypes, lambda_read, any_found}
+use Rattle.laws_stacks.proofs.ForCallers.{type_option, type_list, type_left, type_right, type_result, type_entry}
+use Rattle.laws_typed.proofs.ForCallers.{RuledTypes, rule_taken, EntriesAreTypes, HasTypes, Types, TypesKept, types_shift, types_block, types_if, types_join, types_ends, types_under, types_made, types_mapped, types_found, AllKept, none_kept, one_kept, two_kept, last_kept, PushedType, push_read, ArrowTypes, lambda_read, any_found}
 
 -- ---- instructions
 

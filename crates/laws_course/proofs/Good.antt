@@ -17,8 +17,7 @@ use Rattle.rules_world.specs.Groups.{Settled, group}
 use Rattle.rules_world.specs.Laws.{IsGroup}
 use Rattle.rules_world.specs.World.{World, account_at}
 use Rattle.laws_runs.specs.Worlds.{IsWhole}
-use Rattle.laws_world.proofs.Chains.{grants_keep_good, groups_keep_whole, new_worlds_are_good}
-use Rattle.laws_world.proofs.Groups.{groups_settle, groups_conserve_mutez}
+use Rattle.laws_world.proofs.ForCallers.{grants_keep_good, groups_keep_whole, new_worlds_are_good, groups_settle, groups_conserve_mutez}
 use Rattle.laws_course.specs.Laws.{IsGoodCourse, StaysGood, CoursesBeginGood, CoursesStayGood}
 use Rattle.laws_course.proofs.Charged.{nothing_charged, table_charged}
 

@@ -1,3 +1,4 @@
 pub mod Charged
 pub mod Fields
 pub mod Good
+pub mod ForCallers

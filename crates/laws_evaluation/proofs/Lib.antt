@@ -3,3 +3,4 @@ pub mod NearForms
 pub mod Levels
 pub mod Origins
 pub mod OriginForms
+pub mod ForCallers

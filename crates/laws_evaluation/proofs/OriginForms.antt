@@ -45,7 +45,7 @@ use Rattle.rules_evaluation.specs.Trying.{trial}
 use Rattle.rules_evaluation.specs.Given.{on_found, on_goes, value_of, push_run, body_of, lambda_run, self_run, script_of, on_delegate, on_origination, create_run}
 use Rattle.rules_evaluation.specs.Operating.{in_view, behind_view, view_run, operation_run}
 use Rattle.rules_evaluation.specs.Straight.{minted_so_far, row_run, ruled_run}
-use Rattle.rules_evaluation.specs.Evaluation.{Task, node, turns, left_turns, Arg, other, no_body, one_body, two_bodies, last_body, outside_views, result_kind, act, tree_run, trees_run, args_run, arg_run, task_run, level, eval}
+use Rattle.rules_evaluation.specs.Evaluation.{Task, node, turns, left_turns, Arg, other, no_body, one_body, two_bodies, last_body, outside_views, result_kind, act, tree_run, trees_run, args_run, arg_run, task_run, level}
 use Rattle.rules_evaluation.specs.Evaluation as evaluation
 use Rattle.laws_evaluation.specs.Origins.{AreNew, Originates, OriginationsAreNew}
 use Rattle.laws_evaluation.proofs.Origins.{low_high, new_here, new_after, NewRun, new_only_if, new_ending, new_unless, new_charge, new_paid, new_block, new_finish}

@@ -12,8 +12,8 @@ use Rattle.rules_values.specs.Order.{order, form}
 use Rattle.rules_values.specs.Tickets.{Identity}
 use Rattle.rules_values.specs.Val.{Val, unit, truth, number, text, bytes, nothing, some, left, right, both, list, set, table, big_table, lambda, operation, ticket, is_comparable}
 use Rattle.rules_world.specs.World.{identity_order, kind_order}
-use Rattle.laws_values.proofs.Orders.{same_truth, first_equal, then_equal, first_true, then_true}
-use Rattle.laws_accounts.proofs.KindTexts.{texts_tell_types}
+use Rattle.laws_values.proofs.ForCallers.{same_truth, first_equal, then_equal, first_true, then_true}
+use Rattle.laws_accounts.proofs.ForCallers.{texts_tell_types}
 use Rattle.laws_lines.proofs.Aligned.{AreAlike}
 
 -- a value of a comparable type is no other

@@ -1,3 +1,4 @@
 pub mod Aligned
 pub mod Exact
 pub mod Minted
+pub mod ForCallers

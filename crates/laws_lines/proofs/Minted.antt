@@ -17,8 +17,7 @@ use Rattle.rules_steps.specs.Changes.{Change, minted, burnt, identity_of, amount
 use Rattle.rules_world.specs.World.{World, identity_order}
 use Rattle.rules_world.specs.Holdings.{identities, with_identity, minted_ever}
 use Rattle.rules_world.specs.Forms.{IsWorld, IsChange}
-use Rattle.laws_accounts.proofs.Entries.{sorted_insert, lookup_insert}
-use Rattle.laws_accounts.proofs.Identities.{identity_total, alike_equal, equal_of}
+use Rattle.laws_accounts.proofs.ForCallers.{sorted_insert, lookup_insert, identity_total, alike_equal, equal_of}
 use Rattle.laws_lines.specs.Laws.{AreInOrder, amount_told, told}
 
 -- an entry for each ticket that is minted

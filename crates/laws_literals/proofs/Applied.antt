@@ -20,27 +20,25 @@ use Rattle.rules_instructions.specs.Context as place
 use Rattle.rules_instructions.specs.Arguments.{Found, found, fault, and_then, with_attribute, type_argument}
 use Rattle.rules_instructions.specs.Control.{Pushed, lambda_of, call_kinds}
 use Rattle.rules_instructions.specs.Rules.{ruled, faulty}
-use Rattle.rules_instructions.specs.Straight.{on_stack, on_pairs}
+use Rattle.rules_instructions.specs.Straight.{on_pairs}
 use Rattle.rules_instructions.specs.Straight as i
-use Rattle.rules_typing.specs.Typing.{Typing, goes, fails, shift, in_block, ends, made}
+use Rattle.rules_typing.specs.Typing.{Typing, goes, fails, shift, in_block, ends}
 use Rattle.rules_typing.specs.Typing as typing
 use Rattle.rules_typing.specs.Acts.{of_rule, lambda_rec_type}
 use Rattle.rules_typing.specs.Nodes.{named_type, tree_type, trees_type, body}
 use Rattle.rules_typing.specs.Literals.{checked, of_reading}
 use Rattle.rules_typing.specs.Fits.{Known, Fits, Leads}
 use Rattle.rules_evaluation.specs.Calls.{push_node, rec_node, applied}
-use Rattle.laws_types.proofs.Again.{read_again, is_type}
+use Rattle.laws_types.proofs.ForCallers.{read_again, is_type, same_kind_refl, same_kinds_refl}
 use Rattle.laws_values.specs.Laws.{Gives}
-use Rattle.laws_values.proofs.Again.{again}
-use Rattle.laws_typing.proofs.Pushed.{pushed}
+use Rattle.laws_values.proofs.ForCallers.{again}
+use Rattle.laws_typing.proofs.ForCallers.{pushed}
 use Rattle.laws_evaluation.specs.Laws.{IsType}
-use Rattle.laws_types.proofs.SameKinds.{same_kind_refl, same_kinds_refl}
-use Rattle.laws_stacks.proofs.Nothing.{nothing_in, pushable_duplicable}
-use Rattle.laws_stacks.proofs.Parts.{type_argument as argument_type, type_result, type_first}
+use Rattle.laws_stacks.proofs.ForCallers.{nothing_in, pushable_duplicable, type_argument as argument_type, type_result, type_first}
 use Rattle.laws_literals.proofs.Forms.{fits_form, pushable_holds}
 use Rattle.laws_literals.proofs.Clean.{no_faults}
 use Rattle.laws_literals.proofs.Lambdas.{leads_more, leads_shift}
-use Rattle.laws_control.proofs.Safe.{meanings}
+use Rattle.laws_control.proofs.ForCallers.{meanings}
 
 -- ---- types are read again
 

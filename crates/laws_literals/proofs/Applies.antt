@@ -24,10 +24,8 @@ use Rattle.rules_evaluation.specs.Outcome.{stack, only_if, charge}
 use Rattle.rules_evaluation.specs.Calls.{applied, shallow_enough, small_enough, within_bounds, apply_run}
 use Rattle.laws_evaluation.specs.Laws.{known}
 use Rattle.laws_stacks.specs.Sound.{seen, Sound, KeepsFrom, SafeRun}
-use Rattle.laws_stacks.proofs.Amounts.{positive}
-use Rattle.laws_types.proofs.SameKinds.{same_kind_true}
-use Rattle.laws_stacks.proofs.Kept.{after_still}
-use Rattle.laws_stacks.proofs.Paid.{keeps_charge}
+use Rattle.laws_stacks.proofs.ForCallers.{positive, after_still, keeps_charge}
+use Rattle.laws_types.proofs.ForCallers.{same_kind_true}
 use Rattle.laws_literals.proofs.Applied.{applied_leads}
 
 applied_sequence : (a b r : Kind) (x : Val) (t : Tree) (q : Bool) → IsSequence (applied a b r x t q)

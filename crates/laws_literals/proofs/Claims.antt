@@ -6,7 +6,7 @@ use Rattle.rules_base.specs.Tree.{Tree, int, str, bytes, prim, seq, Trees, none,
 use Rattle.rules_types.specs.Kind.{Kind}
 use Rattle.rules_types.specs.Kind as k
 use Rattle.rules_types.specs.Attributes.{pushable}
-use Rattle.rules_values.specs.Val.{Val, Vals, Pairs, more_vals, more_pairs}
+use Rattle.rules_values.specs.Val.{Val, more_vals, more_pairs}
 use Rattle.rules_values.specs.Val as v
 use Rattle.rules_values.specs.Literals.{Word, none_word, some_word, left_word, right_word, entry_word, recursive_word, word_of_name, Pending, body, claim, Literal, good, bad, with_pending, and_then, mapped, Reader, simple_value, on_value, option_named, or_named, read_parts, parts_of, read_elements, is_behind, read_increasing, read_binding, entry_named, read_entry, read_entries, read_body, recursive_named, read_lambda, read, read_rest}
 use Rattle.rules_typing.specs.Fits.{Known}

@@ -4,7 +4,7 @@ use Rattle.std.specs.Prelude.{if◌then◌else◌}
 use Rattle.rules_base.specs.Tree.{Tree, int, str, bytes, prim, seq, Trees, none, more, size}
 use Rattle.rules_types.specs.Kind.{Kind}
 use Rattle.rules_types.specs.Kind as k
-use Rattle.rules_values.specs.Val.{Val, Vals, Pairs, more_vals, more_pairs}
+use Rattle.rules_values.specs.Val.{Val, more_vals, more_pairs}
 use Rattle.rules_values.specs.Val as v
 use Rattle.rules_values.specs.Forms.{AllHave, AllEntriesHave}
 use Rattle.rules_forms.specs.Spelling.{is_address}
@@ -18,7 +18,7 @@ use Rattle.rules_typing.specs.Bodies.{body_fault, first_fault}
 use Rattle.rules_typing.specs.Nodes.{tree_type}
 use Rattle.rules_typing.specs.Literals.{fault_of_bodies}
 use Rattle.rules_typing.specs.Fits.{Known, Fits, Leads}
-use Rattle.laws_types.proofs.SameKinds.{same_kinds_refl}
+use Rattle.laws_types.proofs.ForCallers.{same_kinds_refl}
 
 abbrev pub NoFault : List Pending → Type 0
 NoFault ps = fault_of_bodies ps ≡ None

@@ -11,7 +11,7 @@ use Rattle.rules_values.specs.Val as v
 use Rattle.rules_values.specs.Forms.{has_simple_form, AllHave, AllEntriesHave, HasForm}
 use Rattle.rules_typing.specs.Fits.{Known, Fits}
 use Rattle.laws_values.specs.Laws.{HoldsNoOperation, HoldNoOperation, EntriesHoldNoOperation}
-use Rattle.laws_stacks.proofs.Grow.{all_have, entries_have}
+use Rattle.laws_stacks.proofs.ForCallers.{all_have, entries_have}
 
 pub fits_form : (w : Known) (a : Kind) (x : Val) → Fits w a x → HasForm a x
 fits_form w (k.simple u) x h = h

@@ -27,10 +27,9 @@ use Rattle.rules_evaluation.specs.Outcome.{stack, stuck}
 use Rattle.rules_evaluation.specs.Branches.{paid}
 use Rattle.rules_evaluation.specs.Given.{on_goes, lambda_run}
 use Rattle.laws_stacks.specs.Sound.{seen, Sound, KeepsFrom, SafeRun}
-use Rattle.laws_stacks.proofs.Kept.{after_still}
-use Rattle.laws_stacks.proofs.Paid.{keeps_charge}
-use Rattle.laws_types.proofs.SameKinds.{same_kinds_true}
-use Rattle.laws_control.proofs.Safe.{act_typer}
+use Rattle.laws_stacks.proofs.ForCallers.{after_still, keeps_charge}
+use Rattle.laws_types.proofs.ForCallers.{same_kinds_true}
+use Rattle.laws_control.proofs.ForCallers.{act_typer}
 
 -- ---- LAMBDA and LAMBDA_REC
 

@@ -5,3 +5,4 @@ pub mod Clean
 pub mod Forms
 pub mod Lambdas
 pub mod Pushes
+pub mod ForCallers

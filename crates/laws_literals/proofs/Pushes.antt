@@ -12,7 +12,7 @@ use Rattle.rules_instructions.specs.Forms as f
 use Rattle.rules_values.specs.Val.{Val}
 use Rattle.rules_values.specs.Literals.{Literal, good, bad, read}
 use Rattle.rules_values.specs.Weight.{weight}
-use Rattle.rules_typing.specs.Typing.{Typing, goes, fails, shift, made, ends}
+use Rattle.rules_typing.specs.Typing.{goes}
 use Rattle.rules_typing.specs.Typing as typing
 use Rattle.rules_typing.specs.Literals.{fault_of_bodies, checked, of_reading}
 use Rattle.rules_typing.specs.Fits.{Fits}
@@ -20,17 +20,14 @@ use Rattle.rules_evaluation.specs.Surroundings.{Surroundings}
 use Rattle.rules_evaluation.specs.Operations.{Tally}
 use Rattle.rules_evaluation.specs.Outcome.{stack, unless_stuck, charge}
 use Rattle.rules_evaluation.specs.Given.{on_found, on_goes, value_of, push_run}
-use Rattle.laws_typing.proofs.Fit.{fit}
-use Rattle.laws_typing.proofs.Pushed.{all_pushed}
+use Rattle.laws_typing.proofs.ForCallers.{fit, all_pushed}
 use Rattle.rules_steps.specs.Changes.{amount_in}
 use Rattle.laws_evaluation.specs.Laws.{known}
 use Rattle.laws_stacks.specs.Sound.{seen, Sound, KeepsFrom, SafeRun}
-use Rattle.laws_stacks.proofs.Nothing.{no_amount, pushable_duplicable}
-use Rattle.laws_stacks.proofs.Kept.{after_still}
-use Rattle.laws_stacks.proofs.Paid.{keeps_charge}
-use Rattle.laws_typed.proofs.Carried.{FoundHas, IsRead, argument_read}
+use Rattle.laws_stacks.proofs.ForCallers.{no_amount, pushable_duplicable, after_still, keeps_charge}
+use Rattle.laws_typed.proofs.ForCallers.{FoundHas, IsRead, argument_read}
 use Rattle.laws_literals.proofs.Claims.{pushed_claims}
-use Rattle.laws_control.proofs.Safe.{act_typer}
+use Rattle.laws_control.proofs.ForCallers.{act_typer}
 
 -- ---- PUSH
 

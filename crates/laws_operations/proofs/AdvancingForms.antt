@@ -11,7 +11,7 @@ use Rattle.rules_instructions.specs.Straight.{Straight, OperationRow, on_stack, 
 use Rattle.rules_instructions.specs.Straight as i
 use Rattle.rules_instructions.specs.Control.{call_kinds, push_of, self_of}
 use Rattle.rules_instructions.specs.Rules.{Ruled, ruled, faulty}
-use Rattle.rules_values.specs.Val.{Val, Vals, no_val, more_vals}
+use Rattle.rules_values.specs.Val.{Val}
 use Rattle.rules_values.specs.Val as v
 use Rattle.rules_values.specs.Literals.{read}
 use Rattle.rules_values.specs.Weight.{weight}

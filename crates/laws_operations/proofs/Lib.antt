@@ -4,3 +4,4 @@ pub mod AdvancingLevels
 pub mod AdvancingStacks
 pub mod NewContracts
 pub mod Picks
+pub mod ForCallers

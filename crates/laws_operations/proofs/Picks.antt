@@ -4,7 +4,7 @@ use Rattle.std.specs.declared.option.Option.{Option}
 use Rattle.std.specs.List.{All, find, list_any}
 use Rattle.std.proofs.lemmas.Bool.{eqb-true, eqb-false}
 use Rattle.std.proofs.lemmas.List.Elements.{All-nil, All-cons, All-head, All-tail}
-use Rattle.rules_values.specs.Val.{Val, Vals, no_val, more_vals}
+use Rattle.rules_values.specs.Val.{Vals, no_val, more_vals}
 use Rattle.rules_values.specs.Val as v
 use Rattle.rules_values.specs.Forms.{AllHave}
 use Rattle.rules_types.specs.Kind as k

@@ -6,3 +6,4 @@ pub mod Parts
 pub mod Scripts
 pub mod TypedCode
 pub mod Packables
+pub mod ForCallers

@@ -5,7 +5,7 @@ use Rattle.rules_types.specs.declared.Simple.{Simple}
 use Rattle.rules_types.specs.declared.Simple.TheVariants as s
 use Rattle.rules_types.specs.Kind.{Kind}
 use Rattle.rules_types.specs.Kind as k
-use Rattle.rules_values.specs.Val.{Val, Vals, no_val, more_vals, Pairs, no_pair, more_pairs}
+use Rattle.rules_values.specs.Val.{Val, more_vals, Pairs, more_pairs}
 use Rattle.rules_values.specs.Val as v
 use Rattle.rules_forms.specs.Spelling.{is_address}
 use Rattle.rules_values.specs.Literals.{Word, none_word, some_word, left_word, right_word, pair_word, entry_word, recursive_word, other_word, word_of_name, Pending, body, claim, Literal, good, bad, with_pending, and_then, mapped, Reader, on_value, bare_value, unit_of_word, truth_of_word, number_value, text_value, bytes_value, read_simple, option_named, read_option, or_named, read_or, read_parts, pair_named, parts_of, read_elements, read_list, is_behind, read_increasing, read_set, read_binding, entry_named, read_entry, read_entries, read_table, read_body, recursive_named, read_lambda, read_contract, read, read_rest}

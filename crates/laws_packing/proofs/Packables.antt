@@ -20,7 +20,7 @@ use Rattle.rules_typing.specs.Typing.{Typing, goes, fails, bad}
 use Rattle.rules_typing.specs.Nodes.{tree_type}
 use Rattle.rules_typing.specs.Fits.{Known, Fits, Leads}
 use Rattle.laws_typing.specs.Laws.{told_by, AllClaimed}
-use Rattle.laws_typing.proofs.Fit.{literals_fit}
+use Rattle.laws_typing.proofs.ForCallers.{literals_fit}
 use Rattle.laws_packing.specs.Laws.{IsTyped, FittingIsPackable, LiteralIsPackable}
 use Rattle.laws_packing.specs.Names.{IsPackable, ArePackable, EntriesArePackable}
 use Rattle.laws_packing.proofs.TypedCode.{typed_code_has_codes}

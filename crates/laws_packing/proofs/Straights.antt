@@ -8,7 +8,7 @@ use Rattle.rules_types.specs.Kind.{Kind}
 use Rattle.rules_types.specs.Attributes.{comparable, passable, pushable, packable, big_value}
 use Rattle.rules_types.specs.Reading.{any_kind}
 use Rattle.rules_instructions.specs.Straight as i
-use Rattle.rules_instructions.specs.Straight.{on_stack, on_pairs, on_unions, on_collections, on_hashes, on_operations}
+use Rattle.rules_instructions.specs.Straight.{on_stack, on_unions, on_collections, on_hashes, on_operations}
 use Rattle.rules_instructions.specs.Overloads as o
 use Rattle.rules_instructions.specs.Arguments.{Found, found, fault, and_then, no_argument, type_argument, one_type, two_types, one_count, count_or, annotated, view_name_argument}
 use Rattle.rules_instructions.specs.Instructions.{Instruction, row, overloaded, emit_of, view_of, instruction}

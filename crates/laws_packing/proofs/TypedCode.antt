@@ -25,12 +25,11 @@ use Rattle.rules_typing.specs.Bodies.{body_fault, first_fault}
 use Rattle.rules_typing.specs.Stacks.{on_origination}
 use Rattle.rules_typing.specs.Acts.{no_body, one_body, two_bodies, last_body, of_rule, push_type, dip_type, lambda_type, lambda_rec_type, self_type, of_script, act_type}
 use Rattle.rules_typing.specs.Scripts.{Script}
-use Rattle.rules_typing.specs.Nodes.{named_type, found_at, tree_type, trees_type, bodies, script_in, script_at, sections, inner_bodies, typing_of, typings}
+use Rattle.rules_typing.specs.Nodes.{named_type, found_at, tree_type, trees_type, bodies, script_in, script_at, sections, inner_bodies}
 use Rattle.rules_typing.specs.Nodes as nodes
 use Rattle.rules_typing.specs.Literals.{checked, of_reading, fault_of_bodies}
 use Rattle.laws_typing.specs.Laws.{AllAtMost}
-use Rattle.laws_typing.proofs.Sizes.{bodies_within}
-use Rattle.laws_typing.proofs.Pushed.{all_pushed, typing_at}
+use Rattle.laws_typing.proofs.ForCallers.{bodies_within, all_pushed, typing_at}
 use Rattle.laws_packing.specs.Laws.{IsTyped, TypedCodeHasCodes}
 use Rattle.laws_packing.specs.Names.{HasCodes, HaveCodes}
 use Rattle.laws_packing.proofs.Known.{IsKnown, of_primitive}

@@ -1,7 +1,7 @@
 -- Each name in a node that is read as a type is a primitive's.
 use Rattle.std.proofs.Common.{◌≡◌, ℕ, ◌+◌, Bool, true, false, cond, List, [], ◌∷◌, refl}
 use Rattle.rules_base.specs.Tree.{Tree, int, str, bytes, prim, seq, Trees, none, more, size}
-use Rattle.rules_types.specs.Kind.{Kind, nodes}
+use Rattle.rules_types.specs.Kind.{Kind}
 use Rattle.rules_types.specs.Reading.{Former, simple_type, operation_type, one_argument, two_arguments, pair_type, no_type, former_of_name, asked_of_first, Read, good, bad, Part, part, on_good, paired, applied, typed, parts, limited, Reading, a_type, bad_type, too_large, type_at}
 use Rattle.rules_instructions.specs.Arguments.{found, with_attribute, type_argument}
 use Rattle.laws_packing.specs.Names.{HasCodes, HaveCodes}
@@ -16,10 +16,6 @@ AllGood (part l (bad m) ∷ qs) = ⊥
 bad_if : (b : Bool) (l m : ℕ) (c : Kind) → cond b (bad l) (bad m) ≡ good c → ⊥
 bad_if true l m c e = cc
 bad_if false l m c e = cc
-
-good_if : (b : Bool) (r : Read) (m : ℕ) (c : Kind) → cond b r (bad m) ≡ good c → r ≡ good c
-good_if true r m c e = e
-good_if false r m c e = absurd cc
 
 on_good_is : (f : Kind → Kind) (r : Read) (c : Kind) → on_good f r ≡ good c → (a : Kind) × (r ≡ good a)
 on_good_is f (good a) c e = (a, refl)

@@ -16,12 +16,12 @@ use Rattle.rules_instructions.specs.Same.{same_kinds}
 use Rattle.rules_typing.specs.Typing.{Typing, Typer, goes, fails, bad, shift}
 use Rattle.rules_typing.specs.Bodies.{body_fault}
 use Rattle.rules_typing.specs.Sections.{Placed, Body, WrittenView, Content, parameter_section, storage_section, code_section, view_section, no_section, placed, a_body, view_content, content_of, content_at, Contents, no_contents, once, view_named, with_content, with_sections}
-use Rattle.rules_typing.specs.Scripts.{Script, Entered, parameter_of, typed_as, TypedView, typed_views, Outline, with_types, of_parts, of_contents, outline_of, is_small, fault_of_body, code_fault, a_script}
+use Rattle.rules_typing.specs.Scripts.{Script, parameter_of, typed_as, typed_views, Outline, with_types, of_parts, of_contents, is_small, fault_of_body, code_fault, a_script}
 use Rattle.rules_typing.specs.Nodes.{tree_type, trees_type, bodies, inner_bodies, sections, outline, script}
 use Rattle.rules_typing.specs.Fits.{Leads}
 use Rattle.laws_types.specs.Laws.{IsWellFormed}
-use Rattle.laws_types.proofs.SameKinds.{same_kinds_true}
-use Rattle.laws_agreement.proofs.Arguments.{AllFound, HasAttribute, type_argument_all, and_then_both}
+use Rattle.laws_types.proofs.ForCallers.{same_kinds_true}
+use Rattle.laws_agreement.proofs.ForCallers.{AllFound, HasAttribute, type_argument_all, and_then_both}
 use Rattle.laws_runs.proofs.Scripts.{script_is}
 
 -- ---- the body in its section

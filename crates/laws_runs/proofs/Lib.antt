@@ -8,3 +8,4 @@ pub mod Surrounded
 pub mod Unissued
 pub mod Waiting
 pub mod Worlds
+pub mod ForCallers

@@ -12,9 +12,7 @@ use Rattle.rules_evaluation.specs.Contracts.{hash_in}
 use Rattle.rules_world.specs.World.{World, Account, account_or_none, contract_at, with_contract, key_hash_in}
 use Rattle.rules_world.specs.Balances.{supply, balance_or_none, with_balance, with_account_balance, with_contract_balance, with_less, moved, fee_taken}
 use Rattle.rules_world.specs.Holdings.{amount_held, held}
-use Rattle.laws_accounts.proofs.Entries.{one_in}
-use Rattle.laws_accounts.proofs.More.{Extends, extends_trans}
-use Rattle.laws_accounts.proofs.Mutez.{InOrder, IsOwner, less_supply, more_supply}
+use Rattle.laws_accounts.proofs.ForCallers.{one_in, Extends, extends_trans, InOrder, IsOwner, less_supply, more_supply}
 use Rattle.laws_runs.proofs.Worlds.{IsOrderly, account_holdings, contract_stores, contract_length, orderly_account, orderly_contract, orderly_fees, extends_replaced, none_replaced, held_account, held_contract}
 
 -- the world after a step in which contracts keep their scripts, none comes to be, and no ticket moves

@@ -16,7 +16,6 @@ use Rattle.rules_steps.specs.Environment.{Environment}
 use Rattle.rules_evaluation.specs.Surroundings.{Contract}
 use Rattle.rules_evaluation.specs.Operations.{Issued, Tally, operation_tickets}
 use Rattle.rules_evaluation.specs.Outcome as code
-use Rattle.rules_evaluation.specs.Outcome.{only_if}
 use Rattle.rules_evaluation.specs.Loops.{ending}
 use Rattle.rules_evaluation.specs.Evaluation.{eval}
 use Rattle.rules_world.specs.World.{World, contract_at}
@@ -28,20 +27,18 @@ use Rattle.rules_world.specs.RunLaws.{IsCall, RunsEnd}
 use Rattle.rules_world.specs.Forms.{IsChange}
 use Rattle.rules_world.specs.Good.{known_with, FitsIn, IsGoodOperation}
 use Rattle.laws_evaluation.specs.Laws.{known, Keeps}
-use Rattle.laws_types.proofs.SameKinds.{same_kinds_refl}
-use Rattle.laws_tickets.proofs.Linear.{runs_keep}
+use Rattle.laws_types.proofs.ForCallers.{same_kinds_refl}
+use Rattle.laws_tickets.proofs.ForCallers.{runs_keep}
 use Rattle.laws_operations.specs.Fresh.{made_by_issued, AreNew}
 use Rattle.laws_operations.specs.NewOperations.{AreInTurn, Advances, AdvancesTo}
 use Rattle.laws_runs.specs.RunEnds.{EndsWell, RunsEndWell}
 use Rattle.laws_safety.specs.Laws.{StaysWell, LeavesWell}
 use Rattle.laws_stacks.specs.Sound.{seen, IsSoundIssue, IsWell}
-use Rattle.laws_safety.proofs.Law.{never_stuck, code_leaves_well}
+use Rattle.laws_safety.proofs.ForCallers.{never_stuck, code_leaves_well}
 use Rattle.laws_runs.proofs.Unissued.{storable_free, unissued}
-use Rattle.laws_operations.proofs.Advances.{turns_grow}
-use Rattle.laws_operations.proofs.AdvancingLevels.{operations_are_new}
-use Rattle.laws_accounts.proofs.Amounts.{minted_append}
+use Rattle.laws_operations.proofs.ForCallers.{turns_grow, operations_are_new, numbers_issued, picked, picks_of, picked_all, picked_new}
+use Rattle.laws_accounts.proofs.ForCallers.{minted_append}
 use Rattle.laws_runs.proofs.Codes.{script_code}
-use Rattle.laws_operations.proofs.Picks.{numbers_issued, picked, picks_of, picked_all, picked_new}
 use Rattle.laws_runs.proofs.Scripts.{IsMet}
 use Rattle.laws_runs.proofs.Surrounded.{is_met, stands}
 use Rattle.laws_runs.proofs.Worlds.{set_here, contract_stores}

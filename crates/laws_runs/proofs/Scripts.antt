@@ -16,8 +16,8 @@ use Rattle.rules_evaluation.specs.Surroundings.{Contract}
 use Rattle.rules_evaluation.specs.Contracts.{Lookup, if_found, outline_in, entry_in, hash_in, chosen_entrypoint, takes, address_where, contract_named, is_contract_of}
 use Rattle.rules_world.specs.World.{World, contract_at}
 use Rattle.rules_world.specs.Targets.{Target, Search, met, missing, unreadable, with_entry, in_contract, search}
-use Rattle.laws_types.proofs.SameKinds.{same_kind_true}
-use Rattle.laws_accounts.proofs.More.{Extends}
+use Rattle.laws_types.proofs.ForCallers.{same_kind_true}
+use Rattle.laws_accounts.proofs.ForCallers.{Extends}
 use Rattle.laws_runs.proofs.Worlds.{IsOrderly, contract_stores}
 
 -- ---- scripts

@@ -26,18 +26,13 @@ use Rattle.rules_world.specs.RunLaws.{IsCall}
 use Rattle.rules_world.specs.Forms.{IsAccount}
 use Rattle.rules_world.specs.Good.{known_with, FitsIn, IsGoodContract, IsSound}
 use Rattle.laws_evaluation.specs.Laws.{IsGood, IsType, Stands}
-use Rattle.laws_agreement.proofs.Paths.{LeadsTo, EntriesLead, found_leads}
-use Rattle.laws_agreement.proofs.Scripts.{outline_typed}
-use Rattle.laws_accounts.proofs.Amounts.{in_both, in_positive, minted_positive, burnt_positive}
+use Rattle.laws_agreement.proofs.ForCallers.{LeadsTo, EntriesLead, found_leads, outline_typed}
+use Rattle.laws_accounts.proofs.ForCallers.{in_both, in_positive, minted_positive, burnt_positive, all_insert, one_in, held_positive, contract_supply, environment_good}
 use Rattle.laws_runs.proofs.Codes.{script_code}
-use Rattle.laws_accounts.proofs.Entries.{all_insert, one_in}
-use Rattle.laws_accounts.proofs.Holdings.{held_positive}
-use Rattle.laws_accounts.proofs.Mutez.{contract_supply}
 use Rattle.laws_runs.proofs.Moves.{in_order}
 use Rattle.laws_runs.proofs.Scripts.{script_is, IsMet, Searched, searched, script_one}
 use Rattle.laws_runs.proofs.Steps.{orderly_of}
 use Rattle.laws_runs.proofs.Worlds.{IsOrderly, contract_stores, contract_length, held_contract}
-use Rattle.laws_accounts.proofs.Environments.{environment_good}
 
 -- ---- what is held is not below nothing
 

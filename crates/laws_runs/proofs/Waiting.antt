@@ -24,7 +24,7 @@ use Rattle.rules_world.specs.RunLaws.{amount_returned}
 use Rattle.rules_world.specs.Forms.{IsTicket}
 use Rattle.rules_world.specs.Good.{known_with, IsGoodOperation, IsGoodWaiting, amount_waiting}
 use Rattle.laws_runs.specs.Going.{orders, KeepsGoing}
-use Rattle.laws_accounts.proofs.Amounts.{simple_none, tickets_good, among_positive}
+use Rattle.laws_accounts.proofs.ForCallers.{simple_none, tickets_good, among_positive}
 
 -- ---- their tickets
 

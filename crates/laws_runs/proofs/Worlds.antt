@@ -20,10 +20,7 @@ use Rattle.rules_world.specs.World.{World, Account, no_account, account_at, cont
 use Rattle.rules_world.specs.Holdings.{amount_held, held_by_accounts, held_by_contracts, held}
 use Rattle.rules_world.specs.Forms.{IsWorld, IsAccount, IsTwentyBytes, IsHolding, IsChange}
 use Rattle.rules_world.specs.Good.{Stores, IsGoodContract}
-use Rattle.laws_accounts.proofs.Entries.{all_insert, all_found, sorted_insert, lookup_insert, one_in, all_in, sum_insert}
-use Rattle.laws_accounts.proofs.Holdings.{AreHoldings}
-use Rattle.laws_accounts.proofs.Identities.{equal_of}
-use Rattle.laws_accounts.proofs.More.{Extends, contract_good_more}
+use Rattle.laws_accounts.proofs.ForCallers.{all_insert, all_found, sorted_insert, lookup_insert, one_in, all_in, sum_insert, AreHoldings, equal_of, Extends, contract_good_more}
 
 -- a world in its form, whose storages have their types
 pub record IsOrderly (w : World) : Type 0 where

@@ -17,7 +17,7 @@ use Rattle.rules_instructions.specs.Forms as f
 use Rattle.rules_values.specs.Val.{Val}
 use Rattle.rules_values.specs.Val as v
 use Rattle.rules_steps.specs.Changes.{amount_in}
-use Rattle.rules_typing.specs.Typing.{Typing, goes, fails}
+use Rattle.rules_typing.specs.Typing.{goes}
 use Rattle.rules_typing.specs.Typing as typing
 use Rattle.rules_typing.specs.Stacks as asked
 use Rattle.rules_typing.specs.Scripts.{Script}
@@ -32,13 +32,12 @@ use Rattle.rules_evaluation.specs.Given.{on_goes, on_origination, create_run}
 use Rattle.rules_evaluation.specs.Issuing.{issue, with_origination}
 use Rattle.laws_evaluation.specs.Laws.{known}
 use Rattle.laws_stacks.specs.Sound.{seen, Sound, KeepsFrom, SafeRun}
-use Rattle.laws_stacks.proofs.Amounts.{positive}
-use Rattle.laws_stacks.proofs.Paid.{keeps_charge}
-use Rattle.laws_steps.proofs.Arithmetic.{on_natural, amount_low}
-use Rattle.laws_forms.proofs.Places.{place_address, contract_is}
+use Rattle.laws_stacks.proofs.ForCallers.{positive, keeps_charge}
+use Rattle.laws_steps.proofs.ForCallers.{on_natural, amount_low}
+use Rattle.laws_forms.proofs.ForCallers.{place_address, contract_is}
 use Rattle.laws_safety.proofs.OperationRows.{issue_keeps, amount_most}
-use Rattle.laws_control.proofs.Safe.{act_typer}
-use Rattle.laws_types.proofs.SameKinds.{same_kind_true}
+use Rattle.laws_control.proofs.ForCallers.{act_typer}
+use Rattle.laws_types.proofs.ForCallers.{same_kind_true}
 
 new_length : (group index : ℕ) → length (new_contract group index) ≡ 20
 new_length group index = refl

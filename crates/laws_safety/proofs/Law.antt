@@ -12,16 +12,14 @@ use Rattle.laws_evaluation.specs.Laws.{IsType, Stands, Keeps, NeverStuck}
 use Rattle.laws_safety.specs.Laws.{LeavesWell, CodeLeavesWell}
 use Rattle.rules_typing.specs.Nodes.{tree_type}
 use Rattle.laws_stacks.specs.Sound.{seen, AllTypes, Sound, KeepsFrom}
-use Rattle.laws_control.proofs.Safe.{PartsAreSafe, safe_eval}
+use Rattle.laws_control.proofs.ForCallers.{PartsAreSafe, safe_eval}
 use Rattle.laws_safety.proofs.Rows.{rows_keep}
 use Rattle.laws_safety.proofs.Small.{decoded_are_small}
 use Rattle.laws_safety.proofs.Views.{views_keep}
-use Rattle.laws_literals.proofs.Lambdas.{lambdas, lambda_recs}
-use Rattle.laws_literals.proofs.Pushes.{pushes}
-use Rattle.laws_literals.proofs.Applies.{applies}
+use Rattle.laws_literals.proofs.ForCallers.{lambdas, lambda_recs, pushes, applies}
 use Rattle.laws_safety.proofs.Selves.{selves}
 use Rattle.laws_safety.proofs.Creates.{creates}
-use Rattle.laws_typed.proofs.Outlines.{contexts}
+use Rattle.laws_typed.proofs.ForCallers.{contexts}
 
 all_types : (A : List Kind) → All IsType A → AllTypes A
 all_types [] h = tt

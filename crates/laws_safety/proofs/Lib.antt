@@ -7,3 +7,4 @@ pub mod Creates
 pub mod Selves
 pub mod Small
 pub mod Views
+pub mod ForCallers

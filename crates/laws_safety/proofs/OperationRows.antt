@@ -32,14 +32,11 @@ use Rattle.rules_evaluation.specs.Issuing.{with_operation, issued_where, issue}
 use Rattle.rules_evaluation.specs.Operating.{view_run, operation_run}
 use Rattle.laws_evaluation.specs.Laws.{known, amount_on, most_mutez}
 use Rattle.laws_stacks.specs.Sound.{IsSoundIssue, Seen, seen, Sound, KeepsFrom}
-use Rattle.laws_stacks.proofs.Amounts.{positive}
-use Rattle.laws_stacks.proofs.Grow.{all_grow}
-use Rattle.laws_types.proofs.SameKinds.{same_kind_true}
-use Rattle.laws_stacks.proofs.Kept.{knows_grow, after_still}
-use Rattle.laws_steps.proofs.Arithmetic.{on_natural, amount_low}
-use Rattle.laws_forms.proofs.Places.{implicit_is}
-use Rattle.laws_stacks.proofs.Addresses.{GivesContract, contract_gives, taken_there, spelled_is, default_is}
-use Rattle.laws_typed.proofs.TypedData.{RowTypes}
+use Rattle.laws_stacks.proofs.ForCallers.{positive, all_grow, knows_grow, after_still, GivesContract, contract_gives, taken_there, spelled_is, default_is}
+use Rattle.laws_types.proofs.ForCallers.{same_kind_true}
+use Rattle.laws_steps.proofs.ForCallers.{on_natural, amount_low}
+use Rattle.laws_forms.proofs.ForCallers.{implicit_is}
+use Rattle.laws_typed.proofs.ForCallers.{RowTypes}
 use Rattle.std.proofs.lemmas.Bool.{and_parts}
 use Rattle.std.proofs.lemmas.List.Elements.{All-push}
 use Rattle.rules_values.specs.Literals.{is_amount}

@@ -7,30 +7,28 @@ use Rattle.rules_types.specs.Kind.{Kind}
 use Rattle.rules_types.specs.Kind as k
 use Rattle.rules_instructions.specs.Same.{same_kind}
 use Rattle.rules_instructions.specs.Change.{makes, keeps, where_true}
-use Rattle.rules_instructions.specs.StackChanges.{stack_change, pair_change}
+use Rattle.rules_instructions.specs.StackChanges.{pair_change}
 use Rattle.rules_instructions.specs.StackChanges as kinds
 use Rattle.rules_instructions.specs.DataChanges.{union_change}
-use Rattle.rules_instructions.specs.Straight.{StackRow, PairRow, UnionRow}
+use Rattle.rules_instructions.specs.Straight.{PairRow, UnionRow}
 use Rattle.rules_instructions.specs.Straight as i
-use Rattle.rules_values.specs.Val.{Val, Vals, no_val, more_vals}
+use Rattle.rules_values.specs.Val.{Val, Vals, more_vals}
 use Rattle.rules_values.specs.Val as v
 use Rattle.rules_values.specs.Tickets.{Identity, tickets, all_tickets}
 use Rattle.rules_steps.specs.Changes.{amount_in}
 use Rattle.rules_steps.specs.Step.{kept, discarding, on_some}
-use Rattle.rules_steps.specs.Stack.{Part, Replaced, passing, behind, stack_step, pair_step, union_step}
+use Rattle.rules_steps.specs.Stack.{Part, Replaced, passing, behind, pair_step, union_step}
 use Rattle.rules_steps.specs.Stack as values
 use Rattle.rules_typing.specs.Fits.{Known, Fits, AllFit}
 use Rattle.laws_evaluation.specs.Laws.{amount_on}
-use Rattle.laws_types.proofs.SameKinds.{same_kind_true}
-use Rattle.laws_amounts.proofs.Sums.{among_append}
-use Rattle.laws_stacks.proofs.Amounts.{on-append, positive}
-use Rattle.laws_stacks.proofs.Kept.{fit-append}
-use Rattle.laws_control.proofs.Branches.{fit_drop}
-use Rattle.laws_steps.proofs.Steps.{quiet_none, quiet_burns, RowStep, StepFits}
+use Rattle.laws_types.proofs.ForCallers.{same_kind_true}
+use Rattle.laws_amounts.proofs.ForCallers.{among_append}
+use Rattle.laws_stacks.proofs.ForCallers.{on-append, positive, fit-append, tickets_good, one_good}
+use Rattle.laws_control.proofs.ForCallers.{fit_drop}
+use Rattle.laws_steps.proofs.ForCallers.{quiet_none, quiet_burns, RowStep, StepFits}
 use Rattle.std.specs.List.{All}
 use Rattle.std.proofs.lemmas.List.Elements.{All-nil, All-append}
 use Rattle.rules_world.specs.Forms.{IsTicket}
-use Rattle.laws_stacks.proofs.Wells.{tickets_good, one_good}
 
 -- ---- combs
 

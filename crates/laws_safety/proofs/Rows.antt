@@ -21,20 +21,13 @@ use Rattle.rules_evaluation.specs.Outcome.{Run, finish}
 use Rattle.rules_evaluation.specs.Straight.{minted_so_far, row_run, ruled_run}
 use Rattle.laws_evaluation.specs.Laws.{known, IsGood}
 use Rattle.laws_stacks.specs.Sound.{seen, Sound, KeepsFrom, SafeRun}
-use Rattle.laws_stacks.proofs.Paid.{keeps_charge}
-use Rattle.laws_steps.proofs.Steps.{StepFits, finish_keeps}
-use Rattle.laws_typed.proofs.TypedData.{RowTypes}
-use Rattle.laws_typed.proofs.TypedRules.{Taken, RuledTypes, rule_taken}
+use Rattle.laws_stacks.proofs.ForCallers.{keeps_charge}
+use Rattle.laws_steps.proofs.ForCallers.{StepFits, finish_keeps, collection_keeps, number_keeps, logic_keeps, text_keeps, DecodedAreSmall, HashCarries, hash_keeps, environment_keeps, TicketFits, ticket_keeps}
+use Rattle.laws_typed.proofs.ForCallers.{RowTypes, Taken, RuledTypes, rule_taken}
 use Rattle.laws_safety.proofs.StackRows.{stack_keeps}
 use Rattle.laws_safety.proofs.PairRows.{pair_keeps, union_keeps}
-use Rattle.laws_steps.proofs.CollectionRows.{collection_keeps}
-use Rattle.laws_steps.proofs.NumberRows.{number_keeps, logic_keeps}
-use Rattle.laws_steps.proofs.TextRows.{text_keeps}
-use Rattle.laws_steps.proofs.HashRows.{DecodedAreSmall, HashCarries, hash_keeps}
-use Rattle.laws_steps.proofs.EnvironmentRows.{environment_keeps}
-use Rattle.laws_steps.proofs.TicketRows.{TicketFits, ticket_keeps}
 use Rattle.laws_safety.proofs.OperationRows.{ViewKeeps, OperationFits, operation_keeps}
-use Rattle.laws_control.proofs.Safe.{SafeNodes}
+use Rattle.laws_control.proofs.ForCallers.{SafeNodes}
 
 hash_carries : (r : HashRow) → RowTypes (on_hashes r) → HashCarries r
 hash_carries i.pack h = tt

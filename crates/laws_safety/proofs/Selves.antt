@@ -29,14 +29,11 @@ use Rattle.rules_evaluation.specs.Contracts.{Lookup, if_found, entry_in, hash_in
 use Rattle.rules_evaluation.specs.Given.{on_found, on_goes, self_run}
 use Rattle.laws_evaluation.specs.Laws.{IsGood, IsOwnContext}
 use Rattle.laws_stacks.specs.Sound.{seen, Sound, KeepsFrom, SafeRun}
-use Rattle.laws_types.proofs.SameKinds.{same_kind_refl}
-use Rattle.laws_stacks.proofs.Kept.{after_still}
-use Rattle.laws_stacks.proofs.Paid.{keeps_charge}
-use Rattle.laws_typed.proofs.Carried.{FoundHas, found_then, named_entrypoint}
-use Rattle.laws_forms.proofs.Places.{contract_is}
-use Rattle.laws_stacks.proofs.Addresses.{take_front, taken_there, spelled_is, default_is}
-use Rattle.laws_typed.proofs.Outlines.{Outlined, outlined}
-use Rattle.laws_control.proofs.Safe.{act_typer}
+use Rattle.laws_types.proofs.ForCallers.{same_kind_refl}
+use Rattle.laws_stacks.proofs.ForCallers.{after_still, keeps_charge, take_front, taken_there, spelled_is, default_is}
+use Rattle.laws_typed.proofs.ForCallers.{FoundHas, found_then, named_entrypoint, Outlined, outlined}
+use Rattle.laws_forms.proofs.ForCallers.{contract_is}
+use Rattle.laws_control.proofs.ForCallers.{act_typer}
 
 no_more : (ts : Trees) (name : List ℕ) → is_entrypoint name ≡ true → FoundHas (λ n. is_entrypoint n ≡ true) (no_argument ts name)
 no_more none name h = h

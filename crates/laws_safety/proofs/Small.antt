@@ -12,7 +12,7 @@ use Rattle.rules_binary.specs.declared.DecodeKind.TheVariants.{BadTag, BadLength
 use Rattle.rules_binary.specs.declared.Tag.{Tag}
 use Rattle.rules_binary.specs.declared.Tag.TheVariants as tags
 use Rattle.rules_binary.specs.Reading.{Fault, Spot, ◌>>=◌, fault, past, byte_of, byte_at, field_of, field_at, narrow_field_at, goes_on, integer_of, integer_by, integer_at, is_text, string_at, bytes_at, annotations_of, any_annotations, annotations_at, any_annotations_at, short_annotations_at, name_by, name_at, arguments_at, nodes_within, nodes_at, application_at, many_at, node_by, tags_in_order, tag_by, tag_at, node_at, decoded}
-use Rattle.laws_steps.proofs.HashRows.{DecodedAreSmall}
+use Rattle.laws_steps.proofs.ForCallers.{DecodedAreSmall}
 
 -- what was read and the bytes that are left are together no more than this
 abbrev Took : {A : Type 0} → (A → ℕ) → ℕ → Result (A × Spot) Fault → Type 0

@@ -8,21 +8,19 @@ use Rattle.rules_types.specs.Attributes.{duplicable}
 use Rattle.rules_instructions.specs.Same.{same_kind}
 use Rattle.rules_instructions.specs.Change.{makes, keeps, where_true}
 use Rattle.rules_instructions.specs.StackChanges.{stack_change}
-use Rattle.rules_instructions.specs.Straight.{StackRow, PairRow, UnionRow}
+use Rattle.rules_instructions.specs.Straight.{StackRow}
 use Rattle.rules_instructions.specs.Straight as i
 use Rattle.rules_values.specs.Val.{Val}
 use Rattle.rules_values.specs.Tickets.{Identity, tickets}
 use Rattle.rules_steps.specs.Changes.{amount_in}
-use Rattle.rules_steps.specs.Step.{Step, kept, discarding, on_some}
+use Rattle.rules_steps.specs.Step.{kept, discarding, on_some}
 use Rattle.rules_steps.specs.Step as step
 use Rattle.rules_steps.specs.Stack.{stack_step}
 use Rattle.rules_typing.specs.Fits.{Known, Fits, AllFit}
 use Rattle.laws_evaluation.specs.Laws.{amount_on}
-use Rattle.laws_stacks.proofs.Amounts.{positive}
-use Rattle.laws_stacks.proofs.Nothing.{no_amount}
-use Rattle.laws_control.proofs.Branches.{fit_drop, fit_length}
-use Rattle.laws_steps.proofs.Steps.{quiet_none, quiet_burns, RowStep, StepFits}
-use Rattle.laws_stacks.proofs.Wells.{taken_good}
+use Rattle.laws_stacks.proofs.ForCallers.{positive, no_amount, taken_good}
+use Rattle.laws_control.proofs.ForCallers.{fit_drop, fit_length}
+use Rattle.laws_steps.proofs.ForCallers.{quiet_none, quiet_burns, RowStep, StepFits}
 
 -- ---- the order of the stack
 

@@ -12,14 +12,13 @@ use Rattle.rules_types.specs.Kind as k
 use Rattle.rules_types.specs.Attributes.{packable}
 use Rattle.rules_instructions.specs.Types as ty
 use Rattle.rules_instructions.specs.Same.{same_kind, same_kinds}
-use Rattle.rules_instructions.specs.Context.{Context}
 use Rattle.rules_instructions.specs.Context as place
 use Rattle.rules_values.specs.Val.{Val}
 use Rattle.rules_values.specs.Val as v
 use Rattle.rules_values.specs.Tickets.{tickets}
 use Rattle.rules_steps.specs.Changes.{burns, minted_in, amount_in}
 use Rattle.rules_steps.specs.Step.{done}
-use Rattle.rules_typing.specs.Typing.{Typing, Typer, goes, fails, shift}
+use Rattle.rules_typing.specs.Typing.{Typing, goes, fails, shift}
 use Rattle.rules_typing.specs.Typing as typing
 use Rattle.rules_typing.specs.Bodies.{body_fault}
 use Rattle.rules_typing.specs.Scripts.{TypedView, is_small, view_fault}
@@ -33,21 +32,14 @@ use Rattle.rules_evaluation.specs.Contracts.{if_found, view_named, hash_in, View
 use Rattle.rules_evaluation.specs.Operating.{in_view, behind_view, view_run}
 use Rattle.laws_evaluation.specs.Laws.{known, IsType, IsGood, IsGoodContract}
 use Rattle.laws_stacks.specs.Sound.{seen, Sound, After, KeepsFrom}
-use Rattle.laws_types.proofs.SameKinds.{same_kind_true, same_kinds_true}
-use Rattle.laws_amounts.proofs.Sums.{among_append}
-use Rattle.laws_stacks.proofs.Amounts.{positive}
-use Rattle.laws_stacks.proofs.Nothing.{no_amount, packable_duplicable}
-use Rattle.laws_stacks.proofs.Grow.{Knows, fits_grow, fits_packed}
-use Rattle.laws_stacks.proofs.Kept.{keeps_apart}
-use Rattle.laws_steps.proofs.Steps.{quiet_burns, finish_keeps}
-use Rattle.laws_typed.proofs.Carried.{FoundHas}
-use Rattle.laws_typed.proofs.Outlines.{Outlined, outlined}
-use Rattle.laws_forms.proofs.Places.{place_length, contract_is}
-use Rattle.laws_stacks.proofs.Addresses.{address_place}
+use Rattle.laws_types.proofs.ForCallers.{same_kind_true, same_kinds_true}
+use Rattle.laws_amounts.proofs.ForCallers.{among_append}
+use Rattle.laws_stacks.proofs.ForCallers.{positive, no_amount, packable_duplicable, Knows, fits_grow, fits_packed, keeps_apart, address_place, tickets_good}
+use Rattle.laws_steps.proofs.ForCallers.{quiet_burns, finish_keeps}
+use Rattle.laws_typed.proofs.ForCallers.{FoundHas, Outlined, outlined, TypedGood, AllTyped, OutlineGood, outline_good, AllTried, all_tried}
+use Rattle.laws_forms.proofs.ForCallers.{place_length, contract_is}
 use Rattle.laws_safety.proofs.Rows.{ViewsKeep}
-use Rattle.laws_control.proofs.Safe.{SafeNodes}
-use Rattle.laws_typed.proofs.ViewBodies.{TypedGood, AllTyped, OutlineGood, outline_good, AllTried, all_tried}
-use Rattle.laws_stacks.proofs.Wells.{tickets_good}
+use Rattle.laws_control.proofs.ForCallers.{SafeNodes}
 
 -- ---- what a view that is there is
 

@@ -11,8 +11,8 @@ use Rattle.mich_term.specs.declared.value.Value.{Value, roll-Value, ind-Value, f
 use Rattle.mich_term.specs.declared.value.Value.TheOpen.{Value-F, BigMap-F}
 use Rattle.mich_term.specs.declared.value.Value.TheFolds.{fold-BigMap}
 use Rattle.mich_term.specs.declared.value.BigMap.{BigMap}
-use Rattle.mich_term.proofs.Each as e
-use Rattle.mich_bigmap.proofs.Staying.{equals, agree}
+use Rattle.mich_term.proofs.ForCallers.Each as e
+use Rattle.mich_bigmap.proofs.ForCallers.{equals, agree}
 use Rattle.mich_stack.specs.Views.{Sight, seen}
 use Rattle.laws_sights.specs.Sights.{is_plain, are_plain, entries_plain}
 

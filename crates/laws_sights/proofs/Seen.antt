@@ -22,11 +22,11 @@ use Rattle.mich_term.specs.declared.value.Value.{Value}
 use Rattle.mich_term.specs.declared.value.Value.TheOpen.{BigMap-F}
 use Rattle.mich_term.specs.declared.value.Value.TheFolds.{fold_out-BigMap, map-BigMap}
 use Rattle.mich_term.specs.declared.value.BigMap.{BigMap, out-BigMap}
-use Rattle.mich_term.proofs.Each as e
+use Rattle.mich_term.proofs.ForCallers.Each as e
 use Rattle.mich_bigmap.specs.Bases.{Bases, Changes}
 use Rattle.mich_bigmap.specs.Layers.{BasedLayer, HasBases}
 use Rattle.mich_bigmap.specs.Standing.{val_in, big_step_in}
-use Rattle.mich_bigmap.proofs.Staying.{equals, agree, each_more, each_both}
+use Rattle.mich_bigmap.proofs.ForCallers.{equals, agree, each_more, each_both}
 use Rattle.mich_stack.specs.Views.{Sight, seen}
 use Rattle.laws_sights.specs.Sights.{Seen, is_less, are_above, are_increasing, put_plain, all_plain, all_put, is_none, has_no_base, shares_well, puts_well, is_layer, odd, seen_where, sight, IsSane, AreSane, EntriesSane}
 use Rattle.laws_sights.proofs.Parts.{big_seen, HasParts, tells, plain_tells, plain_seen, plain_is}

@@ -23,8 +23,7 @@ use Rattle.mich_term.specs.declared.value.BigMap.{BigMap, roll-BigMap}
 use Rattle.mich_bigmap.specs.Bases.{Bases, entries_in}
 use Rattle.mich_bigmap.specs.Standing.{change_step}
 use Rattle.mich_bigmap.specs.Ticketless.{HoldNoTickets}
-use Rattle.mich_bigmap.proofs.Meaning.{none_in}
-use Rattle.mich_bigmap.proofs.Plain.{none_in_store}
+use Rattle.mich_bigmap.proofs.ForCallers.{none_in, none_in_store}
 use Rattle.mich_stack.specs.Views.{Sight, seen}
 use Rattle.mich_step.specs.Shown.{as_entries, shown, all_shown, entries_shown, ShowsTickets}
 use Rattle.laws_sights.specs.Sights.{Seen, is_less, are_above, are_increasing, all_put, is_none, shares_well, puts_well, is_layer, seen_where, sight}

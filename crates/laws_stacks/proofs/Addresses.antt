@@ -1,13 +1,13 @@
 -- Addresses that name an entrypoint, and contracts that there are.
 use Rattle.std.proofs.Common.{◌≡◌, ℕ, zero, suc, Bool, true, false, List, [], ◌∷◌, ◌++◌, length, take, drop, Option, Some, None, refl, sym, ap, ◌∙◌, subst, arith}
-use Rattle.std.specs.Prelude.{◌||◌, not, is_some, if◌then◌else◌}
+use Rattle.std.specs.Prelude.{not, is_some, if◌then◌else◌}
 use Rattle.std.specs.Str.{bytes_eq}
 use Rattle.std.proofs.lemmas.Bool.{and_parts, and_from}
 use Rattle.std.proofs.lemmas.Slice.Eq.{bytes_eq-Decides}
 use Rattle.rules_forms.specs.Spelling.{IsPlace, default_name, entrypoint_of, is_address, is_entrypoint, is_place, is_written_entrypoint, name_of, place_of, spelled_address, written_entrypoint}
 use Rattle.rules_types.specs.Kind.{Kind}
 use Rattle.rules_evaluation.specs.Contracts.{Lookup, chosen_entrypoint, takes, address_where, contract_named, contract_of, is_contract_of}
-use Rattle.laws_forms.proofs.Places.{place_length}
+use Rattle.laws_forms.proofs.ForCallers.{place_length}
 
 -- ---- what is written of a name
 

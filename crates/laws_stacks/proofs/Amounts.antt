@@ -11,7 +11,7 @@ use Rattle.rules_values.specs.Forms.{AllHave, AllEntriesHave}
 use Rattle.rules_values.specs.Tickets.{Identity, Held, tickets, all_tickets, pair_tickets}
 use Rattle.rules_steps.specs.Changes.{identity_of, is_alike, amount_of, amount_among, amount_in}
 use Rattle.rules_typing.specs.Fits.{Known, Fits, AllFit}
-use Rattle.laws_amounts.proofs.Sums.{among_append}
+use Rattle.laws_amounts.proofs.ForCallers.{among_append}
 use Rattle.laws_stacks.proofs.Nothing.{simple_none}
 use Rattle.laws_evaluation.specs.Laws.{amount_on}
 

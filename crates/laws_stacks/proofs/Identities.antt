@@ -20,8 +20,8 @@ use Rattle.rules_values.specs.Forms.{has_simple_form}
 use Rattle.rules_values.specs.Tickets.{Identity, Held}
 use Rattle.rules_steps.specs.Changes.{identity_of, is_alike}
 use Rattle.rules_typing.specs.Fits.{Known, Fits}
-use Rattle.laws_types.proofs.SameKinds.{same_kind_true, same_kind_refl}
-use Rattle.laws_values.proofs.Lawful.{order_lawful}
+use Rattle.laws_types.proofs.ForCallers.{same_kind_true, same_kind_refl}
+use Rattle.laws_values.proofs.ForCallers.{order_lawful}
 
 same_truth : (b c : Bool) → truth_order b c ≡ Equal → b ≡ c
 same_truth false false e = refl

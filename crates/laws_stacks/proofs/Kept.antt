@@ -20,7 +20,7 @@ use Rattle.laws_evaluation.specs.Laws.{known, amount_on}
 use Rattle.laws_stacks.specs.Sound.{Seen, AllTypes, total, Sound, After, KeepsFrom}
 use Rattle.laws_stacks.proofs.Amounts.{on-append}
 use Rattle.laws_stacks.proofs.Grow.{Knows, all_grow}
-use Rattle.laws_types.proofs.SameKinds.{same_kinds_refl, same_kinds_true}
+use Rattle.laws_types.proofs.ForCallers.{same_kinds_refl, same_kinds_true}
 
 pub keeps_failed : (e : Seen) (is : List Issued) (cs : List Change) (V : List Val) (t : Typing) (f : Failure) →
     KeepsFrom e is cs V t (failed f)

@@ -7,3 +7,4 @@ pub mod Nothing
 pub mod Paid
 pub mod Parts
 pub mod Wells
+pub mod ForCallers

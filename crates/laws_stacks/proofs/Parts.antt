@@ -17,7 +17,7 @@ use Rattle.rules_evaluation.specs.Outcome.{Outcome}
 use Rattle.rules_evaluation.specs.Shapes.{on_truth, on_option, on_union, on_list}
 use Rattle.laws_evaluation.specs.Laws.{IsType, amount_on}
 use Rattle.laws_stacks.specs.Sound.{Seen, Sound, KeepsFrom}
-use Rattle.laws_amounts.proofs.Sums.{among_append}
+use Rattle.laws_amounts.proofs.ForCallers.{among_append}
 use Rattle.laws_stacks.proofs.Kept.{keeps_from}
 use Rattle.laws_stacks.proofs.Paid.{sound_with, sound_pop, keeps_pop}
 
@@ -38,9 +38,6 @@ type_right a b h = let n : nodes (k.or a b) ≤ type_limit = h.1 in (h.0.1, omeg
 
 pub type_first : (a b : Kind) → IsType (k.pair a b) → IsType a
 type_first a b h = let n : nodes (k.pair a b) ≤ type_limit = h.1 in (h.0.0, omega arith)
-
-pub type_second : (a b : Kind) → IsType (k.pair a b) → IsType b
-type_second a b h = let n : nodes (k.pair a b) ≤ type_limit = h.1 in (h.0.1, omega arith)
 
 pub type_argument : (a b : Kind) → IsType (k.lambda a b) → IsType a
 type_argument a b h = let n : nodes (k.lambda a b) ≤ type_limit = h.1 in (h.0.0, omega arith)

@@ -13,12 +13,12 @@ use Rattle.rules_instructions.specs.Change.{makes, keeps, where_true}
 use Rattle.rules_instructions.specs.DataChanges.{collection_change}
 use Rattle.rules_instructions.specs.Straight.{CollectionRow}
 use Rattle.rules_instructions.specs.Straight as i
-use Rattle.rules_values.specs.Val.{Val, Vals, no_val, more_vals, Pairs, no_pair, more_pairs}
+use Rattle.rules_values.specs.Val.{Val, Vals, Pairs}
 use Rattle.rules_values.specs.Val as v
 use Rattle.rules_values.specs.Forms.{AllEntriesHave}
 use Rattle.rules_values.specs.Tables.{value_at, without_key, AreIncreasingKeys}
 use Rattle.rules_values.specs.Tickets.{Identity, tickets}
-use Rattle.rules_steps.specs.Changes.{burns, amount_in, amount_among}
+use Rattle.rules_steps.specs.Changes.{amount_in}
 use Rattle.rules_steps.specs.Sets.{has_element, element_count, entry_count}
 use Rattle.rules_numbers.specs.Limits.{integer_limit, is_int, int_or_limit}
 use Rattle.rules_values.specs.Literals.{is_nat}
@@ -26,16 +26,14 @@ use Rattle.rules_steps.specs.Changes as c
 use Rattle.rules_steps.specs.Step.{Step, done, kept, optional, within_limit}
 use Rattle.rules_steps.specs.Collections.{set_with, map_with, on_option, updated, exchanged, collection_step}
 use Rattle.rules_typing.specs.Fits.{Known, Fits, AllFit}
-use Rattle.laws_types.proofs.SameKinds.{same_kind_true}
-use Rattle.laws_stacks.proofs.Amounts.{positive, entries_positive}
-use Rattle.laws_stacks.proofs.Nothing.{no_amount}
-use Rattle.laws_amounts.proofs.Maps.{with_increasing, without_increasing, with_entries, without_entries, OptionHas, value_has, amount_held_in, amount_if, with_amount, without_amount}
+use Rattle.laws_types.proofs.ForCallers.{same_kind_true}
+use Rattle.laws_stacks.proofs.ForCallers.{positive, entries_positive, no_amount, one_good}
+use Rattle.laws_amounts.proofs.ForCallers.{with_increasing, without_increasing, with_entries, without_entries, OptionHas, value_has, amount_held_in, amount_if, with_amount, without_amount}
 use Rattle.laws_steps.proofs.Steps.{Quiet, quiet_none, quiet_burns, RowStep, StepFits}
 use Rattle.laws_steps.proofs.SetRows.{set_fits}
 use Rattle.std.specs.List.{All}
 use Rattle.std.proofs.lemmas.List.Elements.{All-nil}
 use Rattle.rules_world.specs.Forms.{IsTicket}
-use Rattle.laws_stacks.proofs.Wells.{one_good}
 
 -- ---- maps
 

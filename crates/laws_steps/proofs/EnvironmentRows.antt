@@ -19,7 +19,7 @@ use Rattle.laws_evaluation.specs.Laws.{IsGoodEnvironment}
 use Rattle.laws_steps.proofs.Steps.{StepFits}
 use Rattle.laws_steps.proofs.Ranges.{int_from, nat_from, amount_from}
 use Rattle.laws_steps.proofs.Arithmetic.{gives}
-use Rattle.laws_forms.proofs.Places.{place_address, implicit_is, contract_is}
+use Rattle.laws_forms.proofs.ForCallers.{place_address, implicit_is, contract_is}
 
 four_bytes : (b : List ℕ) → length b ≡ 4 → is_chain_id b ≡ true
 four_bytes b h = grind (arith, nat_tests)

@@ -22,7 +22,7 @@ use Rattle.rules_instructions.specs.Context as place
 use Rattle.rules_instructions.specs.Control.{call_kinds}
 use Rattle.rules_instructions.specs.Change.{makes, where_true}
 use Rattle.rules_instructions.specs.OtherChanges.{hash_change}
-use Rattle.rules_instructions.specs.Straight.{HashRow, EnvironmentRow}
+use Rattle.rules_instructions.specs.Straight.{HashRow}
 use Rattle.rules_instructions.specs.Straight as i
 use Rattle.rules_values.specs.Val.{Val}
 use Rattle.rules_values.specs.Val as v
@@ -43,10 +43,9 @@ use Rattle.rules_evaluation.specs.Surroundings.{Surroundings}
 use Rattle.rules_evaluation.specs.Contracts.{is_contract_of}
 use Rattle.rules_evaluation.specs.Trying.{trial}
 use Rattle.laws_typing.specs.Laws.{AllClaimed}
-use Rattle.laws_typing.proofs.Fit.{fit}
+use Rattle.laws_typing.proofs.ForCallers.{fit}
 use Rattle.laws_evaluation.specs.Laws.{known}
-use Rattle.laws_stacks.proofs.Amounts.{positive}
-use Rattle.laws_stacks.proofs.Nothing.{no_amount, pushable_duplicable}
+use Rattle.laws_stacks.proofs.ForCallers.{positive, no_amount, pushable_duplicable}
 use Rattle.laws_steps.proofs.Steps.{RowStep, StepFits, on_bytes}
 use Rattle.laws_steps.proofs.Arithmetic.{gives}
 use Rattle.laws_steps.proofs.TextRows.{short_from, sized_bytes, bytes_below}

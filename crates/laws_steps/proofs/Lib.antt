@@ -9,3 +9,4 @@ pub mod SetRows
 pub mod Steps
 pub mod TextRows
 pub mod TicketRows
+pub mod ForCallers

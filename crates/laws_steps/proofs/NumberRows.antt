@@ -29,7 +29,7 @@ use Rattle.rules_steps.specs.Changes.{amount_in}
 use Rattle.rules_steps.specs.Step.{Step, kept, optional, within_limit}
 use Rattle.rules_steps.specs.Numbers.{give_number, natural, number_step, comparison, logic_step}
 use Rattle.rules_typing.specs.Fits.{Known, AllFit}
-use Rattle.laws_stacks.proofs.Amounts.{positive}
+use Rattle.laws_stacks.proofs.ForCallers.{positive}
 use Rattle.laws_steps.proofs.Steps.{IsNumeric, RowStep, StepFits, on_one_number, on_two_numbers, on_truth}
 use Rattle.laws_steps.proofs.Ranges.{nat_low, nat_within, nat_sum, nat_product, nat_int, int_from, complement_int, quotient_nat, remainder_low, and_nat, or_nat, xor_nat, amount_high, amount_from}
 use Rattle.laws_steps.proofs.Arithmetic.{gives, limited, limited_amount, on_natural, amount_low, below_two, below_one, divides, amount_quotient, amount_remainder, amount_ratio, shift_left, shift_right}

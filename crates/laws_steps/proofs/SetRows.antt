@@ -6,7 +6,7 @@ use Rattle.std.specs.declared.cmp.Ordering.TheVariants.{Less, Equal, Greater}
 use Rattle.std.specs.Ordering.{match_ordering, is_eq, ordering_reverse}
 use Rattle.rules_types.specs.Kind.{Kind}
 use Rattle.rules_types.specs.Kind as k
-use Rattle.rules_values.specs.Val.{Val, Vals, no_val, more_vals, Pairs, no_pair, more_pairs}
+use Rattle.rules_values.specs.Val.{Val, Vals, no_val, more_vals}
 use Rattle.rules_values.specs.Val as v
 use Rattle.rules_values.specs.Order.{order}
 use Rattle.rules_values.specs.Forms.{AllHave}
@@ -14,7 +14,7 @@ use Rattle.rules_values.specs.Tables.{AreAbove, AreIncreasing}
 use Rattle.rules_steps.specs.Sets.{with_element, without_element}
 use Rattle.rules_steps.specs.Collections.{set_with}
 use Rattle.rules_typing.specs.Fits.{Known, Fits}
-use Rattle.laws_values.proofs.Lawful.{order_lawful}
+use Rattle.laws_values.proofs.ForCallers.{order_lawful}
 
 -- ---- sets
 

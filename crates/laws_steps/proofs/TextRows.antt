@@ -24,7 +24,7 @@ use Rattle.rules_steps.specs.Step.{Step, kept, optional, fails}
 use Rattle.rules_steps.specs.Texts.{joined, within_size, slice, text_step}
 use Rattle.rules_typing.specs.Fits.{Known, Fits, AllFit}
 use Rattle.laws_evaluation.specs.Laws.{amount_on}
-use Rattle.laws_stacks.proofs.Amounts.{positive}
+use Rattle.laws_stacks.proofs.ForCallers.{positive}
 use Rattle.laws_steps.proofs.Steps.{RowStep, StepFits, on_two_numbers, on_text, on_bytes}
 use Rattle.laws_steps.proofs.Ranges.{nat_from, nat_low}
 use Rattle.laws_steps.proofs.Arithmetic.{gives, on_natural}

@@ -33,20 +33,16 @@ use Rattle.rules_evaluation.specs.Outcome.{finish}
 use Rattle.rules_evaluation.specs.Straight.{minted_so_far}
 use Rattle.laws_evaluation.specs.Laws.{known, amount_on, IsGood, IsType, most_tickets}
 use Rattle.laws_stacks.specs.Sound.{seen, total, Sound, KeepsFrom}
-use Rattle.laws_types.proofs.SameKinds.{same_kind_true}
-use Rattle.laws_amounts.proofs.Sums.{among_append}
-use Rattle.laws_stacks.proofs.Amounts.{positive, on_positive}
-use Rattle.laws_stacks.proofs.Parts.{type_first}
-use Rattle.laws_stacks.proofs.Nothing.{no_amount_compared}
+use Rattle.laws_types.proofs.ForCallers.{same_kind_true}
+use Rattle.laws_amounts.proofs.ForCallers.{among_append}
+use Rattle.laws_stacks.proofs.ForCallers.{positive, on_positive, type_first, no_amount_compared, alike_is, alike_itself, comparable_value, stack_good, one_good}
 use Rattle.laws_steps.proofs.Steps.{RowStep, finish_keeps, quiet_none, quiet_burns}
 use Rattle.laws_steps.proofs.Ranges.{nat_high, nat_low, nat_from}
 use Rattle.laws_steps.proofs.Arithmetic.{gives, on_natural}
-use Rattle.laws_forms.proofs.Places.{place_address, contract_is}
-use Rattle.laws_stacks.proofs.Identities.{alike_is, alike_itself, comparable_value}
+use Rattle.laws_forms.proofs.ForCallers.{place_address, contract_is}
 use Rattle.std.proofs.lemmas.List.Elements.{All-push}
 use Rattle.rules_base.specs.Limits.{most_minted}
 use Rattle.rules_world.specs.Forms.{IsChange}
-use Rattle.laws_stacks.proofs.Wells.{stack_good, one_good}
 
 -- one more was minted
 minted_last : (id : Identity) (cs : List TicketChange) (t : Held) →

@@ -5,7 +5,7 @@ use Rattle.std.specs.List.{AllByRecursion}
 use Rattle.std.proofs.lemmas.Int.{ints}
 use Rattle.rules_types.specs.Kind.{Kind}
 use Rattle.rules_types.specs.Kind as k
-use Rattle.rules_values.specs.Val.{Val, Vals, no_val, more_vals, Pairs, no_pair, more_pairs}
+use Rattle.rules_values.specs.Val.{Val, Vals, Pairs, no_pair, more_pairs}
 use Rattle.rules_values.specs.Val as v
 use Rattle.rules_values.specs.Forms.{AllHave, AllEntriesHave}
 use Rattle.rules_values.specs.Tables.{AreKeysAbove, AreIncreasingKeys}
@@ -14,8 +14,8 @@ use Rattle.rules_typing.specs.Fits.{Known, Fits}
 use Rattle.rules_steps.specs.Changes.{amount_in, amount_among}
 use Rattle.rules_evaluation.specs.Items.{elements, entries, list_of, with_values, rebuilt}
 use Rattle.laws_evaluation.specs.Laws.{amount_on}
-use Rattle.laws_amounts.proofs.Sums.{among_append}
-use Rattle.laws_control.proofs.Items.{each_element, each_entry}
+use Rattle.laws_amounts.proofs.ForCallers.{among_append}
+use Rattle.laws_control.proofs.ForCallers.{each_element, each_entry}
 use Rattle.laws_stock.proofs.Values.{of_each, one_kind_positive}
 
 -- ---- what is taken out

@@ -19,28 +19,17 @@ use Rattle.rules_evaluation.specs.Evaluation.{node, tree_run, eval_task, eval}
 use Rattle.laws_types.specs.Laws.{IsWellFormed}
 use Rattle.laws_evaluation.specs.Laws.{IsCharged, IsGood, known}
 use Rattle.laws_evaluation.specs.Laws as here
-use Rattle.laws_evaluation.proofs.Levels.{eval_is}
+use Rattle.laws_evaluation.proofs.ForCallers.{eval_is}
 use Rattle.laws_stacks.specs.Sound.{seen, AllTypes, Sound, After, KeepsFrom}
-use Rattle.laws_typed.proofs.Typings.{Types}
-use Rattle.laws_typed.proofs.Outlines.{contexts}
-use Rattle.laws_control.proofs.Typed.{tree_types}
-use Rattle.laws_control.proofs.Safe.{PartsAreSafe, safe_eval}
-use Rattle.laws_literals.proofs.Lambdas.{lambdas, lambda_recs}
-use Rattle.laws_literals.proofs.Pushes.{pushes}
-use Rattle.laws_literals.proofs.Applies.{applies}
-use Rattle.laws_safety.proofs.Rows.{rows_keep}
-use Rattle.laws_safety.proofs.Small.{decoded_are_small}
-use Rattle.laws_safety.proofs.Views.{views_keep}
-use Rattle.laws_safety.proofs.Selves.{selves}
-use Rattle.laws_safety.proofs.Creates.{creates}
+use Rattle.laws_typed.proofs.ForCallers.{Types, contexts}
+use Rattle.laws_control.proofs.ForCallers.{tree_types, PartsAreSafe, safe_eval}
+use Rattle.laws_literals.proofs.ForCallers.{lambdas, lambda_recs, pushes, applies}
+use Rattle.laws_safety.proofs.ForCallers.{rows_keep, decoded_are_small, views_keep, selves, creates}
 use Rattle.laws_agreement.specs.Agreement.{Agrees, SeesAgreement}
 use Rattle.laws_agreement.specs.Totals as ticket
-use Rattle.laws_agreement.proofs.Amounts.{on_cons}
-use Rattle.laws_agreement.proofs.Returned.{issued_cons}
-use Rattle.laws_agreement.proofs.Nothing.{fitting_agrees, all_fitting_agree}
-use Rattle.laws_agreement.proofs.Scripts.{script_is, outline_typed}
+use Rattle.laws_agreement.proofs.ForCallers.{on_cons, issued_cons, fitting_agrees, all_fitting_agree, script_is, outline_typed}
 use Rattle.laws_tickets.specs.Laws.{KeepsTotal}
-use Rattle.laws_tickets.proofs.Nodes.{totals}
+use Rattle.laws_tickets.proofs.ForCallers.{totals}
 
 parts : PartsAreSafe
 parts = record {

@@ -10,9 +10,8 @@ use Rattle.rules_typing.specs.Fits.{Known, Fits, AllFit}
 use Rattle.rules_steps.specs.Changes.{amount_in}
 use Rattle.laws_evaluation.specs.Laws.{amount_on}
 use Rattle.laws_stacks.specs.Sound.{AllTypes}
-use Rattle.laws_stacks.proofs.Amounts.{positive}
-use Rattle.laws_stacks.proofs.Grow.{Knows, fits_grow}
-use Rattle.laws_control.proofs.Items.{Each}
+use Rattle.laws_stacks.proofs.ForCallers.{positive, Knows, fits_grow}
+use Rattle.laws_control.proofs.ForCallers.{Each}
 
 pub take_fit : (w : Known) (n : ℕ) (A : List Kind) (V : List Val) → AllFit w A V → AllFit w (take n A) (take n V)
 take_fit w zero A V h = tt

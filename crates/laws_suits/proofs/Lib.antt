@@ -1,4 +1,4 @@
 pub mod Suiting
 pub mod Rows
 pub mod Tickets
-pub mod Handed
+pub mod ForCallers

@@ -21,13 +21,11 @@ use Rattle.rules_values.specs.Tickets.{Identity, Held, tickets}
 use Rattle.rules_typing.specs.Fits.{Known, Fits, AllFit}
 use Rattle.rules_steps.specs.Changes.{Change as Told, amount_of, is_alike, identity_of}
 use Rattle.rules_evaluation.specs.Operations.{Issued}
-use Rattle.laws_types.proofs.SameKinds.{same_kind_true}
+use Rattle.laws_types.proofs.ForCallers.{same_kind_true}
 use Rattle.laws_evaluation.specs.Laws.{known, amount_on}
 use Rattle.laws_stacks.specs.Sound.{Seen, AllTypes, total, Sound}
-use Rattle.laws_stacks.proofs.Amounts.{on_positive}
-use Rattle.laws_stacks.proofs.Identities.{alike_itself, comparable_value}
-use Rattle.laws_stacks.proofs.Nothing.{nothing_in}
-use Rattle.laws_typed.proofs.TypedRules.{Taken}
+use Rattle.laws_stacks.proofs.ForCallers.{on_positive, alike_itself, comparable_value, nothing_in}
+use Rattle.laws_typed.proofs.ForCallers.{Taken}
 use Rattle.mich_stack.specs.Keys.{IsKeyOnTop}
 use Rattle.mich_collections.specs.Keys.{SuitsCollections}
 use Rattle.mich_step.specs.Ends.{SuitsStack, SuitsNumbers}

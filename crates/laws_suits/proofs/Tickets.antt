@@ -1,5 +1,5 @@
 -- The tickets on a stack of typed code that runs: their amounts are positive, and with what was burnt they are within what was minted.
-use Rattle.std.proofs.Common.{◌≡◌, ◌^◌, ◌-◌, true, List, [], ◌∷◌, sym, subst, arith}
+use Rattle.std.proofs.Common.{◌≡◌, ◌^◌, ◌-◌, true, List, [], ◌∷◌, arith}
 use Rattle.std.specs.Prelude.{ℤ, pos, ◌+ℤ◌, ◌≤ℤ◌, ◌<ℤ◌, int_le}
 use Rattle.std.specs.List.{All, AllByRecursion, flat_map}
 use Rattle.std.proofs.lemmas.Bool.{and_parts}
@@ -16,17 +16,14 @@ use Rattle.rules_evaluation.specs.Operations.{Operation, transfer, origination, 
 use Rattle.rules_world.specs.Forms.{IsTicket}
 use Rattle.laws_evaluation.specs.Laws.{known, amount_on, amount_issued}
 use Rattle.laws_stacks.specs.Sound.{IsSoundIssue}
-use Rattle.laws_stacks.proofs.Amounts.{positive}
-use Rattle.laws_stacks.proofs.Wells.{stack_good}
-use Rattle.laws_stock.proofs.Nodes.{on_same}
+use Rattle.laws_stacks.proofs.ForCallers.{positive, stack_good}
+use Rattle.laws_stock.proofs.ForCallers.{on_same}
 use Rattle.laws_agreement.specs.Totals as ticket
-use Rattle.mich_tickets.specs.Books.{Books}
-use Rattle.mich_tickets.specs.Sums.{minted_of, burnt_of}
-use Rattle.mich_tickets.specs.Limits.{IsPositive, IsReady}
+use Rattle.mich_tickets.specs.Limits.{IsPositive}
 use Rattle.mich_frames.specs.Around.{Around}
 use Rattle.mich_frames.specs.Pending.{Pending}
 use Rattle.mich_frames.specs.Fine.{stock, minted_by, burnt_by, IsFine}
-use Rattle.mich_frames.proofs.Fine.{stock_positive}
+use Rattle.mich_frames.proofs.ForCallers.{stock_positive}
 
 -- ---- operations
 
@@ -61,23 +58,8 @@ module _ {u : Around} {c : Context} {ps : List Pending} {A : List Kind} {V : Lis
   pub tickets_positive : AllByRecursion IsPositive (flat_map tickets V)
   tickets_positive = all_positive (flat_map tickets V) (stack_good (known u.contract_at is) A V h.fits)
 
-  -- with these tickets no more is burnt than was minted
-  pub tickets_within : (id : Identity) → (burnt_by u cs id +ℤ amount_among id (flat_map tickets V)) ≤ℤ minted_by u cs id
-  tickets_within id =
-      held_within (amount_on id V) (stock id ps) (amount_issued id is) (burnt_by u cs id) (minted_by u cs id) (ticket.amount_on id V) (on_same id V)
-      (stock_positive id (known u.contract_at is) ps h.pending) (issued_positive id u.contract_at is h.well.0) (h.within id)
-
   -- the same with those that issued operations have
   pub tickets_handed : (id : Identity) → (burnt_by u cs id +ℤ amount_issued id is +ℤ amount_among id (flat_map tickets V)) ≤ℤ minted_by u cs id
   tickets_handed id =
       all_within (amount_on id V) (stock id ps) (amount_issued id is) (burnt_by u cs id) (minted_by u cs id) (ticket.amount_on id V) (on_same id V)
       (stock_positive id (known u.contract_at is) ps h.pending) (h.within id)
-
-  -- in books of what was minted and burnt
-  pub tickets_ready : (b : Books) → ((id : Identity) → minted_of b id ≡ minted_by u cs id) → ((id : Identity) → burnt_of b id ≡ burnt_by u cs id) → IsReady b (flat_map tickets V)
-  tickets_ready b minted burnt = record {
-    positive = tickets_positive;
-    within = λ id.
-        subst (λ x. (x +ℤ amount_among id (flat_map tickets V)) ≤ℤ minted_of b id) (sym (burnt id))
-        (subst (λ y. (burnt_by u cs id +ℤ amount_among id (flat_map tickets V)) ≤ℤ y) (sym (minted id)) (tickets_within id));
-  }

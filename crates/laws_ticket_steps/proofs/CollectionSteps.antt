@@ -7,7 +7,7 @@ use Rattle.rules_numbers.specs.Limits.{int_or_limit}
 use Rattle.rules_types.specs.Kind.{Kind}
 use Rattle.rules_types.specs.Kind as k
 use Rattle.rules_types.specs.Attributes.{duplicable}
-use Rattle.rules_values.specs.Val.{Val, Vals, no_val, more_vals, Pairs, no_pair, more_pairs}
+use Rattle.rules_values.specs.Val.{Val, no_val, Pairs, no_pair}
 use Rattle.rules_values.specs.Val as v
 use Rattle.rules_values.specs.Tables.{value_at}
 use Rattle.rules_values.specs.Tickets.{tickets, pair_tickets}
@@ -15,18 +15,15 @@ use Rattle.rules_instructions.specs.Types as t
 use Rattle.rules_instructions.specs.Straight.{CollectionRow, on_collections}
 use Rattle.rules_instructions.specs.Straight as i
 use Rattle.rules_instructions.specs.Same.{same_kind}
-use Rattle.rules_instructions.specs.Change.{Change, makes, keeps}
+use Rattle.rules_instructions.specs.Change.{makes, keeps}
 use Rattle.rules_instructions.specs.Change as c
 use Rattle.rules_instructions.specs.DataChanges.{collection_change}
 use Rattle.rules_steps.specs.Step.{discarding, kept, optional}
 use Rattle.rules_steps.specs.Sets.{has_element, element_count, entry_count}
 use Rattle.rules_steps.specs.Collections.{set_with, on_option, updated, exchanged, collection_step}
 use Rattle.laws_agreement.specs.Agreement.{Agrees, AllAgree}
-use Rattle.laws_agreement.proofs.Same.{same_agrees}
-use Rattle.laws_agreement.proofs.Nothing.{comparable_duplicable, nothing_in, nothing_compared}
-use Rattle.laws_amounts.proofs.Maps.{OptionHas, value_has}
-use Rattle.laws_agreement.proofs.Rows.{IsFine}
-use Rattle.laws_agreement.proofs.Kept.{step_limit, KeepsStep, KeepsChange, keeps_same, keeps_discarding, keeps_wrong, change_where, one_for}
+use Rattle.laws_agreement.proofs.ForCallers.{same_agrees, comparable_duplicable, nothing_in, nothing_compared, IsFine, step_limit, KeepsStep, KeepsChange, keeps_same, keeps_discarding, keeps_wrong, change_where, one_for}
+use Rattle.laws_amounts.proofs.ForCallers.{OptionHas, value_has}
 use Rattle.laws_ticket_steps.proofs.MapSteps.{set_with_all, IsMap, Holds, update_keeps, exchange_keeps, same_option, discarded_amount}
 
 -- ---- all

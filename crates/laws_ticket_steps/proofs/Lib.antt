@@ -7,3 +7,4 @@ pub mod StackSteps
 pub mod Straights
 pub mod TextSteps
 pub mod TicketSteps
+pub mod ForCallers

@@ -10,7 +10,7 @@ use Rattle.std.proofs.lemmas.Int.{ints}
 use Rattle.rules_types.specs.Kind.{Kind}
 use Rattle.rules_types.specs.Kind as k
 use Rattle.rules_types.specs.Attributes.{comparable}
-use Rattle.rules_values.specs.Val.{Val, Vals, no_val, more_vals, Pairs, no_pair, more_pairs}
+use Rattle.rules_values.specs.Val.{Val, Vals, no_val, more_vals, Pairs}
 use Rattle.rules_values.specs.Val as v
 use Rattle.rules_values.specs.Order.{order}
 use Rattle.rules_values.specs.Tables.{value_at, AreIncreasingKeys}
@@ -23,11 +23,8 @@ use Rattle.rules_steps.specs.Sets.{with_element, without_element}
 use Rattle.rules_steps.specs.Collections.{set_with, map_with, on_option, updated, exchanged}
 use Rattle.laws_agreement.specs.Agreement.{Agrees, AllAgree}
 use Rattle.laws_agreement.specs.Totals.{amount_on}
-use Rattle.laws_agreement.proofs.Amounts.{on_cons, on_one, equal_balances}
-use Rattle.laws_agreement.proofs.Same.{same_kind_true}
-use Rattle.laws_agreement.proofs.Nothing.{nothing_compared}
-use Rattle.laws_amounts.proofs.Maps.{with_increasing, without_increasing, with_entries, without_entries, OptionHas, value_has, amount_held_in, amount_if, with_amount, without_amount}
-use Rattle.laws_agreement.proofs.Kept.{KeepsStep, keeps_discarding}
+use Rattle.laws_agreement.proofs.ForCallers.{on_cons, on_one, equal_balances, same_kind_true, nothing_compared, KeepsStep, keeps_discarding}
+use Rattle.laws_amounts.proofs.ForCallers.{with_increasing, without_increasing, with_entries, without_entries, OptionHas, value_has, amount_held_in, amount_if, with_amount, without_amount}
 
 -- ---- sets
 

@@ -12,9 +12,9 @@ use Rattle.rules_instructions.specs.Change.{makes}
 use Rattle.rules_instructions.specs.NumberChanges.{of_two, of_one, sum, difference, product, scaled, quotient, signed, conjunction}
 use Rattle.rules_steps.specs.Step.{Step, kept}
 use Rattle.rules_steps.specs.Numbers as n
-use Rattle.rules_steps.specs.Numbers.{give_number, give_amount, natural, comparison, number_step, logic_step}
+use Rattle.rules_steps.specs.Numbers.{natural}
 use Rattle.laws_agreement.specs.Agreement.{Agrees, AllAgree}
-use Rattle.laws_agreement.proofs.Kept.{KeepsStep, KeepsChange, keeps_same, change_then}
+use Rattle.laws_agreement.proofs.ForCallers.{KeepsStep, KeepsChange, keeps_same, change_then}
 
 -- ---- types without arguments, and what numbers give
 

@@ -23,9 +23,7 @@ use Rattle.rules_steps.specs.Step.{kept, optional}
 use Rattle.rules_steps.specs.Numbers as n
 use Rattle.rules_steps.specs.Numbers.{give_number, give_amount, natural, comparison, number_step, logic_step}
 use Rattle.laws_agreement.specs.Agreement.{Agrees, AllAgree}
-use Rattle.laws_agreement.proofs.Same.{back_agrees}
-use Rattle.laws_agreement.proofs.Nothing.{nothing_compared}
-use Rattle.laws_agreement.proofs.Kept.{KeepsStep, KeepsChange, keeps_same, keeps_wrong, change_where, step_limit, one_for}
+use Rattle.laws_agreement.proofs.ForCallers.{back_agrees, nothing_compared, KeepsStep, KeepsChange, keeps_same, keeps_wrong, change_where, step_limit, one_for}
 use Rattle.laws_ticket_steps.proofs.NumberKinds.{IsSimple, sum_simple, difference_simple, product_simple, scaled_simple, signed_simple, conjunction_simple, IsQuotient, quotient_agrees, quotient_is, quotient_none, natural_agrees, natural_none, number_for, of_two_keeps, of_one_keeps}
 
 -- ---- arithmetic

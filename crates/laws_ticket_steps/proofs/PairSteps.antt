@@ -19,8 +19,7 @@ use Rattle.rules_steps.specs.Step.{kept, discarding}
 use Rattle.rules_steps.specs.Stack.{comb, parts, Part, passing, part_at, Replaced, behind, replaced, pair_step}
 use Rattle.laws_agreement.specs.Agreement.{Agrees, AllAgree}
 use Rattle.laws_agreement.specs.Totals.{amount_on}
-use Rattle.laws_agreement.proofs.Amounts.{on_cons, on_one, in_both, swapped, inner_second}
-use Rattle.laws_agreement.proofs.Kept.{KeepsChange, keeps_same, keeps_discarding, change_then, change_map, step_some, agree_append, agree_drop}
+use Rattle.laws_agreement.proofs.ForCallers.{on_cons, on_one, in_both, swapped, inner_second, KeepsChange, keeps_same, keeps_discarding, change_then, change_map, step_some, agree_append, agree_drop}
 
 -- what may be there, with its parts
 some_map : {A B : Type 0} (f : A → B) (o : Option A) (y : B) → option_map f o ≡ Some y → (x : A) × (o ≡ Some x) × (f x ≡ y)

@@ -6,14 +6,14 @@ use Rattle.std.proofs.lemmas.List.{take-append-drop}
 use Rattle.rules_types.specs.Kind.{Kind}
 use Rattle.rules_types.specs.Kind as k
 use Rattle.rules_types.specs.Attributes.{duplicable}
-use Rattle.rules_values.specs.Val.{Val, list, Vals, no_val, more_vals}
+use Rattle.rules_values.specs.Val.{Val, list, no_val, more_vals}
 use Rattle.rules_values.specs.Val as v
 use Rattle.rules_values.specs.Tickets.{Identity, tickets, all_tickets}
 use Rattle.rules_instructions.specs.Straight.{StackRow, UnionRow}
 use Rattle.rules_instructions.specs.Straight as i
 use Rattle.rules_instructions.specs.Types as t
 use Rattle.rules_instructions.specs.Same.{same_kind}
-use Rattle.rules_instructions.specs.Change.{Change, after, makes, keeps}
+use Rattle.rules_instructions.specs.Change.{makes, keeps}
 use Rattle.rules_instructions.specs.Change as c
 use Rattle.rules_instructions.specs.StackChanges.{stack_change}
 use Rattle.rules_instructions.specs.DataChanges.{union_change}
@@ -22,10 +22,7 @@ use Rattle.rules_steps.specs.Step.{kept, discarding}
 use Rattle.rules_steps.specs.Stack.{stack_step, union_step}
 use Rattle.laws_agreement.specs.Agreement.{Agrees, AllAgree}
 use Rattle.laws_agreement.specs.Totals.{amount_on}
-use Rattle.laws_agreement.proofs.Amounts.{on_append, on_cons, equal_balances, swapped}
-use Rattle.laws_agreement.proofs.Same.{same_agrees}
-use Rattle.laws_agreement.proofs.Nothing.{nothing_in}
-use Rattle.laws_agreement.proofs.Kept.{KeepsChange, keeps_same, keeps_discarding, change_where, change_then, step_where, step_some, agree_append, agree_take, agree_drop, agree_get}
+use Rattle.laws_agreement.proofs.ForCallers.{on_append, on_cons, equal_balances, swapped, same_agrees, nothing_in, KeepsChange, keeps_same, keeps_discarding, change_where, change_then, step_where, step_some, agree_append, agree_take, agree_drop, agree_get}
 
 -- ---- the order of the stack
 

@@ -12,8 +12,7 @@ use Rattle.rules_steps.specs.Environment.{Environment}
 use Rattle.rules_steps.specs.Packing.{Trial}
 use Rattle.rules_steps.specs.Steps.{step}
 use Rattle.laws_agreement.specs.Agreement.{AllAgree}
-use Rattle.laws_agreement.proofs.Rows.{IsFine}
-use Rattle.laws_agreement.proofs.Kept.{KeepsStep, KeepsChange, keeps_wrong}
+use Rattle.laws_agreement.proofs.ForCallers.{IsFine, KeepsStep, KeepsChange, keeps_wrong}
 use Rattle.laws_ticket_steps.proofs.StackSteps.{stack_keeps, union_keeps}
 use Rattle.laws_ticket_steps.proofs.PairSteps.{pair_keeps}
 use Rattle.laws_ticket_steps.proofs.NumberSteps.{number_keeps, logic_keeps}

@@ -28,12 +28,8 @@ use Rattle.rules_steps.specs.Packing.{Trial, packed, tried, of_decoded, unpacked
 use Rattle.rules_steps.specs.Reading.{reading, environment_step}
 use Rattle.laws_types.specs.Laws.{IsWellFormed}
 use Rattle.laws_agreement.specs.Agreement.{Agrees, AllAgree}
-use Rattle.laws_agreement.proofs.Nothing.{nothing_in, nothing_packed, nothing_pushed}
-use Rattle.laws_amounts.proofs.Maps.{OptionHas}
-use Rattle.laws_agreement.proofs.Rows.{IsFine}
-use Rattle.laws_agreement.proofs.Literals.{AllRead}
-use Rattle.laws_agreement.proofs.Read.{read_agrees}
-use Rattle.laws_agreement.proofs.Kept.{KeepsStep, KeepsChange, keeps_same, change_where, one_for}
+use Rattle.laws_agreement.proofs.ForCallers.{nothing_in, nothing_packed, nothing_pushed, IsFine, AllRead, read_agrees, KeepsStep, KeepsChange, keeps_same, change_where, one_for}
+use Rattle.laws_amounts.proofs.ForCallers.{OptionHas}
 
 -- bytes within the limit in place of others
 size_keeps : (a : Kind) (B : List Kind) (V : List Val) (made : List ℕ → Val) (b : List ℕ) (W : List Val) → Agrees a (made b) →

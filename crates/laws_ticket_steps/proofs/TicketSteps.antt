@@ -27,11 +27,7 @@ use Rattle.rules_steps.specs.Step.{done, fails, kept, discarding}
 use Rattle.rules_steps.specs.TicketSteps.{as_value, mint, ticket_step_of, are_parts, split, join, ticket_step}
 use Rattle.laws_agreement.specs.Agreement.{Agrees, AllAgree}
 use Rattle.laws_agreement.specs.Totals.{amount_on}
-use Rattle.laws_agreement.proofs.Amounts.{equal_balances}
-use Rattle.laws_agreement.proofs.Same.{same_agrees}
-use Rattle.laws_agreement.proofs.Nothing.{nothing_compared}
-use Rattle.laws_agreement.proofs.Alike.{same_int, split_amount, join_amount}
-use Rattle.laws_agreement.proofs.Kept.{KeepsStep, KeepsChange, keeps_same, keeps_discarding, keeps_wrong, change_where, one_for}
+use Rattle.laws_agreement.proofs.ForCallers.{equal_balances, same_agrees, nothing_compared, same_int, split_amount, join_amount, KeepsStep, KeepsChange, keeps_same, keeps_discarding, keeps_wrong, change_where, one_for}
 
 -- ---- TICKET
 

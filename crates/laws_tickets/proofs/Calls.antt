@@ -21,9 +21,7 @@ use Rattle.rules_evaluation.specs.Outcome.{Outcome, Run}
 use Rattle.rules_evaluation.specs.Calls.{in_lambda, call_values, exec_run, applied, shallow_enough, small_enough, apply_run, fail_run}
 use Rattle.laws_agreement.specs.Agreement.{Agrees, AllAgree}
 use Rattle.laws_agreement.specs.Totals.{amount_on, told, total}
-use Rattle.laws_agreement.proofs.Amounts.{on_append}
-use Rattle.laws_agreement.proofs.Nothing.{nothing_pushed}
-use Rattle.laws_agreement.proofs.Kept.{agree_append}
+use Rattle.laws_agreement.proofs.ForCallers.{on_append, nothing_pushed, agree_append}
 use Rattle.laws_tickets.proofs.Stands.{Aim, Keeps, KeepsRun, restands, here, stands_here, keeps_ending, keeps_only_if, keeps_charge, keeps_paid}
 use Rattle.laws_tickets.proofs.Shapes.{keeps_top, keeps_call, keeps_capture}
 

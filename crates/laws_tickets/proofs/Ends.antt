@@ -28,12 +28,9 @@ use Rattle.rules_world.specs.Good.{known_with, Stores, IsGoodContract}
 use Rattle.laws_types.specs.Laws.{IsWellFormed}
 use Rattle.laws_agreement.specs.Agreement.{Agrees, SeesAgreement}
 use Rattle.laws_agreement.specs.Totals.{issued_tickets, amount_on, amount_issued, told}
-use Rattle.laws_agreement.proofs.Amounts.{on_one, in_both, minted_append, burnt_append, burnt_of_burns, minted_of_burns}
-use Rattle.laws_agreement.proofs.Nothing.{fitting_agrees}
-use Rattle.laws_agreement.proofs.Scripts.{outline_typed, script_is}
+use Rattle.laws_agreement.proofs.ForCallers.{on_one, in_both, minted_append, burnt_append, burnt_of_burns, minted_of_burns, fitting_agrees, outline_typed, script_is, returned_amount}
 use Rattle.laws_tickets.proofs.Stands.{Stands, Keeps, here, stands_here, keeps_ending}
 use Rattle.laws_tickets.proofs.Nodes.{keeps_eval}
-use Rattle.laws_agreement.proofs.Returned.{returned_amount}
 
 -- ---- values at both ends
 

@@ -1,10 +1,8 @@
 -- Typed code keeps tickets, from the totals that evaluation keeps.
-use Rattle.std.proofs.Common.{◌≡◌, ℕ, suc, ◌+◌, ◌<◌, List, [], ◌∷◌, length, refl, sym, ap, ◌∙◌, subst, arith}
-use Rattle.std.specs.Prelude.{ℤ, pos, ◌+ℤ◌, ◌-ℤ◌}
-use Rattle.std.specs.List.{All, slice_index_or}
-use Rattle.std.proofs.Math.IntN.{+ℤ_idr}
+use Rattle.std.proofs.Common.{◌≡◌, suc, ◌+◌, List, [], ◌∷◌, refl, sym, ap, ◌∙◌, subst, arith}
+use Rattle.std.specs.Prelude.{ℤ, ◌+ℤ◌, ◌-ℤ◌}
+use Rattle.std.specs.List.{All}
 use Rattle.std.proofs.lemmas.Int.{ints}
-use Rattle.rules_base.specs.Tree.{Tree}
 use Rattle.rules_types.specs.Kind.{Kind}
 use Rattle.rules_values.specs.Val.{Val}
 use Rattle.rules_values.specs.Tickets.{Identity}
@@ -13,20 +11,17 @@ use Rattle.rules_typing.specs.Nodes.{tree_type}
 use Rattle.rules_typing.specs.Scripts.{Outline}
 use Rattle.rules_typing.specs.Fits.{Known, AllFit}
 use Rattle.rules_steps.specs.Changes.{amount_among, amount_in, minted_in, burnt_in}
-use Rattle.rules_evaluation.specs.Surroundings.{Contract, Surroundings}
+use Rattle.rules_evaluation.specs.Surroundings.{Surroundings}
 use Rattle.rules_evaluation.specs.Operations.{Issued, Tally, operation_tickets}
 use Rattle.rules_evaluation.specs.Outcome.{Outcome, stack, failed, stuck}
 use Rattle.rules_evaluation.specs.Evaluation.{eval}
 use Rattle.laws_types.specs.Laws.{IsWellFormed}
-use Rattle.laws_evaluation.specs.Laws.{IsType, IsGoodContract, IsGood, known, Stands, IsBalanced, AreBalanced, LinearTickets}
+use Rattle.laws_evaluation.specs.Laws.{IsType, IsGood, known, AreBalanced, LinearTickets}
 use Rattle.laws_evaluation.specs.Laws as here
 use Rattle.laws_agreement.specs.Agreement.{Agrees, AllAgree, SeesAgreement}
 use Rattle.laws_tickets.specs.Laws.{KeepsTotal}
 use Rattle.laws_agreement.specs.Totals as ticket
-use Rattle.laws_agreement.proofs.Amounts.{on_cons}
-use Rattle.laws_agreement.proofs.Returned.{issued_cons}
-use Rattle.laws_agreement.proofs.Nothing.{fitting_agrees}
-use Rattle.laws_agreement.proofs.Scripts.{script_is, outline_typed}
+use Rattle.laws_agreement.proofs.ForCallers.{on_cons, issued_cons, fitting_agrees, script_is, outline_typed}
 use Rattle.laws_tickets.proofs.Nodes.{totals}
 
 all_tail : (P : Kind → Type 0) (a : Kind) (A : List Kind) → All P (a ∷ A) → All P A

@@ -37,11 +37,7 @@ use Rattle.rules_evaluation.specs.Outcome.{Outcome}
 use Rattle.rules_evaluation.specs.Given.{value_of, push_run, body_of, lambda_run, self_run, script_of, on_delegate, on_origination, create_run}
 use Rattle.rules_evaluation.specs.Issuing.{with_origination}
 use Rattle.laws_agreement.specs.Agreement.{Agrees, AllAgree}
-use Rattle.laws_agreement.proofs.Amounts.{on_cons}
-use Rattle.laws_agreement.proofs.Nothing.{nothing_pushed}
-use Rattle.laws_agreement.proofs.Arguments.{AllFound, HasAttribute, type_argument_all, and_then_both}
-use Rattle.laws_agreement.proofs.Literals.{AllRead}
-use Rattle.laws_agreement.proofs.Read.{read_agrees}
+use Rattle.laws_agreement.proofs.ForCallers.{on_cons, nothing_pushed, AllFound, HasAttribute, type_argument_all, and_then_both, AllRead, read_agrees}
 use Rattle.laws_tickets.proofs.Stands.{Aim, Keeps, KeepsRun, restands, AllGoes, keeps_unless, keeps_found, keeps_goes, keeps_charge, keeps_paid, keeps_issue}
 
 -- ---- what typings give

@@ -9,3 +9,4 @@ pub mod Nodes
 pub mod Ends
 pub mod Linear
 pub mod FromTotals
+pub mod ForCallers

@@ -27,10 +27,7 @@ use Rattle.laws_types.specs.Laws.{IsWellFormed}
 use Rattle.laws_agreement.specs.Agreement.{Agrees}
 use Rattle.laws_agreement.specs.Totals.{amount_issued}
 use Rattle.laws_tickets.specs.Laws.{TicketsAreLinear}
-use Rattle.laws_agreement.proofs.Nothing.{fitting_agrees}
-use Rattle.laws_agreement.proofs.Paths.{EntriesLead, leads_well, wrapped_agrees, found_leads}
-use Rattle.laws_agreement.proofs.Scripts.{outline_typed, script_is}
-use Rattle.laws_agreement.proofs.Returned.{issued_cons}
+use Rattle.laws_agreement.proofs.ForCallers.{fitting_agrees, EntriesLead, leads_well, wrapped_agrees, found_leads, outline_typed, script_is, issued_cons}
 use Rattle.laws_tickets.proofs.Ends.{IsLinear, stored_agrees, good_contract, run_linear}
 
 -- ---- the entrypoint

@@ -21,8 +21,7 @@ use Rattle.rules_evaluation.specs.Items.{Items, elements, entries, items}
 use Rattle.rules_evaluation.specs.Loops.{turn_where, turns_run, left_turns_run, loop_run, loop_left_run, each_run, iter_run}
 use Rattle.laws_agreement.specs.Agreement.{Agrees, AllAgree, SeesAgreement}
 use Rattle.laws_agreement.specs.Totals.{amount_on, told, total, AreNumbered}
-use Rattle.laws_agreement.proofs.Amounts.{on_cons}
-use Rattle.laws_agreement.proofs.Nothing.{nothing_compared}
+use Rattle.laws_agreement.proofs.ForCallers.{on_cons, nothing_compared}
 use Rattle.laws_tickets.proofs.Stands.{Aim, Keeps, KeepsRun, here, stands_here, keeps_ending, keeps_unless, keeps_paid}
 use Rattle.laws_tickets.proofs.Shapes.{keeps_top, keeps_truth, keeps_union}
 

@@ -7,7 +7,7 @@ use Rattle.std.proofs.lemmas.Int.{ints}
 use Rattle.rules_gas.specs.declared.Kind.TheVariants as g
 use Rattle.rules_types.specs.Kind.{Kind}
 use Rattle.rules_types.specs.Kind as k
-use Rattle.rules_values.specs.Val.{Val, Vals, no_val, more_vals, Pairs, no_pair, more_pairs}
+use Rattle.rules_values.specs.Val.{Val, Pairs, no_pair, more_pairs}
 use Rattle.rules_values.specs.Val as v
 use Rattle.rules_values.specs.Tables.{AreKeysAbove, AreIncreasingKeys}
 use Rattle.rules_values.specs.Tickets.{Identity, tickets, all_tickets, pair_tickets}
@@ -21,7 +21,7 @@ use Rattle.rules_evaluation.specs.Items.{Items, entries, mapped_items, with_item
 use Rattle.rules_evaluation.specs.Loops.{map_each_run, map_run}
 use Rattle.laws_agreement.specs.Agreement.{Agrees, AllAgree, SeesAgreement}
 use Rattle.laws_agreement.specs.Totals.{amount_on, told, total, AreNumbered}
-use Rattle.laws_agreement.proofs.Amounts.{on_append, on_cons, on_one}
+use Rattle.laws_agreement.proofs.ForCallers.{on_append, on_cons, on_one}
 use Rattle.laws_tickets.proofs.Stands.{Aim, Stands, Keeps, KeepsRun, here, stands_here, keeps_ending, keeps_unless, keeps_paid}
 use Rattle.laws_tickets.proofs.Shapes.{keeps_top}
 use Rattle.laws_tickets.proofs.Loops.{EachAgrees, elements_agree, elements_hold, entries_agree, entries_hold, next_total, begin_total}

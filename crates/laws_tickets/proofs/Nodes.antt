@@ -19,7 +19,7 @@ use Rattle.rules_evaluation.specs.Outcome.{Outcome, stack, failed, stuck, Run}
 use Rattle.rules_evaluation.specs.Branches.{dip_run}
 use Rattle.rules_evaluation.specs.Evaluation.{Task, node, turns, left_turns, Arg, body, other, no_body, one_body, two_bodies, last_body, outside_views, result_kind, act, tree_run, trees_run, args_run, task_run, level, eval}
 use Rattle.laws_tickets.specs.Laws.{KeepsTotal, EvaluationKeepsTotals}
-use Rattle.laws_agreement.proofs.Rows.{rule_is}
+use Rattle.laws_agreement.proofs.ForCallers.{rule_is}
 use Rattle.laws_tickets.proofs.Stands.{Aim, Keeps, KeepsRun, here, stands_here, keeps_after, keeps_found, keeps_block}
 use Rattle.laws_tickets.proofs.Shapes.{keeps_if, keeps_if_none, keeps_if_left, keeps_if_cons, keeps_dip}
 use Rattle.laws_tickets.proofs.Loops.{keeps_turns, keeps_left_turns, keeps_loop, keeps_loop_left, keeps_iter}

@@ -25,7 +25,7 @@ use Rattle.rules_steps.specs.Steps.{step}
 use Rattle.rules_steps.specs.Costs.{kind_of, weight_of}
 use Rattle.rules_evaluation.specs.Surroundings.{Surroundings}
 use Rattle.rules_evaluation.specs.Operations.{Tally, transfer, event}
-use Rattle.rules_evaluation.specs.Outcome.{Outcome, stack, stuck, Run, with_changes, finish}
+use Rattle.rules_evaluation.specs.Outcome.{Outcome, stack, Run, with_changes, finish}
 use Rattle.rules_evaluation.specs.Shapes.{on_top}
 use Rattle.rules_evaluation.specs.Contracts.{contract_of, Viewed, viewed}
 use Rattle.rules_evaluation.specs.Trying.{trial}
@@ -33,14 +33,9 @@ use Rattle.rules_evaluation.specs.Operating.{in_view, behind_view, view_run, ope
 use Rattle.rules_evaluation.specs.Straight.{minted_so_far, row_run, ruled_run}
 use Rattle.laws_agreement.specs.Agreement.{Agrees, SeesAgreement}
 use Rattle.laws_agreement.specs.Totals.{amount_on, told}
-use Rattle.laws_agreement.proofs.Amounts.{Balances, on_cons, on_one, balanced_total, discard_balances}
-use Rattle.laws_agreement.proofs.Same.{back_agrees}
-use Rattle.laws_agreement.proofs.Nothing.{nothing_packed}
-use Rattle.laws_agreement.proofs.Rows.{IsFine, IsRule}
-use Rattle.laws_agreement.proofs.Kept.{KeepsStep}
-use Rattle.laws_ticket_steps.proofs.Straights.{step_keeps}
+use Rattle.laws_agreement.proofs.ForCallers.{Balances, on_cons, on_one, balanced_total, discard_balances, back_agrees, nothing_packed, IsFine, IsRule, KeepsStep, IsViewed, some_is, viewed_is}
+use Rattle.laws_ticket_steps.proofs.ForCallers.{step_keeps}
 use Rattle.laws_tickets.proofs.Stands.{Aim, Stands, Keeps, KeepsRun, restands, here, stands_here, keeps_ending, keeps_charge, keeps_finish, numbered_more, keeps_issue}
-use Rattle.laws_agreement.proofs.Views.{IsViewed, some_is, viewed_is}
 
 -- the outcome on the types after, where there are such
 abbrev KeepsAfter : Aim → Option Change → (List Kind → Outcome) → Type 0
@@ -51,10 +46,6 @@ after_where : (p : Aim) (b : Bool) (d : Option Change) (go : List Kind → Outco
     KeepsAfter p (c.where_true b d) go
 after_where p true d go h = h refl
 after_where p false d go h = tt
-
-after_stuck : (p : Aim) (d : Option Change) → KeepsAfter p d (λ B. stuck)
-after_stuck p None = tt
-after_stuck p (Some d) = tt
 
 -- ---- VIEW
 

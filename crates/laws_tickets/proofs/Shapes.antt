@@ -18,8 +18,7 @@ use Rattle.rules_evaluation.specs.Outcome.{Outcome, Run}
 use Rattle.rules_evaluation.specs.Shapes.{on_top, on_truth, on_option, on_union, on_list, on_call, on_capture}
 use Rattle.rules_evaluation.specs.Branches.{chosen, if_run, if_none_run, if_left_run, if_cons_run, dip_run}
 use Rattle.laws_agreement.specs.Totals.{amount_on, told, total}
-use Rattle.laws_agreement.proofs.Amounts.{on_append}
-use Rattle.laws_agreement.proofs.Kept.{agree_append, agree_take, agree_drop}
+use Rattle.laws_agreement.proofs.ForCallers.{on_append, agree_append, agree_take, agree_drop}
 use Rattle.laws_tickets.proofs.Stands.{Aim, Stands, Keeps, KeepsRun, restands, here, stands_here, keeps_after, keeps_only_if, keeps_paid}
 
 -- ---- stacks

@@ -28,10 +28,8 @@ use Rattle.rules_evaluation.specs.Issuing.{with_operation, issued_where, issue}
 use Rattle.rules_evaluation.specs.Given.{on_found, on_goes}
 use Rattle.laws_agreement.specs.Agreement.{AllAgree, SeesAgreement}
 use Rattle.laws_agreement.specs.Totals.{amount_on, amount_issued, issued_tickets, total, AreNumbered}
-use Rattle.laws_amounts.proofs.Sums.{among_append}
-use Rattle.laws_agreement.proofs.Amounts.{balanced_total}
-use Rattle.laws_agreement.proofs.Same.{same_kinds_true}
-use Rattle.laws_agreement.proofs.Kept.{KeepsStep}
+use Rattle.laws_amounts.proofs.ForCallers.{among_append}
+use Rattle.laws_agreement.proofs.ForCallers.{balanced_total, same_kinds_true, KeepsStep}
 
 -- how much there is of each identity, which operations were issued, and how many operations there are at least
 pub record Aim : Type 0 where

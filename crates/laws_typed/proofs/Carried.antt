@@ -10,13 +10,12 @@ use Rattle.rules_forms.specs.Spelling.{default_name, is_entrypoint}
 use Rattle.rules_types.specs.Kind.{Kind, nodes}
 use Rattle.rules_types.specs.Attributes.{comparable, passable, pushable, packable, big_value}
 use Rattle.rules_types.specs.Reading.{typed, Reading, a_type, bad_type, too_large, type_at, any_kind}
-use Rattle.rules_instructions.specs.Overloads.{Overloaded, overload}
 use Rattle.rules_instructions.specs.Overloads as o
 use Rattle.rules_instructions.specs.Arguments.{Found, found, fault, and_then, no_argument, with_attribute, type_argument, one_type, two_types, count_argument, one_count, count_or, checked_name, annotated, view_name_argument}
 use Rattle.rules_instructions.specs.Instructions.{Instruction, row, overloaded, emit_of, view_of, instruction}
 use Rattle.rules_types.specs.Entrypoints.{field_name}
 use Rattle.laws_types.specs.Laws.{IsWellFormed}
-use Rattle.laws_types.proofs.Again.{read_well, within}
+use Rattle.laws_types.proofs.ForCallers.{read_well, within}
 use Rattle.laws_evaluation.specs.Laws.{IsType}
 use Rattle.laws_typed.proofs.TypedData.{RowTypes}
 

@@ -5,3 +5,4 @@ pub mod TypedRows
 pub mod TypedRules
 pub mod Typings
 pub mod ViewBodies
+pub mod ForCallers

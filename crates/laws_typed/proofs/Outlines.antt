@@ -5,7 +5,7 @@ use Rattle.std.specs.Str.{bytes_eq}
 use Rattle.std.proofs.lemmas.Bool.{and_parts}
 use Rattle.rules_base.specs.Tree.{Tree, int, str, bytes, prim, seq, Trees, none, more, size}
 use Rattle.rules_forms.specs.Spelling.{default_name, is_entrypoint}
-use Rattle.rules_types.specs.Kind.{Kind, nodes}
+use Rattle.rules_types.specs.Kind.{Kind}
 use Rattle.rules_types.specs.Kind as k
 use Rattle.rules_types.specs.Attributes.{passable, storable}
 use Rattle.rules_types.specs.Reading.{typed, Reading, a_type, bad_type, too_large, type_at}
@@ -18,7 +18,7 @@ use Rattle.rules_typing.specs.Scripts.{Script, View, of_parameter, parameter_of,
 use Rattle.rules_typing.specs.Nodes.{outline, script, sections}
 use Rattle.rules_evaluation.specs.Surroundings.{Surroundings}
 use Rattle.laws_types.specs.Laws.{IsWellFormed}
-use Rattle.laws_types.proofs.Again.{read_well, within}
+use Rattle.laws_types.proofs.ForCallers.{read_well, within}
 use Rattle.laws_evaluation.specs.Laws.{IsGood, IsOwnContext}
 use Rattle.laws_typed.proofs.Typings.{EntriesAreTypes, HasTypes}
 use Rattle.laws_typed.proofs.Carried.{FoundHas, found_then}

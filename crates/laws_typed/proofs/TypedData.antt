@@ -1,14 +1,14 @@
 -- The types that instructions on the stack, pairs and data make are types.
 use Rattle.std.proofs.Common.{◌≡◌, ℕ, ◌-◌, zero, suc, nat_le, Bool, true, false, ◌&&◌, List, [], ◌∷◌, length, drop, Option, Some, None, refl, subst}
 use Rattle.std.specs.Prelude.{slice_get, insert, remove, option_map, option_and_then}
-use Rattle.rules_types.specs.Kind.{Kind, nodes}
+use Rattle.rules_types.specs.Kind.{Kind}
 use Rattle.rules_types.specs.Kind as k
 use Rattle.rules_types.specs.Attributes.{comparable, passable, big_value, duplicable, packable, pushable}
 use Rattle.rules_instructions.specs.Types as ty
 use Rattle.rules_instructions.specs.Change.{Change, where_true}
 use Rattle.rules_instructions.specs.StackChanges.{stack_change, comb, parts, part, with_part, pair_change}
 use Rattle.rules_instructions.specs.DataChanges.{union_change, collection_change}
-use Rattle.rules_instructions.specs.Straight.{Straight, StackRow, PairRow, UnionRow, CollectionRow, NumberRow, LogicRow, TextRow, HashRow, EnvironmentRow, OperationRow, TicketRow, on_stack, on_pairs, on_unions, on_collections, on_numbers, on_truth, on_text, on_hashes, on_environment, on_operations, on_tickets}
+use Rattle.rules_instructions.specs.Straight.{Straight, StackRow, PairRow, UnionRow, CollectionRow, on_unions, on_collections, on_hashes, on_operations}
 use Rattle.rules_instructions.specs.Straight as i
 use Rattle.rules_instructions.specs.Same.{same_kind}
 use Rattle.rules_forms.specs.Spelling.{is_entrypoint}

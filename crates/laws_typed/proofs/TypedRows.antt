@@ -2,7 +2,7 @@
 use Rattle.std.proofs.Common.{◌&&◌, List, [], ◌∷◌, Option, Some, None, refl, subst}
 use Rattle.std.specs.Prelude.{option_map}
 use Rattle.std.proofs.lemmas.Bool.{and_parts}
-use Rattle.rules_types.specs.Kind.{Kind, nodes}
+use Rattle.rules_types.specs.Kind.{Kind}
 use Rattle.rules_types.specs.Kind as k
 use Rattle.rules_types.specs.Attributes.{comparable, packable, pushable}
 use Rattle.rules_instructions.specs.Types as ty
@@ -10,12 +10,12 @@ use Rattle.rules_instructions.specs.Change.{makes}
 use Rattle.rules_instructions.specs.NumberChanges.{of_two, of_one, sum, difference, product, scaled, quotient, signed, number_change, conjunction, of_bools, of_nats, against_zero, logic_change}
 use Rattle.rules_instructions.specs.OtherChanges.{text_change, hash_change, environment_kind, operation_change, ticket_change}
 use Rattle.rules_instructions.specs.Effect.{change}
-use Rattle.rules_instructions.specs.Straight.{Straight, StackRow, PairRow, UnionRow, CollectionRow, NumberRow, LogicRow, TextRow, HashRow, EnvironmentRow, OperationRow, TicketRow, on_stack, on_pairs, on_unions, on_collections, on_numbers, on_truth, on_text, on_hashes, on_environment, on_operations, on_tickets}
+use Rattle.rules_instructions.specs.Straight.{Straight, NumberRow, LogicRow, TextRow, HashRow, EnvironmentRow, OperationRow, TicketRow, on_stack, on_pairs, on_unions, on_collections, on_numbers, on_truth, on_text, on_hashes, on_environment, on_operations, on_tickets}
 use Rattle.rules_instructions.specs.Straight as i
 use Rattle.rules_instructions.specs.Same.{same_kind}
 use Rattle.laws_types.specs.Laws.{IsWellFormed}
 use Rattle.laws_stacks.specs.Sound.{AllTypes}
-use Rattle.laws_types.proofs.SameKinds.{same_kind_true}
+use Rattle.laws_types.proofs.ForCallers.{same_kind_true}
 use Rattle.laws_typed.proofs.TypedData.{RowTypes, ChangeTypes, when, always, on_kind, stack_types, pair_types, union_types, collection_types}
 
 -- ---- numbers and truth values

@@ -2,7 +2,7 @@
 use Rattle.std.proofs.Common.{◌≡◌, ℕ, ◌+◌, nat_le, Bool, true, false, List, [], ◌∷◌, ◌++◌, Option, Some, None, refl, subst}
 use Rattle.std.specs.Prelude.{if◌then◌else◌}
 use Rattle.std.proofs.lemmas.Bool.{leb-true}
-use Rattle.rules_base.specs.Limits.{type_limit, count_limit}
+use Rattle.rules_base.specs.Limits.{type_limit}
 use Rattle.rules_base.specs.Tree.{Trees, none, more, size}
 use Rattle.rules_types.specs.Kind.{Kind, nodes}
 use Rattle.rules_types.specs.Attributes.{passable, pushable}
@@ -11,7 +11,7 @@ use Rattle.rules_types.specs.Entrypoints.{Entry}
 use Rattle.rules_instructions.specs.Same.{same_kinds}
 use Rattle.rules_instructions.specs.Context.{Context}
 use Rattle.rules_instructions.specs.Context as place
-use Rattle.rules_instructions.specs.Arguments.{Found, found, fault, count_argument}
+use Rattle.rules_instructions.specs.Arguments.{Found, found, fault}
 use Rattle.rules_instructions.specs.Arguments as arg
 use Rattle.rules_instructions.specs.Control.{Pushed, push_of, Arrow, lambda_of}
 use Rattle.rules_typing.specs.Typing.{Typing, goes, fails, bad, Typer, shift, on_found, made, in_block, join, ends, under, made_of, part_kind, mapped}

@@ -10,10 +10,10 @@ use Rattle.rules_types.specs.Attributes.{packable, storable}
 use Rattle.rules_instructions.specs.Context.{Context}
 use Rattle.rules_instructions.specs.Arguments.{Found, found, fault, and_then, is_view_name}
 use Rattle.rules_typing.specs.Typing.{shift}
-use Rattle.rules_typing.specs.Sections.{Section, Placed, Body, WrittenView, Content, parameter_section, storage_section, code_section, view_section, no_section, placed, a_body, view_content, content_of, content_at, Contents, no_contents, once, with_content, with_sections}
+use Rattle.rules_typing.specs.Sections.{Placed, Body, WrittenView, Content, parameter_section, storage_section, code_section, view_section, no_section, placed, a_body, content_of, content_at, Contents, no_contents, once, with_content, with_sections}
 use Rattle.rules_typing.specs.Sections as sections
 use Rattle.rules_typing.specs.Scripts.{View, parameter_of, typed_as, TypedView, typed_view, typed_views, Outline, of_parts, of_contents, unless_fault, view_fault, a_view, with_views}
-use Rattle.rules_typing.specs.Nodes.{tree_type, trees_type, bodies, inner_bodies, outline, script}
+use Rattle.rules_typing.specs.Nodes.{trees_type, bodies, inner_bodies, outline}
 use Rattle.rules_typing.specs.Nodes as nodes_of
 use Rattle.laws_evaluation.specs.Laws.{IsType}
 use Rattle.laws_typed.proofs.Carried.{FoundHas, found_then, IsRead, argument_read}

@@ -14,7 +14,7 @@ use Rattle.rules_typing.specs.Nodes.{tree_type}
 use Rattle.rules_typing.specs.Literals.{fault_of_bodies}
 use Rattle.rules_typing.specs.Fits.{Leads, Known, Fits}
 use Rattle.laws_typing.specs.Laws.{AllAtMost, AllClaimed, LiteralsFit, told_by}
-use Rattle.laws_types.proofs.SameKinds.{same_kinds_true}
+use Rattle.laws_types.proofs.ForCallers.{same_kinds_true}
 use Rattle.laws_typing.proofs.Sizes.{bodies_within}
 use Rattle.laws_typing.proofs.Read.{IsMade, AllTried, read_has}
 

@@ -4,3 +4,4 @@ pub mod Sizes
 pub mod Fit
 pub mod Forms
 pub mod Read
+pub mod ForCallers

@@ -16,7 +16,7 @@ use Rattle.rules_values.specs.Tables.{AreAbove, AreIncreasing, AreKeysAbove, Are
 use Rattle.rules_forms.specs.Spelling.{is_address}
 use Rattle.rules_values.specs.Forms.{has_simple_form, AllHave, AllEntriesHave}
 use Rattle.rules_values.specs.Literals.{Word, unit_word, true_word, false_word, none_word, some_word, left_word, right_word, entry_word, recursive_word, word_of_name, Pending, body, claim, Literal, good, bad, with_pending, and_then, mapped, Reader, tested, unit_of_word, truth_of_word, on_value, simple_value, read_simple, option_named, read_option, or_named, read_or, read_parts, parts_of, read_elements, read_list, is_behind, read_increasing, read_set, Entry, entry_named, read_entry, read_entries, read_table, read_body, recursive_named, read_lambda, read_contract, read, read_rest}
-use Rattle.laws_values.proofs.Lawful.{order_lawful}
+use Rattle.laws_values.proofs.ForCallers.{order_lawful}
 
 -- what is so of values of each type, from their parts and from what is tried
 pub record IsMade (F : Kind → Val → Type 0) (Tried : Pending → Type 0) : Type 0 where

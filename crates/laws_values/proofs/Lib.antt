@@ -1,3 +1,4 @@
 pub mod Again
 pub mod Lawful
 pub mod Orders
+pub mod ForCallers

@@ -20,20 +20,15 @@ use Rattle.rules_evaluation.specs.Contracts.{is_taken_by_account}
 use Rattle.rules_world.specs.World.{World, Account, account_or_none, contract_at, with_account, key_hash_in, identity_order}
 use Rattle.rules_world.specs.Balances.{supply, balance_or_none, moved}
 use Rattle.rules_world.specs.Holdings.{held, amount_held, with_amount, credited}
-use Rattle.rules_world.specs.Outcomes.{Setting, Waiting, Counts, Outcome}
+use Rattle.rules_world.specs.Outcomes.{Setting, Waiting, Counts}
 use Rattle.rules_world.specs.Transfers.{Transaction, taken_by_account, as_ticket, account_failure, with_ticket, received, account_outcome, with_taken, to_account}
 use Rattle.rules_world.specs.Forms.{IsTicket}
 use Rattle.rules_world.specs.Good.{FitsIn}
 use Rattle.laws_runs.specs.Going.{KeepsGoing}
-use Rattle.laws_accounts.proofs.Amounts.{ticket_positive}
-use Rattle.laws_accounts.proofs.Holdings.{credited_held, with_amount_form}
-use Rattle.laws_agreement.proofs.Literals.{IsBare, simple_bare}
-use Rattle.laws_accounts.proofs.More.{Extends}
-use Rattle.laws_accounts.proofs.Mutez.{account_supply}
-use Rattle.laws_runs.proofs.Moves.{in_order, implicit_hash, moved_moves, moved_supply}
-use Rattle.laws_runs.proofs.Worlds.{IsOrderly, account_holdings, orderly_account, held_account}
+use Rattle.laws_accounts.proofs.ForCallers.{ticket_positive, credited_held, with_amount_form, Extends, account_supply}
+use Rattle.laws_agreement.proofs.ForCallers.{IsBare, simple_bare}
+use Rattle.laws_runs.proofs.ForCallers.{in_order, implicit_hash, moved_moves, moved_supply, IsOrderly, account_holdings, orderly_account, held_account, orderly_of}
 use Rattle.laws_world.proofs.Taken.{IsTaken, taken_held}
-use Rattle.laws_runs.proofs.Steps.{orderly_of}
 
 -- ---- a ticket comes to an account
 
@@ -127,7 +122,7 @@ received_is w t x o implicit enough i =
     let r = ticket_is y (key_hash_in t.destination) (as_ticket x) m.orderly (implicit_hash t.destination implicit) i in
     record {
       orderly = r.orderly;
-      more = Rattle.laws_accounts.proofs.More.extends_trans (contract_at w) (contract_at y)
+      more = Rattle.laws_accounts.proofs.ForCallers.extends_trans (contract_at w) (contract_at y)
           (contract_at (received w t x)) m.more r.more;
       none = λ q g. r.none q (m.none q g);
       log = r.log ∙ m.log;

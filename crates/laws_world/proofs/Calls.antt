@@ -27,18 +27,10 @@ use Rattle.rules_world.specs.Good.{FitsIn, Stores, IsGoodOperation, amount_waiti
 use Rattle.laws_operations.specs.Fresh.{made_by_issued, made_by_waiting}
 use Rattle.laws_runs.specs.Going.{IsSetting, IsGoing, KeepsGoing}
 use Rattle.laws_runs.specs.RunEnds.{IsFinished, EndsWell}
-use Rattle.laws_runs.proofs.Runs.{runs_end_well}
-use Rattle.laws_accounts.proofs.Amounts.{minted_append, burnt_append}
-use Rattle.laws_accounts.proofs.Entries.{one_in}
-use Rattle.laws_accounts.proofs.More.{Extends, fits_in_more, operation_more, all_waiting_more}
-use Rattle.laws_accounts.proofs.Mutez.{IsOwner, contract_supply}
-use Rattle.laws_runs.proofs.Moves.{in_order, moved_moves, moved_supply}
-use Rattle.laws_operations.proofs.NewContracts.{fresh_emitted, made_emitted}
-use Rattle.laws_runs.proofs.Scripts.{IsMet, met_again, met_more, Searched, searched}
+use Rattle.laws_runs.proofs.ForCallers.{runs_end_well, in_order, moved_moves, moved_supply, IsMet, met_again, met_more, Searched, searched, waiting_positive, emitted_amount, emitted_good, emitted_orders, IsOrderly, contract_stores, contract_length, extends_replaced, none_replaced, orderly_contract, orderly_log, held_contract, orderly_of, sound_again, kept_then, kept_moved}
+use Rattle.laws_accounts.proofs.ForCallers.{minted_append, burnt_append, one_in, Extends, fits_in_more, operation_more, all_waiting_more, IsOwner, contract_supply}
+use Rattle.laws_operations.proofs.ForCallers.{fresh_emitted, made_emitted}
 use Rattle.laws_world.proofs.Taken.{IsTaken, taken_on, balance_within}
-use Rattle.laws_runs.proofs.Waiting.{waiting_positive, emitted_amount, emitted_good, emitted_orders}
-use Rattle.laws_runs.proofs.Worlds.{IsOrderly, contract_stores, contract_length, extends_replaced, none_replaced, orderly_contract, orderly_log, held_contract}
-use Rattle.laws_runs.proofs.Steps.{orderly_of, sound_again, kept_then, kept_moved}
 
 -- ---- places of contracts
 

@@ -21,12 +21,9 @@ use Rattle.rules_world.specs.Forms.{IsAccount, IsTwentyBytes, IsChange, is_momen
 use Rattle.rules_world.specs.Good.{IsGood, IsGoodContract, IsGoodWaiting, IsNewGroup}
 use Rattle.laws_runs.specs.Going.{IsOther, IsKept}
 use Rattle.laws_runs.specs.Worlds.{IsWhole, NewWorldsAreGood, GrantsKeepGood, GroupsKeepWhole}
-use Rattle.laws_accounts.proofs.Entries.{all_found}
+use Rattle.laws_accounts.proofs.ForCallers.{all_found, grants_add_mutez}
 use Rattle.laws_world.proofs.Groups.{group_kept}
-use Rattle.laws_runs.proofs.Moves.{account_balance}
-use Rattle.laws_accounts.proofs.Mutez.{grants_add_mutez}
-use Rattle.laws_runs.proofs.Steps.{orderly_of}
-use Rattle.laws_runs.proofs.Worlds.{sorted_nothing, found_same, at_itself}
+use Rattle.laws_runs.proofs.ForCallers.{account_balance, orderly_of, sorted_nothing, found_same, at_itself}
 
 -- ---- new worlds
 

@@ -29,15 +29,9 @@ use Rattle.rules_world.specs.Originations.{Founding, founded, founding_outcome, 
 use Rattle.rules_world.specs.Good.{Stores, IsGoodWaiting, amount_waiting}
 use Rattle.laws_operations.specs.Fresh.{made_by_waiting, IsFresh}
 use Rattle.laws_runs.specs.Going.{IsGoing, KeepsGoing, IsKept}
-use Rattle.laws_accounts.proofs.Entries.{one_in}
-use Rattle.laws_accounts.proofs.More.{Extends, extends_trans, stores_more, all_waiting_more}
-use Rattle.laws_accounts.proofs.Mutez.{InOrder, contract_balance, less_supply}
-use Rattle.laws_runs.proofs.Moves.{less_moves, in_order}
-use Rattle.laws_runs.proofs.Worlds.{IsOrderly, none_elsewhere, extends_new, orderly_contract, held_contract}
-use Rattle.laws_operations.proofs.NewContracts.{new_length, take_group, fresh_made, fresh_next}
-use Rattle.laws_runs.proofs.Steps.{orderly_of, sound_again, minted_again, kept_then}
-use Rattle.laws_runs.proofs.Waiting.{keeps_charged}
-use Rattle.laws_accounts.proofs.ReadLiterals.{literal_fits, literal_empty}
+use Rattle.laws_accounts.proofs.ForCallers.{one_in, Extends, extends_trans, stores_more, all_waiting_more, InOrder, contract_balance, less_supply, literal_fits, literal_empty}
+use Rattle.laws_runs.proofs.ForCallers.{less_moves, in_order, IsOrderly, none_elsewhere, extends_new, orderly_contract, held_contract, orderly_of, sound_again, minted_again, kept_then, keeps_charged}
+use Rattle.laws_operations.proofs.ForCallers.{new_length, take_group, fresh_made, fresh_next}
 
 -- ---- one that comes to be
 

@@ -20,7 +20,6 @@ use Rattle.rules_instructions.specs.Same.{same_kind}
 use Rattle.rules_steps.specs.Changes.{identity_of, amount_of, amount_in}
 use Rattle.rules_evaluation.specs.Contracts.{hash_in}
 use Rattle.rules_world.specs.World.{World, Account, no_account, account_at, account_or_none, contract_at, key_hash_in}
-use Rattle.rules_world.specs.Balances.{supply}
 use Rattle.rules_world.specs.Contents.{Give}
 use Rattle.rules_world.specs.Holdings.{held, held_by, held_by_account, amount_held, credited, debited}
 use Rattle.rules_world.specs.Outcomes.{Setting, Waiting, ordered, Counts, failed}
@@ -28,19 +27,13 @@ use Rattle.rules_world.specs.Targets.{Target, Search, met, missing, unreadable, 
 use Rattle.rules_world.specs.Gives.{Offer, ticket_with, ticket_by, offered, as_value, Gift, give_effect, is_short, given_to_account, give_account, given_to_contract, if_wanted, give_contract, handed, with_offered, given}
 use Rattle.rules_world.specs.Forms.{AreDestination, IsSmall, IsTicket}
 use Rattle.rules_world.specs.Good.{FitsIn, IsGoodWaiting}
-use Rattle.laws_types.proofs.SameKinds.{same_kind_true}
+use Rattle.laws_types.proofs.ForCallers.{same_kind_true}
 use Rattle.laws_runs.specs.Going.{IsSetting, IsGoing, KeepsGoing}
 use Rattle.laws_world.proofs.Accounts.{IsReceived, account_changed, credited_is}
 use Rattle.laws_world.proofs.Calls.{run_keeps}
-use Rattle.laws_accounts.proofs.Holdings.{debited_held}
-use Rattle.laws_accounts.proofs.More.{extends_trans, fits_in_more}
-use Rattle.laws_runs.proofs.Moves.{implicit_hash}
-use Rattle.laws_accounts.proofs.ReadLiterals.{compared_fits}
-use Rattle.laws_runs.proofs.Scripts.{IsMet, met_more, Searched, searched}
+use Rattle.laws_accounts.proofs.ForCallers.{debited_held, extends_trans, fits_in_more, compared_fits}
+use Rattle.laws_runs.proofs.ForCallers.{implicit_hash, IsMet, met_more, Searched, searched, orderly_of, keeps_charged, account_holdings}
 use Rattle.laws_world.proofs.Taken.{IsTaken, taken_order, taken_held, taken_on}
-use Rattle.laws_runs.proofs.Steps.{orderly_of}
-use Rattle.laws_runs.proofs.Waiting.{keeps_charged}
-use Rattle.laws_runs.proofs.Worlds.{account_holdings}
 
 -- ---- the ticket
 
@@ -99,7 +92,7 @@ module _ (s : Setting) (setting : IsSetting s) where
       at_least : (a b : ℤ) → int_lt b a ≡ false → a ≤ℤ b
       at_least a b h = omega (arith, ints)
 
-  debited_is : (w : World) (g : Gift) → Rattle.laws_runs.proofs.Worlds.IsOrderly w → IsTicket g.ticket →
+  debited_is : (w : World) (g : Gift) → Rattle.laws_runs.proofs.ForCallers.IsOrderly w → IsTicket g.ticket →
       is_short s w g ≡ false → IsReceived w (debited w s.source g.ticket) (λ id. pos 0 -ℤ amount_of id g.ticket)
   debited_is w g o i h =
       account_changed w s.source (identity_of g.ticket) (amount_held (account_or_none w s.source)

@@ -24,13 +24,10 @@ use Rattle.rules_world.specs.Groups.{all_fees, is_over_gas, refusal_of, Turn, al
 use Rattle.rules_world.specs.Good.{IsGood, IsGoodWaiting, IsNewGroup}
 use Rattle.rules_world.specs.Laws.{IsGroup, GroupsSettle, GroupsKeepGood, GroupsConserveMutez, TicketsBalance}
 use Rattle.laws_runs.specs.Going.{IsSetting, IsKept, IsGoing}
-use Rattle.laws_accounts.proofs.Entries.{all_found}
-use Rattle.laws_accounts.proofs.Mutez.{IsOwner, fees_conserve}
-use Rattle.laws_runs.proofs.Moves.{in_order, fee_moves}
-use Rattle.laws_operations.proofs.NewContracts.{take_group}
-use Rattle.laws_runs.proofs.Steps.{orderly_of, sound_again, minted_again, kept_moved}
+use Rattle.laws_accounts.proofs.ForCallers.{all_found, IsOwner, fees_conserve}
+use Rattle.laws_runs.proofs.ForCallers.{in_order, fee_moves, orderly_of, sound_again, minted_again, kept_moved, found_same}
+use Rattle.laws_operations.proofs.ForCallers.{take_group}
 use Rattle.laws_world.proofs.Walks.{KeepsTurn, turn_keeps}
-use Rattle.laws_runs.proofs.Worlds.{found_same}
 
 -- a group has made no contract before it begins
 new_absent : (number : ℕ) (w : World) → IsNewGroup number w → (i : ℕ) → contract_at w (new_contract number i) ≡ None

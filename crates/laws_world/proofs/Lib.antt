@@ -8,3 +8,4 @@ pub mod Gives
 pub mod Walks
 pub mod Groups
 pub mod Chains
+pub mod ForCallers

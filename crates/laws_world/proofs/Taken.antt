@@ -1,5 +1,5 @@
 -- What holds of a world while an operation that waited is applied.
-use Rattle.std.proofs.Common.{◌≡◌, ◌≤◌, ◌+◌, ℕ, List, ◌∷◌, Bool, true, false, Some, None, refl, sym, ap, ◌∙◌, ℤ, pos, ◌+ℤ◌, ◌-ℤ◌, arith}
+use Rattle.std.proofs.Common.{◌≡◌, ◌≤◌, ◌+◌, ℕ, List, ◌∷◌, Bool, true, false, Some, None, refl, ℤ, pos, ◌+ℤ◌, ◌-ℤ◌, arith}
 use Rattle.std.specs.declared.option.Option.{Option}
 use Rattle.std.specs.List.{All}
 use Rattle.std.proofs.lemmas.Int.{ints}
@@ -20,11 +20,9 @@ use Rattle.rules_world.specs.Outcomes.{Waiting, ordered, issued, Counts}
 use Rattle.rules_world.specs.Good.{IsSound, IsGoodWaiting, amount_waiting}
 use Rattle.laws_operations.specs.Fresh.{made_by_waiting, IsFresh}
 use Rattle.laws_runs.specs.Going.{orders, IsGoing, IsKept}
-use Rattle.laws_accounts.proofs.More.{Extends, all_waiting_more}
-use Rattle.laws_runs.proofs.Worlds.{IsOrderly}
-use Rattle.laws_operations.proofs.NewContracts.{fresh_step}
-use Rattle.laws_accounts.proofs.Mutez.{InOrder, set_balance, nobody}
-use Rattle.laws_runs.proofs.Steps.{sound_again, minted_again, kept_then, kept_moved}
+use Rattle.laws_accounts.proofs.ForCallers.{Extends, all_waiting_more, InOrder, set_balance, nobody}
+use Rattle.laws_runs.proofs.ForCallers.{IsOrderly, sound_again, minted_again, kept_then, kept_moved}
+use Rattle.laws_operations.proofs.ForCallers.{fresh_step}
 
 -- an operation that hands over so much of each identity is applied, before others that wait
 pub record IsTaken (start : World) (group contents : ℕ) (w : World) (over : Identity → ℤ) (waiting : List Waiting)
@@ -64,19 +62,6 @@ module _ (start : World) (group contents : ℕ) (w : World) (waiting : List Wait
     originations = g.originations;
     fresh = g.fresh;
     kept = g.kept;
-  }
-
-  -- by sums that are equal
-  pub taken_same : (p q : Identity → ℤ) → ((id : Identity) → p id ≡ q id) → IsTaken start group contents w p waiting counts →
-      IsTaken start group contents w q waiting counts
-  taken_same p q e t = record {
-    sound = t.sound;
-    waits = t.waits;
-    tickets = λ id. ap (λ z. held w id +ℤ (z +ℤ amount_waiting id waiting)) (sym (e id)) ∙ t.tickets id;
-    operations = t.operations;
-    originations = t.originations;
-    fresh = t.fresh;
-    kept = t.kept;
   }
 
   over_held : (x h o a b : ℤ) → x ≡ h +ℤ o → h +ℤ (o +ℤ a) ≡ b → x +ℤ a ≡ b

@@ -1,5 +1,5 @@
 -- All transfers: those that a source orders, and those that a contract issues.
-use Rattle.std.proofs.Common.{◌≡◌, ◌≤◌, ◌+◌, ◌^◌, ◌<◌, ℕ, List, [], ◌∷◌, Bool, true, false, Some, None, refl, sym, ap, ◌∙◌, ℤ, pos, ◌&&◌}
+use Rattle.std.proofs.Common.{◌≡◌, ◌≤◌, ℕ, List, [], ◌∷◌, Bool, true, false, refl, sym, ap, ◌∙◌, pos}
 use Rattle.std.specs.Str.{bytes_eq}
 use Rattle.std.proofs.lemmas.Bool.{and_parts}
 use Rattle.std.proofs.lemmas.List.Elements.{All-head}
@@ -24,10 +24,9 @@ use Rattle.rules_world.specs.Good.{FitsIn, IsGoodWaiting, IsGoodOperation}
 use Rattle.laws_runs.specs.Going.{IsSetting, IsGoing, KeepsGoing}
 use Rattle.laws_world.proofs.Accounts.{account_keeps, unit_handed, value_handed}
 use Rattle.laws_world.proofs.Calls.{IsArgument, contract_keeps}
-use Rattle.laws_accounts.proofs.ReadLiterals.{literal_fits, literal_empty}
-use Rattle.laws_runs.proofs.Scripts.{address_takes, met_takes}
+use Rattle.laws_accounts.proofs.ForCallers.{literal_fits, literal_empty}
+use Rattle.laws_runs.proofs.ForCallers.{address_takes, met_takes, keeps_charged}
 use Rattle.laws_world.proofs.Taken.{IsTaken, taken_order, taken_transfer}
-use Rattle.laws_runs.proofs.Waiting.{keeps_charged}
 
 module _ (start : World) (s : Setting) (setting : IsSetting s) (contents : ℕ) (few : contents ≤ 1000) (w : World)
     (waiting : List Waiting) (counts : Counts) where

@@ -14,11 +14,10 @@ use Rattle.rules_world.specs.Groups.{Turn, all_applied, one_failed, stuck_turn, 
 use Rattle.rules_world.specs.Forms.{IsAction, IsContent}
 use Rattle.rules_world.specs.Good.{IsGood, IsGoodWaiting}
 use Rattle.laws_runs.specs.Going.{IsSetting, IsKept, IsGoing, KeepsGoing}
-use Rattle.laws_runs.proofs.Steps.{told_keeps}
+use Rattle.laws_runs.proofs.ForCallers.{told_keeps, keeps_charged}
 use Rattle.laws_world.proofs.Foundings.{issued_origination_keeps, ordered_origination_keeps}
 use Rattle.laws_world.proofs.Transfers.{ordered_transfer_keeps, issued_transfer_keeps}
 use Rattle.laws_world.proofs.Gives.{give_keeps}
-use Rattle.laws_runs.proofs.Waiting.{keeps_charged}
 
 module _ (start : World) (s : Setting) (setting : IsSetting s) where
   -- ---- one operation

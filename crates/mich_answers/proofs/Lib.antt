@@ -4,3 +4,4 @@ pub mod Listing
 pub mod Shorter
 pub mod Stated
 pub mod Wholes
+pub mod ForCallers

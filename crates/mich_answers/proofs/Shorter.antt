@@ -2,8 +2,7 @@
 use Rattle.std.proofs.Common.{◌+◌, ◌<◌, ◌≤◌, ℕ, List, length, drop, arith}
 use Rattle.std.proofs.lemmas.List.{length-drop}
 use Rattle.rules_base.specs.Tree.{Tree, size}
-use Rattle.mich_text.proofs.Places.{gap_le}
-use Rattle.mich_text.proofs.Sizes.{stands_fits}
+use Rattle.mich_text.proofs.ForCallers.{gap_le, stands_fits}
 use Rattle.rules_replay.specs.Places.{IsNodeAt}
 
 size_some : (t : Tree) → 1 ≤ size t

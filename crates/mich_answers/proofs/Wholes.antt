@@ -1,7 +1,7 @@
 -- The nodes of a file, and the answer to its script.
-use Rattle.std.proofs.Common.{◌≡◌, ℕ, ◌+◌, ◌≤◌, true, false, List, [], ◌∷◌, ◌++◌, length, map, Option, Some, None, Result, Ok, Err, IfOk, inl, inr, refl, ap, ◌∙◌, sym, subst, arith}
+use Rattle.std.proofs.Common.{◌≡◌, ℕ, ◌+◌, ◌≤◌, List, [], ◌∷◌, ◌++◌, length, map, Option, Some, None, Result, Ok, Err, IfOk, inl, inr, refl, ap, ◌∙◌, sym, subst, arith}
 use Rattle.std.proofs.lemmas.List.{map-append}
-use Rattle.rules_base.specs.Tree.{Tree, int, str, bytes, prim, seq, trees_of, size, sizes}
+use Rattle.rules_base.specs.Tree.{Tree, size, sizes}
 use Rattle.std.specs.Prelude.{codes}
 use Rattle.rules_text.specs.declared.TextKind.{TextKind}
 use Rattle.rules_instructions.specs.Arguments.{Found, found, fault}
@@ -18,7 +18,7 @@ use Rattle.mich_instr.specs.Code.{ScriptCode}
 use Rattle.mich_instr.specs.Typed.{IsScript, is_script}
 use Rattle.mich_base.specs.declared.memory.Memory.{Memory}
 use Rattle.mich_text.specs.declared.reader.Placed.{Placed as CodePlaced}
-use Rattle.mich_answers.specs.Checked.{is_one_sequence, Through, IsWhole}
+use Rattle.mich_answers.specs.Checked.{Through, IsWhole}
 use Rattle.mich_answers.specs.Listed.{placed_seen}
 use Rattle.mich_answers.specs.View.{answer_seen, IsDoneOrRefused}
 use Rattle.mich_answers.specs.declared.answer.Answer.{Answer as Reply}
@@ -63,64 +63,6 @@ through_fault file place nodes kind at within h there = record {
 
 -- ---- the script
 
-one_script : (ts : List Tree) → is_one_sequence ts ≡ true → (t : Tree) → ts ≡ t ∷ [] → script_of ts ≡ t
-one_script ts h (seq us) e = ap script_of e
-one_script ts h (int n) e = let f : false ≡ true = sym (ap is_one_sequence e) ∙ h in absurd cc
-one_script ts h (str s) e = let f : false ≡ true = sym (ap is_one_sequence e) ∙ h in absurd cc
-one_script ts h (bytes b) e = let f : false ≡ true = sym (ap is_one_sequence e) ∙ h in absurd cc
-one_script ts h (prim name annots us) e = let f : false ≡ true = sym (ap is_one_sequence e) ∙ h in absurd cc
-
-pub all_script : (ts : List Tree) → is_one_sequence ts ≡ false → script_of ts ≡ seq (trees_of ts)
-all_script [] h = refl
-all_script (int n ∷ []) h = refl
-all_script (str s ∷ []) h = refl
-all_script (bytes b ∷ []) h = refl
-all_script (prim name annots us ∷ []) h = refl
-all_script (seq us ∷ []) h = absurd cc
-all_script (int n ∷ u ∷ us) h = refl
-all_script (str s ∷ u ∷ us) h = refl
-all_script (bytes b ∷ u ∷ us) h = refl
-all_script (prim name annots vs ∷ u ∷ us) h = refl
-all_script (seq vs ∷ u ∷ us) h = refl
-
-pub script_size : (ts : List Tree) → size (script_of ts) ≤ sizes (trees_of ts) + 1
-script_size [] = omega arith
-script_size (int n ∷ []) = omega arith
-script_size (str s ∷ []) = omega arith
-script_size (bytes b ∷ []) = omega arith
-script_size (prim name annots us ∷ []) = omega arith
-script_size (seq us ∷ []) = omega arith
-script_size (int n ∷ u ∷ us) = omega arith
-script_size (str s ∷ u ∷ us) = omega arith
-script_size (bytes b ∷ u ∷ us) = omega arith
-script_size (prim name annots vs ∷ u ∷ us) = omega arith
-script_size (seq vs ∷ u ∷ us) = omega arith
-
--- the last of them is the only one
-last_only : (ns : List Node) (n : Node) → is_one_sequence (map tree (ns ++ n ∷ [])) ≡ true → map tree (ns ++ n ∷ []) ≡ tree n ∷ []
-last_only [] n h = refl
-last_only (m ∷ []) n h = absurd (not_two (tree m) (tree n) h)
-  where
-    not_two : (t u : Tree) → is_one_sequence (t ∷ u ∷ []) ≡ true → ⊥
-    not_two (int n) u h = cc
-    not_two (str s) u h = cc
-    not_two (bytes b) u h = cc
-    not_two (prim name annots us) u h = cc
-    not_two (seq us) u h = cc
-last_only (m ∷ k ∷ ms) n h = absurd (not_many (tree m) (tree k) (map tree (ms ++ n ∷ [])) h)
-  where
-    not_many : (t u : Tree) (us : List Tree) → is_one_sequence (t ∷ u ∷ us) ≡ true → ⊥
-    not_many (int n) u us h = cc
-    not_many (str s) u us h = cc
-    not_many (bytes b) u us h = cc
-    not_many (prim name annots vs) u us h = cc
-    not_many (seq vs) u us h = cc
-
-pub popped_script : (ns : List Node) (whole : List Node) (n : Node) → whole ≡ ns ++ n ∷ [] → is_one_sequence (map tree whole) ≡ true → tree n ≡ script_of (map tree whole)
-popped_script ns whole n e h =
-    let f : is_one_sequence (map tree (ns ++ n ∷ [])) ≡ true = sym (ap (λ ws. is_one_sequence (map tree ws)) e) ∙ h in
-    sym (ap (λ ws. script_of (map tree ws)) e ∙ one_script (map tree (ns ++ n ∷ [])) f (tree n) (last_only ns n f))
-
 -- ---- the answer
 
 -- the answer to the nodes is the answer to the file
@@ -140,11 +82,6 @@ pub well_answer : (r : Result Reply Memory) (t : Tree) → (a : Script) × (scri
     IfOk r (λ x. answer_seen x ≡ checking_answer (script t))
 well_answer (Ok x) t (a, e) h = h ∙ sym (ap checking_answer e)
 well_answer (Err x) t (a, e) h = tt
-
-pub ill_answer : (r : Result Reply Memory) (t : Tree) (l : ℕ) → script t ≡ fault l → IfOk r (λ x. answer_seen x ≡ checking_answer (fault l)) →
-    IfOk r (λ x. answer_seen x ≡ checking_answer (script t))
-ill_answer (Ok x) t l e h = h ∙ sym (ap checking_answer e)
-ill_answer (Err x) t l e h = tt
 
 -- it has the status of one that is done, or of one that refuses
 checking_status : (f : Found Script) → IsDoneOrRefused (checking_answer f).status

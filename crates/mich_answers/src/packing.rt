@@ -72,7 +72,7 @@ fn checked_literal(alloc: Global, literal: Checked) -> Result<Answer, Memory>
 }
 
 // The answer to a literal of a type that can be packed.
-#[tactic(auto, using(laws_packing::proofs::Packables::checked_is_packable))]
+#[tactic(auto, using(laws_packing::proofs::ForCallers::checked_is_packable))]
 fn read_literal(alloc: Global, ty: &Ty, literal: &Node, at: u32) -> Result<Answer, Memory>
     requires fits { at + size (tree literal.now) < 2 ^ 32 }
     requires packs { packable (kind ty.now) ≡ true }

@@ -11,10 +11,9 @@ use Rattle.rules_types.specs.Entrypoints.{find_entry}
 use Rattle.rules_evaluation.specs.Contracts.{Lookup, address_where, chosen_entrypoint, contract_named, entry_in, has_kind, hash_in, is_contract_of, is_taken_by_account, takes}
 use Rattle.rules_evaluation.specs.Surroundings.{Contract as PlainContract}
 use Rattle.rules_world.specs.World.{World as PlainWorld, contract_at as plain_contract_at}
-use Rattle.laws_stacks.proofs.Addresses.{name_back, place_back}
-use Rattle.mich_standing.proofs.Agreement.{contracts_agree}
-use Rattle.laws_forms.proofs.Places.{implicit_is, contract_is}
-use Rattle.mich_standing.proofs.Owners.{hash_of}
+use Rattle.laws_stacks.proofs.ForCallers.{name_back, place_back}
+use Rattle.mich_standing.proofs.ForCallers.{contracts_agree, hash_of}
+use Rattle.laws_forms.proofs.ForCallers.{implicit_is, contract_is}
 use Rattle.mich_world.specs.Holders.{contract_at}
 use Rattle.mich_world.specs.Standing.{StandsFor, plain}
 use Rattle.mich_world.specs.World.{World}

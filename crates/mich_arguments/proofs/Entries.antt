@@ -10,12 +10,11 @@ use Rattle.rules_base.specs.Tree.{Tree, seq}
 use Rattle.rules_types.specs.Entrypoints.{Entry, find_entry}
 use Rattle.rules_types.specs.Kind.{Kind}
 use Rattle.rules_instructions.specs.Arguments.{found}
-use Rattle.rules_typing.specs.Nodes.{outline, script}
+use Rattle.rules_typing.specs.Nodes.{script}
 use Rattle.rules_typing.specs.Scripts.{Outline, Script as PlainScript}
-use Rattle.rules_evaluation.specs.Contracts.{entry_in, outline_in}
+use Rattle.rules_evaluation.specs.Contracts.{entry_in}
 use Rattle.laws_types.specs.Laws.{IsWellFormed}
-use Rattle.laws_typed.proofs.Outlines.{Outlined, outlined, entries_are_types}
-use Rattle.laws_typed.proofs.Typings.{EntriesAreTypes}
+use Rattle.laws_typed.proofs.ForCallers.{Outlined, outlined, entries_are_types, EntriesAreTypes}
 use Rattle.mich_base.specs.TypeView.{kind}
 use Rattle.mich_bigmap.specs.Bases.{Bases}
 use Rattle.mich_instr.specs.Code as made

@@ -1,3 +1,4 @@
 pub mod Entries
 pub mod Claims
 pub mod Targets
+pub mod ForCallers

@@ -5,7 +5,7 @@ use Rattle.rules_types.specs.Entrypoints.{Entry, find_entry}
 use Rattle.rules_steps.specs.Failure.{no_contract, no_entrypoint}
 use Rattle.rules_world.specs.Targets.{Target, met, missing, in_contract, in_script, search, with_entry}
 use Rattle.rules_world.specs.World.{World as PlainWorld}
-use Rattle.mich_standing.proofs.Agreement.{contracts_agree}
+use Rattle.mich_standing.proofs.ForCallers.{contracts_agree}
 use Rattle.mich_world.specs.Holders.{contract_at}
 use Rattle.mich_world.specs.Standing.{StandsFor, plain}
 use Rattle.mich_world.specs.World.{World}

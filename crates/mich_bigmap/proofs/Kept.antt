@@ -5,11 +5,11 @@ use Rattle.std.specs.List.{AllByRecursion}
 use Rattle.std.specs.Map.{values_of}
 use Rattle.mich_bigmap.specs.Bases.{Bases, Changes, base_at}
 use Rattle.mich_bigmap.specs.Formed.{is_there}
-use Rattle.mich_bigmap.specs.Kept.{has, kept_of, all_of, with_over, names, big_names, names_step, big_names_step, named_there, named_entry, named_change, changes_name}
+use Rattle.mich_bigmap.specs.Kept.{has, kept_of, all_of, with_over, names, big_names, big_names_step, named_there, named_entry, named_change, changes_name}
 use Rattle.mich_term.specs.declared.datum.Datum.{Datum}
 use Rattle.mich_term.specs.declared.value.Value.{Value}
-use Rattle.mich_term.specs.declared.value.Value.TheFolds.{fold_out-BigMap, map-BigMap}
-use Rattle.mich_term.specs.declared.value.BigMap.{BigMap, out-BigMap}
+use Rattle.mich_term.specs.declared.value.Value.TheFolds.{map-BigMap}
+use Rattle.mich_term.specs.declared.value.BigMap.{BigMap}
 use Rattle.mich_bigmap.proofs.Standing.{opened}
 use Rattle.std.proofs.lemmas.List.{map-append}
 use Rattle.std.specs.declared.option.Option.{Option}
@@ -148,9 +148,6 @@ opened_names shares base cs = ap (λ t. with_over base [] ++ t) (go cs)
             → changes_name (map-BigMap Value BigMap (List ℕ) (List ℕ) names big_names (opened shares base ((e.0, o) ∷ es))).overlay ≡ changes_name (map named_change ((e.0, o) ∷ es))
         by_case None later = later
         by_case (Some v) later = ap (λ t. names v ++ t) later
-
-pub big_names_is : (m : BigMap) → big_names m ≡ with_over (out-BigMap m).base [] ++ changes_name (map named_change (out-BigMap m).overlay)
-big_names_is m = fold_out-BigMap (List ℕ) (List ℕ) names_step big_names_step m ∙ opened_names (out-BigMap m).shares (out-BigMap m).base (out-BigMap m).overlay
 
 pub taken_more : {A : Type 0} (xs : List A) (i : ℕ) (d : A) → i < length xs → take (i + 1) xs ≡ take i xs ++ get_or xs i d ∷ []
 taken_more xs i d lt = let one : i + 1 ≡ suc i = omega arith in ap (λ n. take n xs) one ∙ go xs i d lt

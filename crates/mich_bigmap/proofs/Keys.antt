@@ -7,9 +7,8 @@ use Rattle.std.proofs.lemmas.Cmp.{on_total}
 use Rattle.rules_values.specs.Val.{Val, is_comparable}
 use Rattle.mich_term.specs.View.{datum, datum_step}
 use Rattle.mich_term.specs.Keyed.{by}
-use Rattle.laws_values.proofs.Lawful.{order_lawful}
-use Rattle.mich_term.proofs.Faithful.{datum_faithful}
-use Rattle.mich_term.proofs.OrderLaws.{equal}
+use Rattle.laws_values.proofs.ForCallers.{order_lawful}
+use Rattle.mich_term.proofs.ForCallers.{datum_faithful, equal}
 use Rattle.mich_term.specs.declared.datum.Datum.{Datum, ind-Datum, fold-roll-Datum, roll-Datum, map-Datum}
 use Rattle.mich_term.specs.declared.datum.Datum.TheOpen.{Datum-F}
 

@@ -19,3 +19,4 @@ pub mod Standing
 pub mod Staying
 pub mod Weaving
 pub mod Written
+pub mod ForCallers

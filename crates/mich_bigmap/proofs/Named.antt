@@ -20,7 +20,7 @@ use Rattle.mich_bigmap.proofs.Remaining.{kept_bases_stand}
 use Rattle.mich_bigmap.proofs.Staying.{each_both, SameEntries, val_stays}
 use Rattle.mich_bigmap.specs.Kept.{kept_of, has, names, big_names, names_step, big_names_step, with_over, all_of, changes_name, named_there, named_change, named_entry}
 use Rattle.mich_bigmap.proofs.Kept.{has_append, opened_names}
-use Rattle.mich_term.proofs.Each as e
+use Rattle.mich_term.proofs.ForCallers.Each as e
 
 module _ (G : Option ℕ → Type 0) (none : G None) where
   abbrev Q : BigMap-F Value BigMap → Type 0

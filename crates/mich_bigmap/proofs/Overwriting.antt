@@ -21,8 +21,7 @@ use Rattle.mich_bigmap.specs.Puts.{puts_for}
 use Rattle.mich_bigmap.specs.Reached.{AreDistinct}
 use Rattle.mich_bigmap.specs.Ticketless.{PutsNoTickets, HoldNoTickets}
 use Rattle.mich_bigmap.proofs.Extending.{extends_more}
-use Rattle.mich_bigmap.proofs.Meaning.{changed_with}
-use Rattle.mich_bigmap.proofs.Putting.{written_last, puts_make, put_keys, put_pairs_for}
+use Rattle.mich_bigmap.proofs.Putting.{puts_make, put_keys, put_pairs_for}
 use Rattle.mich_bigmap.proofs.Settled.{extends_trans}
 
 -- ---- tickets

@@ -1,13 +1,12 @@
 -- Big maps whose values hold no big map, and the tickets in values over a store that holds none.
-use Rattle.std.proofs.Common.{◌≡◌, ℕ, Bool, true, false, List, [], ◌∷◌, ◌++◌, map, Some, None, refl, sym, ap, ◌∙◌, subst, cond, Bor}
+use Rattle.std.proofs.Common.{◌≡◌, ℕ, Bool, true, false, List, [], ◌∷◌, ◌++◌, Some, None, refl, sym, ap, ◌∙◌, subst}
 use Rattle.std.specs.Prelude.{option_map, is_some, if◌then◌else◌, ◌==◌}
 use Rattle.std.specs.declared.option.Option.{Option}
-use Rattle.std.specs.declared.cmp.Ordering.{Ordering}
 use Rattle.std.specs.declared.cmp.Ordering.TheVariants.{Less, Equal, Greater}
 use Rattle.std.specs.Ordering.{match_ordering, is_eq}
 use Rattle.std.specs.List.{AllByRecursion}
 use Rattle.std.specs.Map.{keys_of}
-use Rattle.rules_values.specs.Val.{Val, Vals, Pairs, no_val, more_vals, no_pair, more_pairs, some, left, right, both, list, table, big_table}
+use Rattle.rules_values.specs.Val.{Val, Pairs, no_pair, more_pairs}
 use Rattle.rules_values.specs.Order.{order}
 use Rattle.rules_values.specs.Tables.{with_value, without_key}
 use Rattle.rules_values.specs.Tickets.{Held, tickets, all_tickets, pair_tickets}
@@ -17,18 +16,17 @@ use Rattle.mich_term.specs.View.{datum}
 use Rattle.mich_term.specs.ValueView.{val, big_step, big_pairs, put_pairs}
 use Rattle.mich_term.specs.declared.datum.Datum.{Datum}
 use Rattle.mich_term.specs.declared.value.Value.{Value}
-use Rattle.mich_term.specs.declared.value.Value.TheOpen.{BigMap-F}
-use Rattle.mich_term.specs.declared.value.BigMap.{BigMap, out-BigMap, roll-BigMap, out-roll-BigMap, roll-out-BigMap}
-use Rattle.mich_term.proofs.Overlays.{big_is}
-use Rattle.mich_bigmap.specs.Bases.{Base, Bases, Changes, entries_in, seen, big_in}
-use Rattle.mich_bigmap.specs.Puts.{put_for, puts_for}
+use Rattle.mich_term.specs.declared.value.BigMap.{BigMap, out-BigMap, roll-out-BigMap}
+use Rattle.mich_term.proofs.ForCallers.{big_is}
+use Rattle.mich_bigmap.specs.Bases.{Bases, Changes, entries_in, seen, big_in}
+use Rattle.mich_bigmap.specs.Puts.{puts_for}
 use Rattle.mich_bigmap.specs.Standing.{val_in, changes_in, big_val_in, big_step_in}
-use Rattle.mich_term.specs.Layers.{NoBigMap, PutsNoBigMap, FormedLayer}
-use Rattle.mich_bigmap.specs.Ticketless.{PutsNoTickets, HoldNoTickets}
-use Rattle.mich_term.proofs.Each as e
+use Rattle.mich_term.specs.Layers.{PutsNoBigMap, FormedLayer}
+use Rattle.mich_bigmap.specs.Ticketless.{HoldNoTickets}
+use Rattle.mich_term.proofs.ForCallers.Each as e
 use Rattle.mich_bigmap.proofs.Meaning.{none_in}
 use Rattle.mich_bigmap.proofs.Putting.{puts_make, put_keys, put_pairs_for}
-use Rattle.mich_bigmap.proofs.Staying.{AreAlike, WithAgree, WithAgreeBig, lowered_big, agree, agree_big, val_plain, big_opens}
+use Rattle.mich_bigmap.proofs.Staying.{AreAlike, agree, val_plain, big_opens}
 
 -- ---- a big map is seen by its overlay alone
 

@@ -1,41 +1,37 @@
 -- What settling makes of parts, and of values of such parts.
 use Rattle.std.proofs.Common.{◌≡◌, ℕ, ℤ, List, [], ◌∷◌, ◌++◌, map, Some, None, true, false, Bool, refl, sym, ap, ◌∙◌, subst}
-use Rattle.std.specs.Prelude.{is_some, length}
 use Rattle.std.specs.declared.option.Option.{Option}
-use Rattle.std.specs.declared.cmp.Ordering.{Ordering}
-use Rattle.std.specs.declared.cmp.Ordering.TheVariants.{Less, Equal, Greater}
-use Rattle.std.specs.Ordering.{match_ordering}
 use Rattle.std.specs.List.{AllByRecursion}
 use Rattle.std.specs.Map.{keys_of}
 use Rattle.rules_values.specs.Val.{Val, Pairs, some, left, right, both, list, table, big_table}
-use Rattle.mich_undo.proofs.Histories.{keeps_same, keeps_trans}
-use Rattle.mich_term.specs.Keyed.{by, with, IsIncreasing}
-use Rattle.mich_term.specs.View.{datum, vals_of, pairs_of}
+use Rattle.mich_undo.proofs.ForCallers.{keeps_same, keeps_trans}
+use Rattle.mich_term.specs.Keyed.{with, IsIncreasing}
+use Rattle.mich_term.specs.View.{vals_of, pairs_of}
 use Rattle.mich_base.specs.declared.node.Node.{Node}
 use Rattle.mich_term.specs.declared.datum.Datum.{Datum}
 use Rattle.mich_term.specs.declared.ticket.Ticket.{Ticket}
 use Rattle.mich_term.specs.ValueView.{value_step, put_pairs}
 use Rattle.mich_term.specs.declared.value.Value.{Value, roll-Value, fold-roll-Value, map-Value}
-use Rattle.mich_term.specs.declared.value.Value.TheVariants.{rolls-Some, rolls-Left, rolls-Right, rolls-Pair, rolls-List, rolls-Map, rolls-BigMap, rolls-Unit, rolls-Bool, rolls-Number, rolls-Text, rolls-Bytes, rolls-None, rolls-Set, rolls-Lambda, rolls-Operation, rolls-Ticket}
+use Rattle.mich_term.specs.declared.value.Value.TheVariants.{rolls-Some, rolls-Left, rolls-Right, rolls-Pair, rolls-List, rolls-Map, rolls-BigMap}
 use Rattle.mich_term.specs.declared.value.Value.TheOpen.{Value-F, BigMap-F}
 use Rattle.mich_term.specs.declared.value.Value.TheVariants as v
 use Rattle.mich_term.specs.declared.value.BigMap.{BigMap, out-BigMap}
-use Rattle.mich_bigmap.specs.Bases.{Bases, entries_in, big_in}
+use Rattle.mich_bigmap.specs.Bases.{Bases, big_in}
 use Rattle.mich_bigmap.specs.Extended.{Extends}
-use Rattle.mich_bigmap.specs.Formed.{is_there, IsFormed, HasBase}
+use Rattle.mich_bigmap.specs.Formed.{IsFormed, HasBase}
 use Rattle.mich_bigmap.specs.Settled.{IsSettled}
 use Rattle.rules_values.specs.Tickets.{pair_tickets}
 use mathlib.Core.Bool.{true≢false}
-use Rattle.mich_term.specs.Layers.{AreFormed, AnyLayer, NoBigMap, PutsNoBigMap, FormedLayer}
+use Rattle.mich_term.specs.Layers.{AreFormed, NoBigMap, PutsNoBigMap, FormedLayer}
 use Rattle.mich_bigmap.specs.Layers.{AreSettled, HasBases, SettledLayer, BasedLayer}
 use Rattle.mich_bigmap.specs.Standing.{val_in, entry_in, big_val_in, big_step_in}
 use Rattle.mich_bigmap.specs.Stored.{Stored}
 use Rattle.mich_bigmap.specs.Settling.{Settles, SettlesAll, SettlesEntries, SettlesBig, Lays}
-use Rattle.mich_term.proofs.Ends.{with_last, by_lawful}
-use Rattle.mich_term.proofs.Each as e
+use Rattle.mich_term.proofs.ForCallers.{with_last, by_lawful}
+use Rattle.mich_term.proofs.ForCallers.Each as e
 use Rattle.mich_bigmap.proofs.Extending.{extends_same}
 use Rattle.mich_bigmap.proofs.Plain.{big_val_is}
-use Rattle.mich_bigmap.proofs.Staying.{each_more, each_more_big, SameEntries, val_stays, big_val_stays}
+use Rattle.mich_bigmap.proofs.Staying.{each_more, SameEntries, val_stays}
 
 -- ---- more bases
 
@@ -47,9 +43,6 @@ based_later a b x p h = each_more (BasedLayer a) (BasedLayer b) (λ l t. p.there
 
 pub val_later : (a b : Bases) (x : Value) → Extends a b → HasBases a x → val_in b x ≡ val_in a x
 val_later a b x p h = val_stays a b x (each_more (BasedLayer a) (SameEntries a b) (λ l t. p.same l.base t) x h)
-
-pub big_later : (a b : Bases) (x : BigMap) → Extends a b → e.EachBig (BasedLayer a) x → big_val_in b x ≡ big_val_in a x
-big_later a b x p h = big_val_stays a b x (each_more_big (BasedLayer a) (SameEntries a b) (λ l t. p.same l.base t) x h)
 
 pub lays_same : (s : Stored) → Lays s s
 lays_same s = record { others = extends_same s.bases.present; keeps = keeps_same s.bases; noted = refl; ticketless = λ h. h }
@@ -232,50 +225,8 @@ settles_entry a b c xs ys zs rest all k x y s h p q t increasing place put =
 
 -- ---- what parts need
 
-pub formed_some : (x : Value) → AreFormed (v.Some x) → AreFormed x
-formed_some x h = e.in_some FormedLayer x h
-
-pub formed_left : (x : Value) → AreFormed (v.Left x) → AreFormed x
-formed_left x h = e.in_left FormedLayer x h
-
-pub formed_right : (x : Value) → AreFormed (v.Right x) → AreFormed x
-formed_right x h = e.in_right FormedLayer x h
-
-pub formed_pair : (x y : Value) → AreFormed (v.Pair x y) → AreFormed x × AreFormed y
-formed_pair x y h = e.in_pair FormedLayer x y h
-
-pub formed_list : (xs : List Value) → AreFormed (v.List xs) → AllByRecursion AreFormed xs
-formed_list xs h = e.in_list FormedLayer xs h
-
-pub formed_map : (es : List (Datum × Value)) → AreFormed (v.Map es) → AllByRecursion (λ x. AreFormed x.1) es
-formed_map es h = e.in_map FormedLayer es h
-
 pub formed_big : (b : BigMap) → AreFormed (v.BigMap b) → e.EachBig FormedLayer b
 formed_big b h = e.in_big FormedLayer b h
-
-pub based_some : (a : Bases) (x : Value) → HasBases a (v.Some x) → HasBases a x
-based_some a x h = e.in_some (BasedLayer a) x h
-
-pub based_left : (a : Bases) (x : Value) → HasBases a (v.Left x) → HasBases a x
-based_left a x h = e.in_left (BasedLayer a) x h
-
-pub based_right : (a : Bases) (x : Value) → HasBases a (v.Right x) → HasBases a x
-based_right a x h = e.in_right (BasedLayer a) x h
-
-pub based_first : (a : Bases) (x y : Value) → HasBases a (v.Pair x y) → HasBases a x
-based_first a x y h = (e.in_pair (BasedLayer a) x y h).0
-
-pub based_second : (a b : Bases) (x y : Value) → Extends a b → HasBases a (v.Pair x y) → HasBases b y
-based_second a b x y p h = based_later a b y p (e.in_pair (BasedLayer a) x y h).1
-
-pub based_list : (a : Bases) (xs : List Value) → HasBases a (v.List xs) → AllByRecursion (HasBases a) xs
-based_list a xs h = e.in_list (BasedLayer a) xs h
-
-pub based_map : (a : Bases) (es : List (Datum × Value)) → HasBases a (v.Map es) → AllByRecursion (λ x. HasBases a x.1) es
-based_map a es h = e.in_map (BasedLayer a) es h
-
-pub based_big : (a : Bases) (b : BigMap) → HasBases a (v.BigMap b) → e.EachBig (BasedLayer a) b
-based_big a b h = e.in_big (BasedLayer a) b h
 
 -- ---- big maps
 

@@ -15,7 +15,7 @@ use Rattle.mich_term.specs.declared.value.Value.{Value}
 use Rattle.mich_term.specs.declared.value.Value.TheFolds.{fold_out-BigMap, map-BigMap}
 use Rattle.mich_term.specs.declared.value.Value.TheOpen.{BigMap-F}
 use Rattle.mich_term.specs.declared.value.BigMap.{BigMap, out-BigMap}
-use Rattle.mich_term.proofs.Ends.{table_step}
+use Rattle.mich_term.proofs.ForCallers.{table_step}
 use Rattle.mich_bigmap.specs.Bases.{Bases, Changes, entries_in}
 use Rattle.mich_bigmap.specs.Standing.{val_in, big_val_in, big_step_in, entry_in, changes_in}
 

@@ -1,25 +1,22 @@
 -- What values stand for where bases are added or given up, and where they hold no big map.
-use Rattle.std.proofs.Common.{◌≡◌, ℕ, ℤ, Bool, true, false, List, [], ◌∷◌, ◌++◌, map, Some, None, refl, sym, ap, ◌∙◌, subst}
-use Rattle.std.specs.Prelude.{option_map, is_some}
+use Rattle.std.proofs.Common.{◌≡◌, ℕ, Bool, List, [], ◌∷◌, map, Some, None, refl, sym, ap, ◌∙◌, subst}
+use Rattle.std.specs.Prelude.{option_map}
 use Rattle.std.specs.declared.option.Option.{Option}
 use Rattle.std.specs.List.{AllByRecursion}
-use Rattle.std.specs.Map.{keys_of}
 use Rattle.rules_values.specs.Val.{Val, Vals, Pairs, no_val, no_pair, more_pairs, more_vals, some, left, right, both, list, table, big_table}
-use Rattle.rules_values.specs.Tickets.{tickets, all_tickets, pair_tickets}
-use Rattle.rules_bigmap.specs.Changes.{written, changed}
-use Rattle.mich_term.specs.Keyed.{IsIncreasing}
+use Rattle.rules_bigmap.specs.Changes.{changed}
 use Rattle.mich_term.specs.View.{datum, vals_of, pairs_of}
-use Rattle.mich_term.specs.ValueView.{val, value_step, big_step, big_pairs, put_pairs, vals, pairs}
+use Rattle.mich_term.specs.ValueView.{val, value_step, big_step}
 use Rattle.mich_term.specs.declared.datum.Datum.{Datum}
 use Rattle.mich_term.specs.declared.value.Value.{Value, roll-Value, ind-Value, fold-Value, fold-roll-Value, map-Value}
 use Rattle.mich_term.specs.declared.value.Value.TheOpen.{Value-F, BigMap-F}
-use Rattle.mich_term.specs.declared.value.Value.TheFolds.{ind-BigMap, fold-BigMap, fold-roll-BigMap, map-BigMap}
+use Rattle.mich_term.specs.declared.value.Value.TheFolds.{fold-BigMap, fold-roll-BigMap, map-BigMap}
 use Rattle.mich_term.specs.declared.value.BigMap.{BigMap, out-BigMap, roll-BigMap, out-roll-BigMap}
-use Rattle.mich_bigmap.specs.Bases.{Bases, Changes, entries_in, seen}
-use Rattle.mich_bigmap.specs.Standing.{val_in, vals_in, pairs_in, entry_in, changes_in, big_val_in, big_step_in}
-use Rattle.mich_term.specs.Layers.{AnyLayer, NoBigMap}
+use Rattle.mich_bigmap.specs.Bases.{Bases, entries_in}
+use Rattle.mich_bigmap.specs.Standing.{val_in, changes_in, big_val_in, big_step_in}
+use Rattle.mich_term.specs.Layers.{NoBigMap}
 use Rattle.mich_bigmap.proofs.Standing.{opened_is}
-use Rattle.mich_term.proofs.Each as e
+use Rattle.mich_term.proofs.ForCallers.Each as e
 
 -- what a big map stands for, by its overlay
 pub big_opens : (bs : Bases) (l : BigMap-F Value BigMap) → big_val_in bs (roll-BigMap l) ≡ changed (changes_in bs l.overlay) (entries_in bs l.base)
@@ -111,14 +108,8 @@ module _ (Q Q' R : BigMap-F Value BigMap → Type 0) (follows : (b : BigMap-F Va
   pub each_both : (v : Value) → e.Each Q v → e.Each Q' v → e.Each R v
   each_both = ind-Value More MoreBig (λ x y is. subst (λ z. More (roll-Value z)) is (level y)) (λ x y is. subst (λ z. MoreBig (roll-BigMap z)) is (level_big y))
 
-  pub each_both_big : (b : BigMap) → e.EachBig Q b → e.EachBig Q' b → e.EachBig R b
-  each_both_big = ind-BigMap More MoreBig (λ x y is. subst (λ z. More (roll-Value z)) is (level y)) (λ x y is. subst (λ z. MoreBig (roll-BigMap z)) is (level_big y))
-
 pub each_more : (Q R : BigMap-F Value BigMap → Type 0) (follows : (b : BigMap-F Value BigMap) → Q b → R b) (v : Value) → e.Each Q v → e.Each R v
 each_more Q R follows v h = each_both Q Q R (λ b q k. follows b q) v h h
-
-pub each_more_big : (Q R : BigMap-F Value BigMap → Type 0) (follows : (b : BigMap-F Value BigMap) → Q b → R b) (b : BigMap) → e.EachBig Q b → e.EachBig R b
-each_more_big Q R follows b h = each_both_big Q Q R (λ l q k. follows l q) b h h
 
 -- ---- two ways to see big maps
 
@@ -209,9 +200,6 @@ module _ {R : Val → Val → Type 0} {RL : Vals → Vals → Type 0} {RP : Pair
     pub agree : (v : Value) → e.Each Q v → R (by f v) (by g v)
     agree = ind-Value Agrees AgreesBig (λ x y is. subst (λ z. Agrees (roll-Value z)) is (agree_level y)) (λ x y is. subst (λ z. AgreesBig (roll-BigMap z)) is (big y))
 
-    pub agree_big : (b : BigMap) → e.EachBig Q b → RP (big_by f b) (big_by g b)
-    agree_big = ind-BigMap Agrees AgreesBig (λ x y is. subst (λ z. Agrees (roll-Value z)) is (agree_level y)) (λ x y is. subst (λ z. AgreesBig (roll-BigMap z)) is (big y))
-
 -- values that are one
 pub equals : AreAlike (λ v w. v ≡ w) (λ v w. v ≡ w) (λ v w. v ≡ w)
 equals = record {
@@ -285,6 +273,3 @@ module _ (old new : Bases) where
 
   pub val_stays : (v : Value) → e.Each SameEntries v → val_in new v ≡ val_in old v
   val_stays = agree equals (big_step_in new) (big_step_in old) SameEntries stay_big
-
-  pub big_val_stays : (b : BigMap) → e.EachBig SameEntries b → big_val_in new b ≡ big_val_in old b
-  big_val_stays = agree_big equals (big_step_in new) (big_step_in old) SameEntries stay_big

@@ -1,5 +1,5 @@
 -- Changes that are written over others key by key.
-use Rattle.std.proofs.Common.{◌≡◌, ℕ, List, [], ◌∷◌, ◌++◌, length, refl, sym, ap, ◌∙◌, subst, arith}
+use Rattle.std.proofs.Common.{◌≡◌, List, [], ◌∷◌, ◌++◌, length, refl, sym, ap, ◌∙◌, subst, arith}
 use Rattle.std.specs.declared.option.Option.{Option}
 use Rattle.std.specs.declared.cmp.Ordering.{Ordering}
 use Rattle.std.specs.declared.cmp.Ordering.TheVariants.{Less, Equal, Greater}
@@ -11,7 +11,7 @@ use Rattle.rules_bigmap.specs.Changes.{changed}
 use Rattle.mich_term.specs.Keyed.{by, with, IsIncreasing}
 use Rattle.mich_term.specs.declared.datum.Datum.{Datum}
 use Rattle.mich_term.specs.declared.value.Value.{Value}
-use Rattle.mich_bigmap.specs.Bases.{Bases, Changes, seen, entries_in}
+use Rattle.mich_bigmap.specs.Bases.{Changes, seen}
 use Rattle.mich_bigmap.specs.Merged.{AreMerged, Bare, Passes, all_with}
 use Rattle.mich_bigmap.proofs.Keys.{by_lawful, by_exact}
 use Rattle.mich_bigmap.proofs.Meaning.{changed_with}

@@ -1,5 +1,5 @@
 -- Changes that are taken together.
-use Rattle.std.specs.Prelude.{◌≡◌, ℕ, Option, List, [], ◌∷◌, ◌++◌}
+use Rattle.std.specs.Prelude.{◌≡◌, ℕ, Option, [], ◌∷◌, ◌++◌}
 use Rattle.std.specs.Map.{keys_of}
 use Rattle.rules_values.specs.Val.{Pairs}
 use Rattle.rules_values.specs.Tickets.{pair_tickets}

@@ -1,5 +1,5 @@
 -- Stores that hold no tickets: the values of a big map that shares can be duplicated (Octez "Tickets").
-use Rattle.std.specs.Prelude.{◌≡◌, Option, List, []}
+use Rattle.std.specs.Prelude.{◌≡◌, []}
 use Rattle.std.specs.List.{AllByRecursion}
 use Rattle.rules_values.specs.Tickets.{pair_tickets}
 use Rattle.mich_term.specs.ValueView.{put_pairs}

@@ -13,6 +13,7 @@ mod printed;
 mod settling;
 mod settling_all;
 mod store;
+mod unsharing;
 
 pub use entries::{erase, get, put, take, write};
 pub use laws::{
@@ -23,3 +24,4 @@ pub use printed::{flat, release};
 pub use settling::settle;
 pub use settling_all::settle_all;
 pub use store::Store;
+pub use unsharing::unshared;

@@ -21,7 +21,7 @@ use mich_term::BigMap;
 use std::alloc::Global;
 
 // Puts changes into the store as a base over another, merged with those that it would be over and that don't hold at least four times as many.
-#[tactic(auto, using(mich_undo::proofs::Histories::keeps_same, crate::proofs::Extending::extends_same))]
+#[tactic(auto, using(mich_undo::proofs::ForCallers::keeps_same, crate::proofs::Extending::extends_same))]
 fn lay(
     alloc: Global,
     store: &mut Store,
@@ -42,7 +42,7 @@ fn lay(
 
 /// A big map of the same entries. Where it shares, they are all kept in the store: it has a base and an empty overlay. After Memory
 /// the store is given up with its world (Octez "big_map").
-#[tactic(auto, using(mich_undo::proofs::Histories::keeps_same, crate::proofs::Extending::extends_same))]
+#[tactic(auto, using(mich_undo::proofs::ForCallers::keeps_same, crate::proofs::Extending::extends_same))]
 pub fn settle(alloc: Global, store: &mut Store, m: BigMap) -> Result<BigMap, Memory>
     requires { IsFormed m }
     ensures same { IfOk result (λ n. big_in store.new.bases.present n ≡ big_in store.old.bases.present m) }

@@ -95,7 +95,7 @@ impl Store {
     }
 
     // The same, by what the bases stand for.
-    #[tactic(auto, using(mich_undo::proofs::Histories::keeps_equal))]
+    #[tactic(auto, using(mich_undo::proofs::ForCallers::keeps_equal))]
     pub(crate) fn extend(&mut self, over: Option<u64>, changes: Rows<Change>) -> Result<u64, Memory>
         requires { IsIncreasing (keys_of changes) }
         ensures same { IfOk result (λ k. entries_in self.new.bases.present (Some k) ≡ changed (seen changes) (entries_in self.old.bases.present over)) }
@@ -120,7 +120,7 @@ impl Store {
         }
     }
 
-    #[tactic(auto, using(mich_undo::proofs::Histories::rewound_here, mich_undo::proofs::Histories::rewound_step))]
+    #[tactic(auto, using(mich_undo::proofs::ForCallers::rewound_here, mich_undo::proofs::ForCallers::rewound_step))]
     /// Takes back all bases past this height, last first; takes no memory.
     pub fn undo_to(&mut self, height: u64)
         requires { height ≤ height_of self.old.bases }

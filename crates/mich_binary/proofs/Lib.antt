@@ -5,3 +5,4 @@ pub mod PieceLaws
 pub mod Prefixes
 pub mod Scans
 pub mod Writings
+pub mod ForCallers

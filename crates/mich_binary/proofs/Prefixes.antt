@@ -1,5 +1,4 @@
 -- How long the longest front is whose bytes pass a test.
-use Rattle.std.proofs.Common.{ℕ, ◌≤◌, List, length, Bool}
 use Rattle.std.specs.List.{prefix_len}
 use Rattle.std.proofs.lemmas.List.Sums.{prefix_len-le-length}
 

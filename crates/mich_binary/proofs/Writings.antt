@@ -1,10 +1,10 @@
 -- Writing part by part.
-use Rattle.std.proofs.Common.{◌≡◌, ℕ, zero, suc, ◌+◌, ◌-◌, ◌/◌, ◌%◌, ◌<◌, ◌≤◌, List, [], ◌∷◌, ◌++◌, Bool, true, false, cond, length, set, Result, Ok, Err, refl, sym, ap, ◌∙◌, arith, append_assoc, length-append, nat_lt, get_or, drop}
+use Rattle.std.proofs.Common.{◌≡◌, ℕ, suc, ◌+◌, ◌-◌, ◌<◌, ◌≤◌, List, [], ◌∷◌, ◌++◌, false, cond, length, set, Result, Ok, Err, refl, sym, ap, ◌∙◌, arith, append_assoc, length-append, get_or, drop}
 use Rattle.std.specs.Prelude.{ℤ, pos, negsuc, int_lt, unsigned_abs}
 use Rattle.std.specs.Int.{w32, to_be_bytes}
 use Rattle.std.proofs.lemmas.Bool.Decides.{nat_tests}
 use Rattle.std.proofs.lemmas.List.{append-nil, at_drop_more}
-use Rattle.rules_binary.specs.Spelling.{groups_within, groups, signed_groups, integer, field, joined, short, application, spelling, spellings}
+use Rattle.rules_binary.specs.Spelling.{signed_groups, integer, field, joined, short, application, spelling, spellings}
 use Rattle.mich_base.specs.View.{tree, trees}
 use Rattle.mich_base.specs.declared.node.Node.{Node}
 use Rattle.mich_binary.specs.declared.errors.EncodeError.{EncodeError}
@@ -26,10 +26,6 @@ more_overflows (encodes.NoCode location) n m k l h o = absurd o
 pub both : {U : Type 0} (a b c x y : List ℕ) (r : Result U EncodeError) → b ≡ a ++ x → IsWritten b c y r → IsWritten a c (x ++ y) r
 both a b c x y (Ok u) e w = (w.0 ∙ ap (λ (t : List ℕ). t ++ y) e ∙ append_assoc a x y, w.1)
 both a b c x y (Err err) e w = more_overflows err (length b) (length y) (length a) (length (x ++ y)) (omega (arith, length-append x y, ap length e, length-append a x)) w
-
--- the first part is refused
-pub first_overflows : (a b x y : List ℕ) (e : EncodeError) → Overflows (length a) (length x) e → Overflows (length a) (length (x ++ y)) e
-first_overflows a b x y e o = more_overflows e (length a) (length x) (length a) (length (x ++ y)) (omega (arith, length-append x y)) o
 
 pub length_field : (content : List ℕ) → length (field content) ≡ 4 + length content
 unfolding field

@@ -1,5 +1,5 @@
 -- The pieces between spaces, one by one.
-use Rattle.std.specs.Prelude.{ℕ, List, [], ◌∷◌, Bool, not, ◌==◌, Option, Some, None}
+use Rattle.std.specs.Prelude.{ℕ, List, [], Bool, not, ◌==◌, Option, Some, None}
 use Rattle.rules_binary.specs.Reading.{pieces}
 
 abbrev pub is_no_space : ℕ → Bool

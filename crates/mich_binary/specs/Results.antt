@@ -1,6 +1,5 @@
 -- What the readers return, against what reading gives.
 use Rattle.std.specs.Prelude.{◌≡◌, ℕ, ◌+◌, ◌<◌, ◌≤◌, List, ◌++◌, length, Result, Ok, Err}
-use Rattle.rules_binary.specs.declared.DecodeKind.{DecodeKind}
 use Rattle.rules_binary.specs.Reading.{Fault, Spot}
 use Rattle.rules_base.specs.Limits.{encoded_limit}
 use Rattle.rules_base.specs.Tree.{Tree, Trees}

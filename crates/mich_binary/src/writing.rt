@@ -21,7 +21,7 @@ fn put(out: &mut Vec<u8>, bytes: &[u8]) -> Result<(), EncodeError>
     Ok(())
 }
 
-#[tactic(auto, using(laws_binary::proofs::Integers::more_groups, laws_binary::proofs::Integers::one_group))]
+#[tactic(auto, using(laws_binary::proofs::ForCallers::more_groups, laws_binary::proofs::ForCallers::one_group))]
 fn put_groups(out: &mut Vec<u8>, n: u128) -> Result<(), EncodeError>
     requires { length out.old.items ≤ encoded_limit }
     ensures { IsWritten out.old.items out.new.items (groups n) result }

@@ -1,42 +1,36 @@
 -- CREATE_CONTRACT.
 use Rattle.std.proofs.Common.{◌≡◌, ℕ, ◌+◌, Bool, true, false, List, [], ◌∷◌, Option, Some, None, refl, sym, ap, ◌∙◌, subst, arith}
-use Rattle.std.specs.Prelude.{if◌then◌else◌, Result, Ok, Err}
-use Rattle.rules_base.specs.Tree.{Tree, prim, seq, Trees, none, more}
-use Rattle.rules_base.specs.Primitives.{primitive_of_name}
-use Rattle.rules_base.specs.declared.Primitive.{Primitive}
+use Rattle.std.specs.Prelude.{if◌then◌else◌, Ok, Err}
+use Rattle.rules_base.specs.Tree.{Tree, prim, none, more}
 use Rattle.rules_types.specs.Kind.{Kind, operation, option}
-use Rattle.rules_types.specs.Entrypoints.{Entry}
 use Rattle.rules_instructions.specs.Types.{address, mutez, key_hash}
 use Rattle.rules_instructions.specs.Same.{same_kind}
 use Rattle.rules_instructions.specs.Arguments.{Found, found, fault}
 use Rattle.rules_instructions.specs.Context.{Context}
 use Rattle.rules_instructions.specs.Context as standing
 use Rattle.rules_instructions.specs.Forms as f
-use Rattle.rules_typing.specs.Typing.{Typing, goes, fails, bad, Typer, shift}
-use Rattle.rules_typing.specs.Acts.{Meanings, act_type, one_body, outside_views, of_script}
+use Rattle.rules_typing.specs.Typing.{Typing, goes, fails, bad, shift}
+use Rattle.rules_typing.specs.Acts.{one_body, outside_views, of_script}
 use Rattle.rules_typing.specs.Nodes.{bodies, tree_type, script, script_in, found_at}
 use Rattle.rules_typing.specs.Stacks.{on_origination}
 use Rattle.rules_typing.specs.Scripts.{Script}
-use Rattle.laws_types.proofs.SameKinds.{same_kind_true, same_kind_refl}
+use Rattle.laws_types.proofs.ForCallers.{same_kind_true}
 use Rattle.mich_base.specs.declared.node.Node.{Node}
 use Rattle.mich_base.specs.declared.ty.Ty.{Ty}
-use Rattle.mich_base.specs.Counted.{IsNotOne}
 use Rattle.mich_base.specs.View.{tree, trees}
 use Rattle.mich_overload.specs.View.{kinds}
 use Rattle.mich_instr.specs.Code.{Code, ScriptCode}
 use Rattle.mich_instr.specs.Code as made
-use Rattle.mich_instr.specs.View.{code, script_code, script_node, node_of, storage_of}
+use Rattle.mich_instr.specs.View.{script_code, storage_of}
 use Rattle.mich_instr.specs.Typed.{HasForm, IsCode, is_create, IsScript, is_script}
 use Rattle.mich_instr.specs.declared.instr.Script.{Script as CodeScript}
 use Rattle.mich_control.specs.declared.error.CheckError.{CheckError}
 use Rattle.mich_control.specs.declared.error.CheckError.TheVariants as error
 use Rattle.mich_control.specs.Answers.{IsFault}
-use Rattle.mich_sections.proofs.Moves.{script_moves}
+use Rattle.mich_sections.proofs.ForCallers.{script_moves}
 use Rattle.mich_check.specs.Scripts.{IsTyped, IsTypedAt, Origin, origin, originated, IsBehind}
 use Rattle.mich_control.specs.View.{is_view}
-use Rattle.mich_control.proofs.Shifts.{bad_here, fault_is}
-use Rattle.mich_control.proofs.Forms.{meanings, formed}
-use Rattle.mich_control.proofs.Loops.{not_one}
+use Rattle.mich_control.proofs.ForCallers.{fault_is, formed}
 
 -- ---- the typing by the stack
 
@@ -52,11 +46,6 @@ outside : (c : Context) (T : Typing) → is_view c ≡ false → outside_views c
 outside (standing.main es) T e = refl
 outside standing.view T e = absurd cc
 outside standing.lambda T e = refl
-
-inside_view : (c : Context) (T : Typing) → is_view c ≡ true → outside_views c T ≡ bad 0
-inside_view (standing.main es) T e = absurd cc
-inside_view standing.view T e = refl
-inside_view standing.lambda T e = absurd cc
 
 script_one : (x : Node) → script_in (trees (x ∷ [])) 1 ≡ found_at 1 (script (tree x))
 script_one x = refl
@@ -81,16 +70,9 @@ module _ (at : ℕ) (c : Context) (name : List ℕ) (annots : List (List ℕ)) (
   unfolding inner
   whole = ap (shift at) (formed f.create_contract name annots (trees ns) c S form)
 
-  pub create_view : is_view c ≡ true → shift at (tree_type (prim name annots (trees ns)) c S) ≡ bad at
-  create_view e = whole ∙ ap (shift at) (inside_view c inner e) ∙ bad_here at
-
   module _ (v : is_view c ≡ false) where
     beyond : shift at (tree_type (prim name annots (trees ns)) c S) ≡ shift at inner
     beyond = whole ∙ ap (shift at) (outside c inner v)
-
-    pub create_arguments : IsNotOne ns → shift at (tree_type (prim name annots (trees ns)) c S) ≡ bad at
-    unfolding inner
-    create_arguments h = beyond ∙ ap (shift at) (not_one ns (λ b. on_origination S (λ g A. of_script (script_in (trees ns) 1) g A)) h) ∙ bad_here at
 
     module _ (x : Node) (one : ns ≡ x ∷ []) where
       only : shift at (tree_type (prim name annots (trees ns)) c S) ≡ shift at (through (originated S) (found_at 1 (script (tree x))))
@@ -98,9 +80,6 @@ module _ (at : ℕ) (c : Context) (name : List ℕ) (annots : List (List ℕ)) (
       only =
           beyond ∙ ap (λ xs. shift at (one_body (bodies (trees xs) 1) (λ b. on_origination S (λ g A. of_script (script_in (trees xs) 1) g A)))) one
           ∙ ap (shift at) (create_type S (found_at 1 (script (tree x))))
-
-      pub create_stack : None ≡ originated S → shift at (tree_type (prim name annots (trees ns)) c S) ≡ bad at
-      create_stack e = only ∙ ap (λ o. shift at (through o (found_at 1 (script (tree x))))) (sym e) ∙ bad_here at
 
       module _ (o : Origin) (e : Some o ≡ originated S) where
         scripted : shift at (tree_type (prim name annots (trees ns)) c S) ≡ shift at (of_script (found_at 1 (script (tree x))) o.storage o.rest)

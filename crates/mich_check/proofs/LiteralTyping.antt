@@ -1,13 +1,13 @@
 -- Literals with the bodies of their lambdas.
-use Rattle.std.proofs.Common.{◌≡◌, ℕ, ◌+◌, Bool, List, [], ◌∷◌, ◌++◌, Option, Some, None, sym, ap, ◌∙◌, subst, arith, append_assoc}
-use Rattle.std.specs.Prelude.{Result, Ok, Err}
+use Rattle.std.proofs.Common.{◌≡◌, ℕ, ◌+◌, Bool, List, [], ◌∷◌, ◌++◌, Option, Some, None, sym, ap, ◌∙◌, arith, append_assoc}
+use Rattle.std.specs.Prelude.{Err}
 use Rattle.std.proofs.lemmas.List.{map-append, append-nil}
 use Rattle.rules_base.specs.Tree.{Tree}
 use Rattle.rules_types.specs.Kind.{Kind}
 use Rattle.rules_values.specs.Val.{Val}
-use Rattle.rules_values.specs.Literals.{Pending, Literal, good, bad, read, claims}
-use Rattle.rules_instructions.specs.Arguments.{Found, found, fault}
-use Rattle.rules_typing.specs.Literals.{Checked, fault_of_bodies, checked, of_reading}
+use Rattle.rules_values.specs.Literals.{Pending, good, read, claims}
+use Rattle.rules_instructions.specs.Arguments.{found, fault}
+use Rattle.rules_typing.specs.Literals.{fault_of_bodies, checked, of_reading}
 use Rattle.mich_base.specs.declared.node.Node.{Node}
 use Rattle.mich_base.specs.declared.ty.Ty.{Ty}
 use Rattle.mich_data.specs.View.{pending, all_pending}
@@ -16,15 +16,8 @@ use Rattle.mich_data.specs.declared.pending.Pending.TheVariants as item
 use Rattle.mich_forms.specs.declared.addresses.Address.{Address}
 use Rattle.mich_control.specs.declared.error.CheckError.{CheckError}
 use Rattle.mich_control.specs.declared.error.CheckError.TheVariants as error
-use Rattle.mich_check.specs.Pending.{moved, IsFaulty, IsRead, IsChecked}
+use Rattle.mich_check.specs.Pending.{moved, IsFaulty, IsChecked}
 use Rattle.mich_check.proofs.PushTyping.{no_move}
-
-pub literal_misread : (a : Kind) (at : ℕ) (t : Tree) (e : CheckError) → IsRead 0 (read a at t) (Err e) → IsChecked (of_reading (read a at t)) (Err e)
-literal_misread a at t (error.IllTyped l) h =
-    let e = h.2 in
-    let k : h.0 ≡ l = omega (arith, e) in
-    ap of_reading h.1 ∙ ap fault k
-literal_misread a at t error.Memory h = tt
 
 tried : (x : Val) (o : Option ℕ) (ps : List Pending) (e : CheckError) → IsFaulty {T = Unit {0}} (moved 0 o) (Err e) → IsChecked (checked x ps o) (Err e)
 tried x (Some m) ps (error.IllTyped l) h =
@@ -33,11 +26,6 @@ tried x (Some m) ps (error.IllTyped l) h =
     ap fault k
 tried x None ps (error.IllTyped l) h = absurd cc
 tried x o ps error.Memory h = tt
-
-pub literal_untried : (a : Kind) (at : ℕ) (t : Tree) (x : Val) (ps : List Pending) (e : CheckError) → read a at t ≡ good x ps →
-    IsFaulty {T = Unit {0}} (moved 0 (fault_of_bodies ps)) (Err e) → IsChecked (of_reading (read a at t)) (Err e)
-literal_untried a at t x ps e r h =
-    subst (λ (f : Found Checked). IsChecked f (Err e)) (sym (ap of_reading r)) (tried x (fault_of_bodies ps) ps e h)
 
 pub literal_is : (a : Kind) (at : ℕ) (t : Tree) (x : Val) (ps qs : List Pending) → read a at t ≡ good x ps → moved 0 (fault_of_bodies ps) ≡ None → qs ≡ claims ps →
     of_reading (read a at t) ≡ found record { value = x; claims = qs }

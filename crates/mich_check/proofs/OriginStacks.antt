@@ -1,8 +1,8 @@
 -- What CREATE_CONTRACT asks of the stack.
-use Rattle.std.proofs.Common.{◌≡◌, Bool, true, false, ◌&&◌, List, [], ◌∷◌, Option, Some, None, refl, sym, ap, ◌∙◌}
+use Rattle.std.proofs.Common.{◌≡◌, true, false, List, [], ◌∷◌, Some, None, refl, sym, ap, ◌∙◌}
 use Rattle.rules_types.specs.Kind.{Kind, option}
 use Rattle.rules_instructions.specs.Types.{mutez, key_hash}
-use Rattle.mich_check.specs.Scripts.{Origin, origin, originated, is_delegate, is_amount}
+use Rattle.mich_check.specs.Scripts.{origin, originated, is_delegate, is_amount}
 
 no_one : (a : Kind) → None ≡ originated (a ∷ [])
 no_one (option key_hash) = refl

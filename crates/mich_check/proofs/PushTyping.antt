@@ -1,9 +1,8 @@
 -- PUSH, and the bodies in literals.
-use Rattle.std.proofs.Common.{◌≡◌, ℕ, zero, suc, ◌+◌, ◌^◌, ◌<◌, ◌≤◌, max, Bool, true, false, List, [], ◌∷◌, ◌++◌, drop, length, get_or, map, ◌⊎◌, inl, inr, Option, Some, None, refl, sym, ap, ◌∙◌, subst, arith, drop-cons, add-one}
-use Rattle.std.specs.Prelude.{if◌then◌else◌, slice_get, option_map, Result, Ok, Err}
+use Rattle.std.proofs.Common.{◌≡◌, ℕ, zero, suc, ◌+◌, ◌^◌, ◌<◌, ◌≤◌, Bool, true, false, List, [], ◌∷◌, ◌++◌, drop, length, get_or, ◌⊎◌, inl, inr, Option, Some, None, refl, sym, ap, ◌∙◌, subst, arith, drop-cons, add-one}
+use Rattle.std.specs.Prelude.{if◌then◌else◌, slice_get, Result, Err}
 use Rattle.std.proofs.lemmas.List.{drop_all}
 use Rattle.rules_base.specs.Tree.{Tree, int, str, bytes, prim, seq, Trees, none, more, size, sizes, preorder, preorders}
-use Rattle.rules_base.specs.Primitives.{primitive_of_name}
 use Rattle.rules_types.specs.Kind.{Kind}
 use Rattle.rules_types.specs.Attributes.{pushable}
 use Rattle.rules_values.specs.Val.{Val}
@@ -17,11 +16,9 @@ use Rattle.rules_typing.specs.Typing.{Typing, goes, fails, shift, on_found}
 use Rattle.rules_typing.specs.Typing as ty
 use Rattle.rules_typing.specs.Bodies.{body_fault, first_fault}
 use Rattle.rules_typing.specs.Nodes.{tree_type}
-use Rattle.rules_typing.specs.Literals.{Checked, fault_of_bodies, checked, of_reading}
+use Rattle.rules_typing.specs.Literals.{fault_of_bodies, checked, of_reading}
 use Rattle.laws_typing.specs.Laws.{AllStandIn, AllAtMost}
-use Rattle.laws_typing.proofs.Places.{size_is, bodies_stand}
-use Rattle.laws_typing.proofs.Sizes.{bodies_within}
-use Rattle.laws_typing.proofs.Pushed.{all_pushed}
+use Rattle.laws_typing.proofs.ForCallers.{size_is, bodies_stand, bodies_within, all_pushed}
 use Rattle.mich_base.specs.declared.node.Node.{Node}
 use Rattle.mich_base.specs.declared.ty.Ty.{Ty}
 use Rattle.mich_base.specs.Counted.{IsNotTwo}
@@ -30,8 +27,7 @@ use Rattle.mich_base.specs.View.{tree, trees}
 use Rattle.mich_data.specs.View.{pending, all_pending}
 use Rattle.mich_data.specs.declared.pending.Pending.{Pending as Item}
 use Rattle.mich_overload.specs.View.{kinds}
-use Rattle.mich_stackrules.specs.Answers.{found_from}
-use Rattle.mich_stackrules.proofs.Found.{argument_from}
+use Rattle.mich_stackrules.proofs.ForCallers.{argument_from}
 use Rattle.mich_instr.specs.Plain.{bare}
 use Rattle.mich_instr.specs.Code.{Code}
 use Rattle.mich_instr.specs.Code as made
@@ -40,9 +36,7 @@ use Rattle.mich_control.specs.declared.error.CheckError.{CheckError}
 use Rattle.mich_control.specs.declared.error.CheckError.TheVariants as error
 use Rattle.mich_control.specs.Answers.{typing, Leads, ends_in, IsFault, IsFound}
 use Rattle.mich_check.specs.Pending.{reach, largest, moved, IsFaulty, called_fault, item_fault, IsRead}
-use Rattle.mich_control.proofs.Shifts.{bad_here, unshift, fault_is}
-use Rattle.mich_control.proofs.Forms.{formed}
-use Rattle.mich_control.proofs.Read.{found_typing, read_as}
+use Rattle.mich_control.proofs.ForCallers.{unshift, fault_is, formed, found_typing, read_as}
 use Rattle.mich_check.proofs.Within.{fault_within}
 
 -- ---- where bodies stand
@@ -126,12 +120,6 @@ pub called_item : {T : Type 0} (at l : ℕ) (a r : Kind) (recursive : Bool) (u :
     IsFaulty (moved at (called_fault l a r recursive u)) z
 called_item at l a r recursive u z h = subst (λ o. IsFaulty o z) (called_from at l a r recursive u) h
 
-pub called_bad : (at : ℕ) (a r : Kind) (recursive : Bool) (u : Tree) (S : List Kind) (e : CheckError) → S ≡ call_kinds a r recursive →
-    IsFault (shift at (tree_type u lambda S)) e → IsFaulty {T = Unit {0}} (called_fault at a r recursive u) (Err e)
-called_bad at a r recursive u S (error.IllTyped l) s h =
-    ap (λ T. body_fault at T r) (ap (λ A. shift at (tree_type u lambda A)) (sym s) ∙ h)
-called_bad at a r recursive u S error.Memory s h = tt
-
 module _ (at : ℕ) (a r : Kind) (recursive : Bool) (u : Tree) (S C : List Kind) (o : Option (List Ty)) (s : S ≡ call_kinds a r recursive)
     (h : shift at (tree_type u lambda S) ≡ typing o) (e : C ≡ r ∷ []) where
   called_is : called_fault at a r recursive u ≡ (if ends_in o C then None else Some at)
@@ -141,12 +129,6 @@ module _ (at : ℕ) (a r : Kind) (recursive : Bool) (u : Tree) (S C : List Kind)
       by : (o : Option (List Ty)) → body_fault at (typing o) r ≡ (if ends_in o (r ∷ []) then None else Some at)
       by (Some ts) = refl
       by None = refl
-
-  pub called_other : ends_in o C ≡ false → called_fault at a r recursive u ≡ Some at
-  called_other k = called_is ∙ ap (λ b. if b then None else Some at) k
-
-  pub called_well : ends_in o C ≡ true → called_fault at a r recursive u ≡ None
-  called_well k = called_is ∙ ap (λ b. if b then None else Some at) k
 
 -- ---- one after another
 
@@ -235,9 +217,6 @@ module _ (at : ℕ) (c : Context) (name : List ℕ) (annots : List (List ℕ)) (
   not_two (x ∷ []) h = refl
   not_two (x ∷ y ∷ []) h = absurd h
   not_two (x ∷ y ∷ z ∷ ms) h = refl
-
-  pub push_arguments : IsNotTwo ns → shift at (tree_type (prim name annots (trees ns)) c S) ≡ ty.bad at
-  push_arguments h = whole ∙ ap (shift at) (not_two ns h) ∙ bad_here at
 
   module _ (v w : Node) (two : ns ≡ v ∷ w ∷ []) where
     abbrev pushed : Kind → Pushed

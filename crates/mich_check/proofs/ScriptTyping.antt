@@ -1,29 +1,24 @@
 -- Scripts, their bodies and their views.
-use Rattle.std.proofs.Common.{◌≡◌, ℕ, suc, ◌+◌, ◌<◌, ◌≤◌, max, Bool, true, false, List, [], ◌∷◌, ◌++◌, drop, length, get_or, Option, Some, None, refl, sym, ap, ◌∙◌, subst, append_assoc, drop-cons, add-one, arith}
+use Rattle.std.proofs.Common.{◌≡◌, ℕ, suc, ◌+◌, ◌<◌, ◌≤◌, Bool, true, List, [], ◌∷◌, ◌++◌, drop, length, get_or, Option, Some, None, refl, sym, ap, ◌∙◌, subst, append_assoc, drop-cons, add-one, arith}
 use Rattle.std.specs.Prelude.{if◌then◌else◌, map, Result, Ok, Err}
 use Rattle.std.proofs.lemmas.List.{append-nil, drop_all}
-use Rattle.rules_base.specs.Tree.{Tree, int, str, bytes, prim, seq, Trees, size}
-use Rattle.rules_types.specs.Kind.{Kind, operation, pair, list}
+use Rattle.rules_base.specs.Tree.{Tree, int, str, bytes, prim, seq, size}
+use Rattle.rules_types.specs.Kind.{Kind, pair}
 use Rattle.rules_instructions.specs.Arguments.{Found, found, fault, and_then}
 use Rattle.rules_instructions.specs.Context.{Context}
 use Rattle.rules_instructions.specs.Context as standing
-use Rattle.rules_instructions.specs.Same.{same_kinds}
-use Rattle.rules_typing.specs.Typing.{Typing, goes, fails, bad}
 use Rattle.rules_typing.specs.Bodies.{body_fault}
 use Rattle.rules_typing.specs.Nodes.{body, found_at, script, script_at}
 use Rattle.rules_typing.specs.Sections.{Body}
-use Rattle.rules_typing.specs.Scripts.{Outline, TypedView, View, Script, is_small, fault_of_body, code_fault, view_fault, unless_fault, a_view, with_views, a_script, with_bodies}
+use Rattle.rules_typing.specs.Scripts.{Outline, TypedView, View, Script, fault_of_body, view_fault, unless_fault, a_view, with_views, a_script, with_bodies}
 use Rattle.mich_base.specs.declared.ty.Ty.{Ty}
-use Rattle.mich_base.specs.TypeView.{kind}
 use Rattle.mich_base.specs.View.{tree}
-use Rattle.mich_overload.specs.View.{kinds}
 use Rattle.mich_sections.specs.Outlines.{outline_at}
 use Rattle.mich_sections.specs.View.{outline_of, view_of}
 use Rattle.mich_sections.specs.declared.outline.Outline.{Outline as CodeOutline}
 use Rattle.mich_sections.specs.declared.outline.View.{View as Item}
-use Rattle.mich_sections.proofs.Inside.{IsSmall, ViewsSmall, bodies_small}
-use Rattle.mich_sections.proofs.Moves.{script_moves}
-use Rattle.mich_instr.specs.Code.{Code, Codes, ScriptCode, ViewCode, ViewCodes, no_view, more_views, views_of}
+use Rattle.mich_sections.proofs.ForCallers.{ViewsSmall, bodies_small, script_moves}
+use Rattle.mich_instr.specs.Code.{Codes, ViewCode, ViewCodes, no_view, more_views}
 use Rattle.mich_instr.specs.Code as made
 use Rattle.mich_instr.specs.View.{codes, script_code, script_node, node_of, view_code, view_codes}
 use Rattle.mich_instr.specs.Typed.{AreCode, IsScript, is_script, AreViews, no_views, one_more}
@@ -32,10 +27,9 @@ use Rattle.mich_instr.specs.declared.instr.Script.{Script as CodeScript}
 use Rattle.mich_instr.specs.declared.instr.ViewCode.{ViewCode as CodeOfView}
 use Rattle.mich_control.specs.declared.error.CheckError.{CheckError}
 use Rattle.mich_control.specs.declared.error.CheckError.TheVariants as error
-use Rattle.mich_check.specs.declared.ends.Ends.{Ends}
-use Rattle.mich_control.specs.Answers.{typing, Leads, ends_in, IsFault, IsFound, inside}
-use Rattle.mich_check.specs.Scripts.{AreEnds, code_is_small, IsBodyOf, IsWhole, IsScriptCode, HasCode, IsView, AreViewsOf, AreTypedViews, IsTypedAt, script_made, view_made, largest_of}
-use Rattle.mich_control.proofs.Loops.{ended_leads}
+use Rattle.mich_control.specs.Answers.{typing, Leads, ends_in, inside}
+use Rattle.mich_check.specs.Scripts.{AreEnds, IsBodyOf, IsWhole, IsScriptCode, HasCode, IsView, AreViewsOf, AreTypedViews, IsTypedAt, script_made, largest_of}
+use Rattle.mich_control.proofs.ForCallers.{ended_leads}
 
 -- ---- a body from one type to another
 
@@ -47,16 +41,9 @@ module _ (at : ℕ) (t : Tree) (c : Context) (a r : Kind) (S : List Kind) (q : S
   from : body t at c (a ∷ []) ≡ body t at c S
   from = ap (body t at c) (sym q)
 
-  pub whole_fault : (e : CheckError) → IsFault (body t at c S) e → IsBodyOf (body_fault at (body t at c (a ∷ [])) r) c t a r (Err e)
-  whole_fault (error.IllTyped l) h = ap (λ T. body_fault at T r) (from ∙ h)
-  whole_fault error.Memory h = tt
-
   module _ (o : Option (List Ty)) (C : List Kind) (h : body t at c S ≡ typing o) (e : C ≡ r ∷ []) where
     ended : body_fault at (body t at c (a ∷ [])) r ≡ (if ends_in o C then None else Some at)
     ended = ap (λ T. body_fault at T r) (from ∙ h) ∙ faulted at o r ∙ ap (λ X. if ends_in o X then None else Some at) (sym e)
-
-    pub whole_other : ends_in o C ≡ false → body_fault at (body t at c (a ∷ [])) r ≡ Some at
-    whole_other k = ended ∙ ap (λ b. if b then None else Some at) k
 
     pub whole_good : (is : Codes) → t ≡ seq (inside t) → ends_in o C ≡ true → Leads (λ B. AreCode c (inside t) is S B) o →
         (body_fault at (body t at c (a ∷ [])) r ≡ None) × (t ≡ seq (inside t)) × AreCode c (inside t) is (a ∷ []) (r ∷ [])
@@ -80,18 +67,11 @@ module _ (small : Bool) (c : Context) (a r : Kind) (b : Body) where
   small_enough (Err (error.IllTyped l)) s h = small_fault (Some l) s h
   small_enough (Err error.Memory) s h = tt
 
-  pub of_ends : (x : Result (List Instr) CheckError) (d e : Kind) → (small ≡ true) × (d ≡ a) × (e ≡ r) → IsWhole c b d e x → IsBodyOf (fault_of_body small c a r b) c b.node a r x
-  of_ends x d e s h = small_enough x s.0 (subst (λ k. IsWhole c b k r x) s.1 (subst (λ k. IsWhole c b d k x) s.2 h))
-
 -- ---- views
 
 pub view_fails : (s : Kind) (v : TypedView) (e : CheckError) → IsBodyOf (view_fault s v) standing.view v.body.node (pair v.input s) v.output (Err e) → IsView s v (Err e)
 view_fails s v (error.IllTyped l) h = h
 view_fails s v error.Memory h = tt
-
-pub view_typed : (s : Kind) (v : TypedView) (is : List Instr) (w : CodeOfView) → IsBodyOf (view_fault s v) standing.view v.body.node (pair v.input s) v.output (Ok is) →
-    view_code w ≡ view_made v (codes is) → (view_fault s v ≡ None) × HasCode s v (view_code w)
-view_typed s v is w h e = (h.0, record { inner = codes is; whole = e; sequence = h.1; typed = h.2 })
 
 -- views that were typed stand in front
 abbrev behind : List View → Found (List View) → Found (List View)
@@ -216,10 +196,6 @@ some_size (bytes b) = omega arith
 some_size (prim name annots ts) = omega arith
 some_size (seq ts) = omega arith
 
-pub outline_faulty : (at : ℕ) (t : Tree) (e : CheckError) → IsFound outline_of (outline_at at t) (Err e) → IsTypedAt at t (Err e)
-outline_faulty at t (error.IllTyped l) h = script_is at t ∙ ap (λ f. and_then f with_bodies) h
-outline_faulty at t error.Memory h = tt
-
 module _ (at : ℕ) (t : Tree) (o : Outline) (h : outline_at at t ≡ found o) where
   bodies_of : script_at t at ≡ with_bodies o
   bodies_of = script_is at t ∙ ap (λ f. and_then f with_bodies) h
@@ -227,17 +203,9 @@ module _ (at : ℕ) (t : Tree) (o : Outline) (h : outline_at at t ≡ found o) w
   pub code_size : size o.code.node < size t
   code_size = (bodies_small at t o h).code
 
-  pub code_faulty : (e : CheckError) → IsScriptCode o (Err e) → IsTypedAt at t (Err e)
-  code_faulty (error.IllTyped l) k = bodies_of ∙ ap (λ f. unless_fault f (and_then (with_views o.storage o.views) (λ vs. found (a_script o vs)))) k
-  code_faulty error.Memory k = tt
-
   module _ (is : List Instr) (k : IsScriptCode o (Ok is)) where
     views_of_script : script_at t at ≡ and_then (with_views o.storage o.views) (λ vs. found (a_script o vs))
     views_of_script = bodies_of ∙ ap (λ f. unless_fault f (and_then (with_views o.storage o.views) (λ vs. found (a_script o vs)))) k.0
-
-    pub views_faulty : (e : CheckError) → AreTypedViews o.storage o.views (Err e) → IsTypedAt at t (Err e)
-    views_faulty (error.IllTyped l) m = views_of_script ∙ ap (λ f. and_then f (λ vs. found (a_script o vs))) m
-    views_faulty error.Memory m = tt
 
     pub script_typed : (ws : List CodeOfView) (z : CodeScript) → AreTypedViews o.storage o.views (Ok ws) → script_code z ≡ script_made t o (codes is) (view_codes ws) → IsTypedAt at t (Ok z)
     script_typed ws z m e =

@@ -1,5 +1,5 @@
 -- What is said of scripts, of their bodies and of CREATE_CONTRACT.
-use Rattle.std.specs.Prelude.{ℕ, ◌≡◌, ◌+◌, max, Bool, true, false, ◌&&◌, List, [], ◌∷◌, Option, Some, None, Result, Ok, Err}
+use Rattle.std.specs.Prelude.{ℕ, ◌≡◌, max, Bool, true, false, ◌&&◌, List, [], ◌∷◌, Option, Some, None, Result, Ok, Err}
 use Rattle.rules_base.specs.Tree.{Tree, seq, size}
 use Rattle.rules_types.specs.Kind.{Kind, operation, option, pair, list}
 use Rattle.rules_instructions.specs.Types.{address, mutez, key_hash}
@@ -7,7 +7,6 @@ use Rattle.rules_instructions.specs.Arguments.{Found, found, fault}
 use Rattle.rules_instructions.specs.Context.{Context}
 use Rattle.rules_instructions.specs.Context as standing
 use Rattle.rules_instructions.specs.Same.{same_kind}
-use Rattle.rules_typing.specs.Typing.{Typing, goes}
 use Rattle.rules_typing.specs.Bodies.{body_fault}
 use Rattle.rules_typing.specs.Nodes.{script_at}
 use Rattle.rules_typing.specs.Sections.{Body}
@@ -17,9 +16,9 @@ use Rattle.mich_base.specs.TypeView.{kind}
 use Rattle.mich_base.specs.View.{tree}
 use Rattle.mich_sections.specs.declared.outline.View.{View as Item}
 use Rattle.mich_overload.specs.View.{kinds}
-use Rattle.mich_instr.specs.Code.{Code, Codes, ScriptCode, ViewCode}
+use Rattle.mich_instr.specs.Code.{Codes, ScriptCode, ViewCode}
 use Rattle.mich_instr.specs.Code as made
-use Rattle.mich_instr.specs.View.{code, codes, script_code, script_node, storage_of, view_code, view_codes}
+use Rattle.mich_instr.specs.View.{code, codes, script_node, view_code, view_codes}
 use Rattle.mich_instr.specs.Typed.{AreCode, AreViews}
 use Rattle.mich_instr.specs.Scripts.{IsTypedScript}
 use Rattle.mich_instr.specs.declared.instr.Instr.{Instr}
@@ -27,7 +26,6 @@ use Rattle.mich_instr.specs.declared.instr.Script.{Script}
 use Rattle.mich_instr.specs.declared.instr.ViewCode.{ViewCode as CodeOfView}
 use Rattle.mich_control.specs.declared.error.CheckError.{CheckError}
 use Rattle.mich_control.specs.declared.error.CheckError.TheVariants as error
-use Rattle.mich_control.specs.declared.made.Made.{Made}
 use Rattle.mich_check.specs.declared.ends.Ends.{Ends}
 use Rattle.mich_check.specs.declared.creating.Origin.{Origin as CodeOrigin}
 use Rattle.mich_control.specs.Answers.{typing, inside}

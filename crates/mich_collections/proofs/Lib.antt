@@ -1,8 +1,8 @@
 pub mod Counts
 pub mod Entries
-pub mod Joins
 pub mod Members
 pub mod Opened
 pub mod Sizes
 pub mod Steps
 pub mod Updates
+pub mod ForCallers

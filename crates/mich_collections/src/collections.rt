@@ -48,7 +48,7 @@ fn give_collections(
 
 /// What working on sets, maps and lists makes of a stack (Michelson reference, "Operations on sets", "Operations on maps" and
 /// "Operations on lists"). Not for big maps.
-#[tactic(auto, using(mich_stack::proofs::Burnt::given_gone, mich_stack::proofs::Burnt::given_ends))]
+#[tactic(auto, using(mich_stack::proofs::ForCallers::given_gone, mich_stack::proofs::ForCallers::given_ends))]
 pub fn collection_step<B: Burner>(
     alloc: Global,
     row: &CollectionRow,

@@ -23,14 +23,13 @@ use Rattle.rules_world.specs.Runs.{Finished}
 use Rattle.rules_world.specs.RunLaws.{amount_returned}
 use Rattle.rules_world.specs.Targets.{Target}
 use Rattle.rules_world.specs.World.{World as PlainWorld, contract_at as plain_contract_at}
-use Rattle.laws_accounts.proofs.Amounts.{tickets_good, among_positive, burnt_positive}
-use Rattle.laws_accounts.proofs.Entries.{all_found}
+use Rattle.laws_accounts.proofs.ForCallers.{tickets_good, among_positive, burnt_positive, all_found}
 use Rattle.laws_runs.specs.RunEnds.{IsFinished}
-use Rattle.laws_runs.proofs.Waiting.{operation_good}
+use Rattle.laws_runs.proofs.ForCallers.{operation_good}
 use Rattle.mich_bigmap.specs.Bases.{Bases}
 use Rattle.mich_bigmap.specs.Standing.{val_in}
 use Rattle.mich_bigmap.specs.Ticketless.{HoldNoTickets}
-use Rattle.mich_bigmap.proofs.Plain.{tickets_in_store}
+use Rattle.mich_bigmap.proofs.ForCallers.{tickets_in_store}
 use Rattle.mich_term.specs.Layers.{AreFormed}
 use Rattle.mich_term.specs.ValueView.{val}
 use Rattle.mich_term.specs.declared.value.Value.{Value}
@@ -45,8 +44,8 @@ use Rattle.mich_standing.specs.Runs.{Runs}
 use Rattle.mich_conditions.specs.Laws.{CreditsFit, InstallsFit, CommitsFit}
 use Rattle.mich_conditions.proofs.Room.{owner_part, has_room, positives}
 use Rattle.mich_conditions.proofs.Waiting.{whole_of, one_in}
-use Rattle.mich_standing.proofs.Contracts.{amounts, stored_are, before_held, length_is, storage_held}
-use Rattle.laws_forms.proofs.Places.{implicit_is, contract_is}
+use Rattle.mich_standing.proofs.ForCallers.{amounts, stored_are, before_held, length_is, storage_held}
+use Rattle.laws_forms.proofs.ForCallers.{implicit_is, contract_is}
 
 -- the tickets of a value are positive, where it stands for one that fits
 value_positive : (bs : Bases) (v : Value) (w : PlainWorld) (a : Kind) → HoldNoTickets bs → AreFormed v → FitsIn w a (val_in bs v)

@@ -1,3 +1,4 @@
 pub mod Fitting
 pub mod Room
 pub mod Waiting
+pub mod ForCallers

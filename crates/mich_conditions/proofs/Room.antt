@@ -16,8 +16,7 @@ use Rattle.rules_world.specs.Forms.{IsAccount, IsTicket}
 use Rattle.rules_world.specs.Good.{known_with, IsGoodContract, IsSound, MayRun}
 use Rattle.rules_world.specs.Holdings.{amount_held, held, held_by, held_by_account, held_by_contract, held_by_accounts, held_by_contracts, burnt_ever}
 use Rattle.rules_world.specs.World.{World, Account, account_at, contract_at, key_hash_in}
-use Rattle.laws_accounts.proofs.Amounts.{in_positive, burnt_positive, ticket_positive}
-use Rattle.laws_accounts.proofs.Holdings.{held_positive}
+use Rattle.laws_accounts.proofs.ForCallers.{in_positive, burnt_positive, ticket_positive, held_positive}
 use Rattle.mich_tickets.specs.Limits.{IsPositive}
 use Rattle.mich_tickets.specs.Most.{most}
 

@@ -19,15 +19,10 @@ use Rattle.rules_world.specs.Good.{IsGood, IsGoodWaiting, MayRun, amount_waiting
 use Rattle.rules_world.specs.Holdings.{held, held_by, amount_held, debited_account, minted_ever, burnt_ever}
 use Rattle.rules_world.specs.Outcomes.{Waiting, issued}
 use Rattle.rules_world.specs.World.{World, Account, account_or_none, contract_at, with_account}
-use Rattle.laws_accounts.proofs.Holdings.{debited_held, with_amount_form}
-use Rattle.laws_accounts.proofs.Identities.{identity_total, alike_equal}
-use Rattle.laws_accounts.proofs.Mutez.{IsOwner, account_supply}
-use Rattle.laws_runs.proofs.Moves.{in_order, moved_moves, moved_supply}
-use Rattle.laws_runs.proofs.Steps.{orderly_of, sound_again, minted_again}
-use Rattle.laws_runs.proofs.Waiting.{waiting_positive}
-use Rattle.laws_runs.proofs.Worlds.{IsOrderly, account_holdings, orderly_account, held_account}
+use Rattle.laws_accounts.proofs.ForCallers.{debited_held, with_amount_form, identity_total, alike_equal, IsOwner, account_supply}
+use Rattle.laws_runs.proofs.ForCallers.{in_order, moved_moves, moved_supply, orderly_of, sound_again, minted_again, waiting_positive, IsOrderly, account_holdings, orderly_account, held_account}
 use Rattle.mich_conditions.specs.Laws.{MayReceive, TransfersMayRun, OriginationsMayRun, PlainValuesMayRun, GiftsMayRun, MovesLeaveRoom}
-use Rattle.mich_standing.proofs.Accounts.{same_balance, account_held}
+use Rattle.mich_standing.proofs.ForCallers.{same_balance, account_held}
 
 -- ---- what waits
 

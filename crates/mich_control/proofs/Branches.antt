@@ -1,18 +1,17 @@
 -- Instructions with two branches.
 use Rattle.std.proofs.Common.{◌≡◌, ℕ, ◌+◌, Bool, true, false, List, [], ◌∷◌, Option, Some, None, refl, sym, ap, ◌∙◌, subst, arith}
 use Rattle.std.specs.Prelude.{if◌then◌else◌, ◌++◌, drop, option_map}
-use Rattle.rules_base.specs.Tree.{Tree, prim, seq, Trees, none, more, size}
+use Rattle.rules_base.specs.Tree.{prim, seq, Trees, none, more, size}
 use Rattle.rules_base.specs.Primitives.{primitive_of_name}
 use Rattle.rules_base.specs.declared.Primitive.{Primitive}
 use Rattle.rules_types.specs.Kind.{Kind, option, or, list}
 use Rattle.rules_instructions.specs.Types.{bool}
 use Rattle.rules_instructions.specs.Same.{same_kinds}
 use Rattle.rules_instructions.specs.Context.{Context}
-use Rattle.rules_instructions.specs.Forms.{Form}
 use Rattle.rules_typing.specs.Typing.{Typing, goes, fails, bad, Typer, shift, join}
 use Rattle.rules_typing.specs.Acts.{Meanings, act_type, two_bodies}
 use Rattle.rules_typing.specs.Nodes.{bodies, body, tree_type}
-use Rattle.laws_types.proofs.SameKinds.{same_kinds_true}
+use Rattle.laws_types.proofs.ForCallers.{same_kinds_true}
 use Rattle.mich_base.specs.declared.node.Node.{Node}
 use Rattle.mich_base.specs.declared.ty.Ty.{Ty}
 use Rattle.mich_base.specs.Counted.{IsNotTwo}
@@ -27,7 +26,7 @@ use Rattle.mich_control.specs.declared.error.CheckError.TheVariants as error
 use Rattle.mich_control.specs.Begun.{branched, stacks}
 use Rattle.mich_control.specs.View.{branch_form, branch_code}
 use Rattle.mich_control.specs.Answers.{typing, Leads, IsFault, inside}
-use Rattle.mich_control.proofs.Shifts.{bad_here, unshift, body_at, fault_is}
+use Rattle.mich_control.proofs.Shifts.{unshift, body_at, fault_is}
 use Rattle.mich_control.proofs.Forms.{meanings, formed}
 
 -- the typing of the branches on their stacks
@@ -75,10 +74,6 @@ not_two [] f h = refl
 not_two (x ∷ []) f h = refl
 not_two (x ∷ y ∷ []) f h = absurd h
 not_two (x ∷ y ∷ z ∷ ns) f h = refl
-
-chosen_not_two : (o : Option (List Kind × List Kind)) (c : Context) (ns : List Node) → IsNotTwo ns → chosen o c (bodies (trees ns) 1) ≡ bad 0
-chosen_not_two None c ns h = not_two ns (λ b d. bad 0) h
-chosen_not_two (Some p) c ns h = not_two ns (λ b d. join (b c p.0) (d c p.1)) h
 
 -- ---- how branches come together
 
@@ -153,12 +148,6 @@ module _ (at : ℕ) (b : Branch) (c : Context) (name : List ℕ) (annots : List 
   whole_is : shift at (tree_type (prim name annots (trees ns)) c S) ≡ shift at (chosen (branched b S) c (bodies (trees ns) 1))
   whole_is =
       ap (shift at) (formed (branch_form b) name annots (trees ns) c S f ∙ branch_type b (primitive_of_name name) annots (trees ns) (meanings (trees ns)) c S)
-
-  pub branch_arguments : IsNotTwo ns → shift at (tree_type (prim name annots (trees ns)) c S) ≡ bad at
-  branch_arguments h = whole_is ∙ ap (shift at) (chosen_not_two (branched b S) c ns h) ∙ bad_here at
-
-  pub branch_stack : None ≡ branched b S → shift at (tree_type (prim name annots (trees ns)) c S) ≡ bad at
-  branch_stack e = whole_is ∙ ap (λ o. shift at (chosen o c (bodies (trees ns) 1))) (sym e) ∙ ap (shift at) (two_none (bodies (trees ns) 1)) ∙ bad_here at
 
   module _ (x y : Node) (X Y : List Kind) (two : ns ≡ x ∷ y ∷ []) (e : Some (stacks X Y) ≡ branched b S) where
     both_is : shift at (tree_type (prim name annots (trees ns)) c S) ≡ shift at (join (body (tree x) 1 c X) (body (tree y) (1 + size (tree x)) c Y))

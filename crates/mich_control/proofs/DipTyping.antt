@@ -1,10 +1,9 @@
 -- DIP.
-use Rattle.std.proofs.Common.{◌≡◌, ℕ, zero, suc, ◌+◌, ◌≤◌, nat_le, ◌&&◌, pos, negsuc, Bool, true, false, List, [], ◌∷◌, ◌++◌, take, drop, length, Option, Some, None, refl, sym, ap, ◌∙◌, subst, arith}
+use Rattle.std.proofs.Common.{◌≡◌, ℕ, ◌+◌, nat_le, ◌&&◌, pos, negsuc, Bool, true, false, List, [], ◌∷◌, ◌++◌, take, drop, length, Option, Some, None, refl, sym, ap, ◌∙◌, subst, arith}
 use Rattle.std.specs.Prelude.{if◌then◌else◌, Result, Ok, Err}
 use Rattle.std.proofs.lemmas.Bool.{leb-true}
 use Rattle.rules_base.specs.Limits.{count_limit}
-use Rattle.rules_base.specs.Tree.{Tree, int, str, bytes, prim, seq, Trees, none, more, size, sizes}
-use Rattle.rules_base.specs.Primitives.{primitive_of_name}
+use Rattle.rules_base.specs.Tree.{Tree, int, str, bytes, prim, seq, none, more, size, sizes}
 use Rattle.rules_types.specs.Kind.{Kind}
 use Rattle.rules_instructions.specs.Arguments.{Found, found, fault, count_argument}
 use Rattle.rules_instructions.specs.Control.{dip_of}
@@ -31,7 +30,7 @@ use Rattle.mich_control.specs.declared.made.Body.{Body}
 use Rattle.mich_control.specs.declared.made.Made.{Made}
 use Rattle.mich_control.specs.Answers.{typing, Leads, IsFault, IsFound, IsInstr, inside}
 use Rattle.mich_control.specs.Dips.{counted, written, IsCount, IsDipped}
-use Rattle.mich_control.proofs.Shifts.{bad_here, unshift, body_at, fault_is}
+use Rattle.mich_control.proofs.Shifts.{unshift, body_at, fault_is}
 use Rattle.mich_control.proofs.Forms.{formed}
 use Rattle.mich_control.proofs.Read.{found_typing, read_as}
 
@@ -134,9 +133,6 @@ module _ (at : ℕ) (c : Context) (name : List ℕ) (annots : List (List ℕ)) (
     tried : shift at (tree_type (prim name annots (trees ns)) c S)
         ≡ shift at (if nat_le n (length S) then under (take n S) (body (tree x) stands.0 c (drop n S)) else bad 0)
     tried = whole ∙ ap (shift at) stands.2
-
-    pub dip_few : nat_le n (length S) ≡ false → shift at (tree_type (prim name annots (trees ns)) c S) ≡ bad at
-    dip_few h = tried ∙ ap (λ b. shift at (if b then under (take n S) (body (tree x) stands.0 c (drop n S)) else bad 0)) h ∙ bad_here at
 
     module _ (U L : List Kind) (enough : nat_le n (length S) ≡ true) (upper : U ≡ take n S) (lower : L ≡ drop n S) where
       below : shift at (tree_type (prim name annots (trees ns)) c S) ≡ shift at (under U (body (tree x) stands.0 c L))

@@ -7,7 +7,7 @@ use Rattle.rules_base.specs.Primitives.{primitive_of_name}
 use Rattle.rules_base.specs.declared.Primitive.{Primitive}
 use Rattle.rules_types.specs.Kind.{Kind, nodes, lambda}
 use Rattle.rules_types.specs.Reading.{any_kind}
-use Rattle.rules_instructions.specs.Arguments.{Found, found, fault, and_then, type_argument}
+use Rattle.rules_instructions.specs.Arguments.{Found, found, and_then, type_argument}
 use Rattle.rules_instructions.specs.Control.{Arrow, lambda_of, call_kinds}
 use Rattle.rules_instructions.specs.Context.{Context}
 use Rattle.rules_instructions.specs.Context as place
@@ -16,13 +16,12 @@ use Rattle.rules_typing.specs.Acts.{Meanings, act_type, lambda_type, lambda_rec_
 use Rattle.rules_typing.specs.Nodes.{bodies, body, tree_type}
 use Rattle.mich_base.specs.declared.node.Node.{Node}
 use Rattle.mich_base.specs.declared.ty.Ty.{Ty}
-use Rattle.mich_base.specs.Counted.{IsNotThree}
 use Rattle.mich_base.specs.TypeView.{kind}
 use Rattle.mich_base.specs.View.{tree, trees}
 use Rattle.mich_overload.specs.View.{kinds}
 use Rattle.mich_stackrules.specs.Answers.{found_from}
-use Rattle.mich_stackrules.proofs.Found.{argument_from}
-use Rattle.mich_instr.specs.Code.{Code, Codes}
+use Rattle.mich_stackrules.proofs.ForCallers.{argument_from}
+use Rattle.mich_instr.specs.Code.{Code}
 use Rattle.mich_instr.specs.Code as i
 use Rattle.mich_instr.specs.Plain.{bare}
 use Rattle.mich_instr.specs.View.{code, codes}
@@ -99,13 +98,6 @@ lambda_acts : (recursive : Bool) (name : Option Primitive) (annots : List (List 
 lambda_acts true name annots ts m c S = refl
 lambda_acts false name annots ts m c S = refl
 
-not_three : (ns : List Node) (g : Arrow → Typing) → IsNotThree ns → on_found (lambda_of (trees ns)) g ≡ bad 0
-not_three [] g h = refl
-not_three (x ∷ []) g h = refl
-not_three (x ∷ y ∷ []) g h = refl
-not_three (x ∷ y ∷ z ∷ []) g h = absurd h
-not_three (x ∷ y ∷ z ∷ w ∷ ns) g h = refl
-
 not_allowed : (recursive : Bool) (a r : Kind) (b : Typer) (S : List Kind) → is_allowed recursive a r ≡ false → arrow_type recursive (arrow a r) b S ≡ bad 0
 not_allowed true a r b S e = ap (λ t. if t then ends (b place.lambda (call_kinds a r true)) (r ∷ []) (goes (lambda a r ∷ S)) else bad 0) e
 not_allowed false a r b S e = absurd cc
@@ -146,9 +138,6 @@ module _ (at : ℕ) (recursive : Bool) (c : Context) (name : List ℕ) (annots :
       ≡ shift at (on_found (lambda_of (trees ns)) (λ x. last_body (bodies (trees ns) 1) (λ b. arrow_type recursive x b S)))
   whole = ap (shift at)
       (formed (lambda_form recursive) name annots (trees ns) c S form ∙ lambda_acts recursive (primitive_of_name name) annots (trees ns) (meanings (trees ns)) c S)
-
-  pub lambda_arguments : IsNotThree ns → shift at (tree_type (prim name annots (trees ns)) c S) ≡ bad at
-  lambda_arguments h = whole ∙ ap (shift at) (not_three ns (λ x. last_body (bodies (trees ns) 1) (λ b. arrow_type recursive x b S)) h) ∙ bad_here at
 
   module _ (v w x : Node) (three : ns ≡ v ∷ w ∷ x ∷ []) where
     abbrev k : ℕ

@@ -11,3 +11,4 @@ pub mod SelfTyping
 pub mod DipTyping
 pub mod MapTyping
 pub mod LambdaTyping
+pub mod ForCallers

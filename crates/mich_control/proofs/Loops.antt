@@ -1,21 +1,19 @@
 -- Instructions with a body that is run again and again.
-use Rattle.std.proofs.Common.{◌≡◌, ℕ, ◌+◌, Bool, true, false, List, [], ◌∷◌, Option, Some, None, refl, sym, ap, ◌∙◌, subst, arith}
+use Rattle.std.proofs.Common.{◌≡◌, ℕ, ◌+◌, Bool, true, false, List, [], ◌∷◌, Option, Some, None, refl, sym, ap, ◌∙◌, subst}
 use Rattle.std.specs.Prelude.{if◌then◌else◌, ◌++◌, length, drop, option_map}
 use Rattle.std.proofs.Math.Seq.{drop-append_seam}
-use Rattle.rules_base.specs.Tree.{Tree, prim, seq, Trees, none, more, size}
+use Rattle.rules_base.specs.Tree.{prim, seq, Trees, none, more}
 use Rattle.rules_base.specs.Primitives.{primitive_of_name}
 use Rattle.rules_base.specs.declared.Primitive.{Primitive}
 use Rattle.rules_types.specs.Kind.{Kind, or, pair, list, set, map}
 use Rattle.rules_instructions.specs.Types.{bool}
-use Rattle.rules_instructions.specs.Same.{same_kinds}
 use Rattle.rules_instructions.specs.Context.{Context}
 use Rattle.rules_typing.specs.Typing.{Typing, goes, fails, bad, Typer, shift, ends}
 use Rattle.rules_typing.specs.Acts.{Meanings, act_type, one_body}
 use Rattle.rules_typing.specs.Nodes.{bodies, body, tree_type}
-use Rattle.laws_types.proofs.SameKinds.{same_kinds_true}
+use Rattle.laws_types.proofs.ForCallers.{same_kinds_true}
 use Rattle.mich_base.specs.declared.node.Node.{Node}
 use Rattle.mich_base.specs.declared.ty.Ty.{Ty}
-use Rattle.mich_base.specs.Counted.{IsNotOne}
 use Rattle.mich_base.specs.View.{tree, trees}
 use Rattle.mich_overload.specs.View.{kinds}
 use Rattle.mich_instr.specs.Code.{Code, Codes}
@@ -39,9 +37,6 @@ looped_over loop.Parts (list a) A = refl
 looped_over loop.Parts (set a) A = refl
 looped_over loop.Parts (map k v) A = refl
 looped_over _ _ A = refl
-
-pub loop_none : (l : Loop) (a : Kind) (A S : List Kind) → S ≡ a ∷ A → None ≡ looped l (a ∷ []) → None ≡ looped l S
-loop_none l a A S s t = sym (ap (looped l) s ∙ looped_over l a A ∙ ap (option_map (λ u. turning_on u A)) (sym t))
 
 pub loop_stands : (l : Loop) (a : Kind) (A S R : List Kind) (t u : Turning) → S ≡ a ∷ A → Some t ≡ looped l (a ∷ []) → R ≡ drop 1 S → u ≡ turning_on t R → Some u ≡ looped l S
 loop_stands l a A S R t u s e r h =
@@ -71,15 +66,6 @@ one_none : (bs : List Typer) → one_body bs (λ b. bad 0) ≡ bad 0
 one_none [] = refl
 one_none (b ∷ []) = refl
 one_none (b ∷ d ∷ bs) = refl
-
-pub not_one : (ns : List Node) (f : Typer → Typing) → IsNotOne ns → one_body (bodies (trees ns) 1) f ≡ bad 0
-not_one [] f h = refl
-not_one (x ∷ []) f h = absurd h
-not_one (x ∷ y ∷ ns) f h = refl
-
-turned_not_one : (o : Option Turning) (c : Context) (ns : List Node) → IsNotOne ns → turned o c (bodies (trees ns) 1) ≡ bad 0
-turned_not_one None c ns h = not_one ns (λ b. bad 0) h
-turned_not_one (Some t) c ns h = not_one ns (λ b. ends (b c t.begins) t.ends (goes t.leaves)) h
 
 -- ---- how a body ends
 
@@ -123,12 +109,6 @@ module _ (c : Context) (name : List ℕ) (annots : List (List ℕ)) (ts : Trees)
 module _ (at : ℕ) (l : Loop) (c : Context) (name : List ℕ) (annots : List (List ℕ)) (ns : List Node) (S : List Kind) (f : HasForm (loop_form l) name) where
   loop_is : shift at (tree_type (prim name annots (trees ns)) c S) ≡ shift at (turned (looped l S) c (bodies (trees ns) 1))
   loop_is = ap (shift at) (formed (loop_form l) name annots (trees ns) c S f ∙ loop_type l (primitive_of_name name) annots (trees ns) (meanings (trees ns)) c S)
-
-  pub loop_arguments : IsNotOne ns → shift at (tree_type (prim name annots (trees ns)) c S) ≡ bad at
-  loop_arguments h = loop_is ∙ ap (shift at) (turned_not_one (looped l S) c ns h) ∙ bad_here at
-
-  pub loop_stack : None ≡ looped l S → shift at (tree_type (prim name annots (trees ns)) c S) ≡ bad at
-  loop_stack e = loop_is ∙ ap (λ o. shift at (turned o c (bodies (trees ns) 1))) (sym e) ∙ ap (shift at) (one_none (bodies (trees ns) 1)) ∙ bad_here at
 
   module _ (x : Node) (t : Turning) (one : ns ≡ x ∷ []) (e : Some t ≡ looped l S) where
     turn_is : shift at (tree_type (prim name annots (trees ns)) c S) ≡ shift at (ends (body (tree x) 1 c t.begins) t.ends (goes t.leaves))

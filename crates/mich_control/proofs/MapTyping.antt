@@ -1,8 +1,8 @@
 -- MAP.
-use Rattle.std.proofs.Common.{◌≡◌, ℕ, ◌+◌, nat_le, Bool, true, false, List, [], ◌∷◌, Option, Some, None, refl, sym, ap, ◌∙◌, subst, arith}
-use Rattle.std.specs.Prelude.{if◌then◌else◌, option_map, Result, Ok, Err}
+use Rattle.std.proofs.Common.{◌≡◌, ℕ, ◌+◌, nat_le, Bool, true, false, List, [], ◌∷◌, Option, Some, None, refl, sym, ap, ◌∙◌, subst}
+use Rattle.std.specs.Prelude.{if◌then◌else◌, Result, Ok, Err}
 use Rattle.rules_base.specs.Limits.{type_limit}
-use Rattle.rules_base.specs.Tree.{Tree, int, str, bytes, prim, seq, Trees, none, more, size}
+use Rattle.rules_base.specs.Tree.{Tree, int, str, bytes, prim, seq, Trees, none, more}
 use Rattle.rules_base.specs.Primitives.{primitive_of_name}
 use Rattle.rules_base.specs.declared.Primitive.{Primitive}
 use Rattle.rules_types.specs.Kind.{Kind, nodes, option, pair, list, map}
@@ -12,18 +12,15 @@ use Rattle.rules_instructions.specs.Forms as f
 use Rattle.rules_typing.specs.Typing.{Typing, goes, fails, bad, Typer, shift, part_kind, made_of, mapped}
 use Rattle.rules_typing.specs.Acts.{Meanings, act_type, one_body}
 use Rattle.rules_typing.specs.Nodes.{bodies, body, tree_type, trees_type}
-use Rattle.laws_types.proofs.SameKinds.{same_kinds_true}
+use Rattle.laws_types.proofs.ForCallers.{same_kinds_true}
 use Rattle.mich_base.specs.declared.node.Node.{Node}
 use Rattle.mich_base.specs.declared.ty.Ty.{Ty}
-use Rattle.mich_base.specs.Counted.{IsNotOne}
-use Rattle.mich_base.specs.TypeView.{kind}
 use Rattle.mich_base.specs.View.{tree, trees}
 use Rattle.mich_overload.specs.View.{kinds}
 use Rattle.mich_instr.specs.Code.{Code, Codes}
 use Rattle.mich_instr.specs.Code as made
 use Rattle.mich_instr.specs.View.{code, codes}
 use Rattle.mich_instr.specs.Typed.{HasForm, IsCode, AreCode, to_list, to_option, to_map, is_map}
-use Rattle.mich_instr.specs.Typed.{IsMapped as MapsTo}
 use Rattle.mich_control.specs.declared.error.CheckError.{CheckError}
 use Rattle.mich_control.specs.declared.error.CheckError.TheVariants as error
 use Rattle.mich_control.specs.declared.made.Body.{Body}
@@ -31,9 +28,8 @@ use Rattle.mich_control.specs.declared.made.Made.{Made}
 use Rattle.mich_control.specs.Answers.{typing, Leads, IsFault, IsInstr, inside}
 use Rattle.mich_control.specs.Maps.{Target, made_to, over_parts, Mapping, mapping, mapped_over, IsMapped}
 use Rattle.mich_control.specs.Maps as m
-use Rattle.mich_control.proofs.Shifts.{bad_here, unshift, body_at, fault_is}
+use Rattle.mich_control.proofs.Shifts.{unshift, body_at, fault_is}
 use Rattle.mich_control.proofs.Forms.{meanings, formed}
-use Rattle.mich_control.proofs.Loops.{not_one}
 use Rattle.mich_control.proofs.SelfTyping.{made_is}
 
 -- ---- the stacks
@@ -66,10 +62,6 @@ one_none [] = refl
 one_none (b ∷ []) = refl
 one_none (b ∷ d ∷ bs) = refl
 
-through_not_one : (o : Option Mapping) (c : Context) (ns : List Node) → IsNotOne ns → through o c (bodies (trees ns) 1) ≡ bad 0
-through_not_one None c ns h = not_one ns (λ b. bad 0) h
-through_not_one (Some w) c ns h = not_one ns (λ b. mapped (b c w.begins) (made_to w.target) w.rest) h
-
 mapped_fault : (at : ℕ) (T : Typing) (g : Kind → Kind) (A : List Kind) (z : CheckError) → IsFault (shift at T) z → IsFault (shift at (mapped T g A)) z
 mapped_fault at (goes B) g A (error.IllTyped l) h = absurd cc
 mapped_fault at fails g A (error.IllTyped l) h = absurd cc
@@ -81,9 +73,6 @@ mapped_fault at T g A error.Memory h = tt
 mapped_is : (o : Option (List Ty)) (g : Kind → Kind) (A : List Kind) → mapped (typing o) g A ≡ made_of g (part_kind (typing o) A) A
 mapped_is (Some ts) g A = refl
 mapped_is None g A = refl
-
-pub no_part : (at : ℕ) (o : Option (List Ty)) (g : Kind → Kind) (A : List Kind) → None ≡ part_kind (typing o) A → shift at (mapped (typing o) g A) ≡ bad at
-no_part at o g A e = ap (shift at) (mapped_is o g A) ∙ ap (λ x. shift at (made_of g x A)) (sym e) ∙ bad_here at
 
 pub part_made : (at : ℕ) (o : Option (List Ty)) (g : Kind → Kind) (A : List Kind) (b d : Kind) → Some b ≡ part_kind (typing o) A → d ≡ g b →
     shift at (mapped (typing o) g A) ≡ shift at (made_of (λ x. d) (Some b) A)
@@ -145,12 +134,6 @@ typed c name annots ts is _ w b form e = absurd cc
 module _ (at : ℕ) (c : Context) (name : List ℕ) (annots : List (List ℕ)) (ns : List Node) (S : List Kind) (form : HasForm f.map name) where
   whole : shift at (tree_type (prim name annots (trees ns)) c S) ≡ shift at (through (mapped_over S) c (bodies (trees ns) 1))
   whole = ap (shift at) (formed f.map name annots (trees ns) c S form ∙ map_type (primitive_of_name name) annots (trees ns) (meanings (trees ns)) c S)
-
-  pub map_arguments : IsNotOne ns → shift at (tree_type (prim name annots (trees ns)) c S) ≡ bad at
-  map_arguments h = whole ∙ ap (shift at) (through_not_one (mapped_over S) c ns h) ∙ bad_here at
-
-  pub map_stack : None ≡ mapped_over S → shift at (tree_type (prim name annots (trees ns)) c S) ≡ bad at
-  map_stack e = whole ∙ ap (λ o. shift at (through o c (bodies (trees ns) 1))) (sym e) ∙ ap (shift at) (one_none (bodies (trees ns) 1)) ∙ bad_here at
 
   module _ (x : Node) (w : Mapping) (one : ns ≡ x ∷ []) (e : Some w ≡ mapped_over S) where
     gone : shift at (tree_type (prim name annots (trees ns)) c S) ≡ shift at (mapped (body (tree x) 1 c w.begins) (made_to w.target) w.rest)

@@ -2,7 +2,7 @@
 use Rattle.std.proofs.Common.{◌≡◌, ℕ, Bool, true, false, List, [], ◌∷◌, Option, Some, None, refl, sym, ap, ◌∙◌, subst}
 use Rattle.std.specs.Prelude.{if◌then◌else◌, ◌&&◌, option_map}
 use Rattle.std.proofs.lemmas.Bool.{and_parts}
-use Rattle.rules_base.specs.Tree.{Tree, prim, Trees, none, more}
+use Rattle.rules_base.specs.Tree.{prim, Trees, none}
 use Rattle.rules_base.specs.Primitives.{primitive_of_name}
 use Rattle.rules_base.specs.declared.Primitive.{Primitive}
 use Rattle.rules_types.specs.Kind.{Kind, pair, lambda}
@@ -10,14 +10,14 @@ use Rattle.rules_types.specs.Attributes.{pushable}
 use Rattle.rules_instructions.specs.Types.{never}
 use Rattle.rules_instructions.specs.Same.{same_kind}
 use Rattle.rules_instructions.specs.Context.{Context}
-use Rattle.rules_typing.specs.Typing.{Typing, goes, fails, bad, Typer, shift}
+use Rattle.rules_typing.specs.Typing.{Typing, goes, fails, bad, shift}
 use Rattle.rules_typing.specs.Acts.{Meanings, act_type, no_body}
 use Rattle.rules_typing.specs.Nodes.{bodies, tree_type}
-use Rattle.laws_types.proofs.SameKinds.{same_kind_true}
+use Rattle.laws_types.proofs.ForCallers.{same_kind_true}
 use Rattle.mich_base.specs.declared.node.Node.{Node}
 use Rattle.mich_base.specs.declared.ty.Ty.{Ty}
 use Rattle.mich_base.specs.Counted.{IsNotEmpty}
-use Rattle.mich_base.specs.View.{tree, trees}
+use Rattle.mich_base.specs.View.{trees}
 use Rattle.mich_overload.specs.View.{kinds}
 use Rattle.mich_instr.specs.Code.{Code}
 use Rattle.mich_instr.specs.Code as made
@@ -29,7 +29,6 @@ use Rattle.mich_control.specs.declared.made.Made.{Made}
 use Rattle.mich_control.specs.Begun.{Plain, plainly, where_so, on_stack}
 use Rattle.mich_control.specs.View.{bodiless_form, plain_of}
 use Rattle.mich_control.specs.Answers.{typing, Leads}
-use Rattle.mich_control.proofs.Shifts.{bad_here}
 use Rattle.mich_control.proofs.Forms.{meanings, formed}
 
 -- the stack after it, or that it fails
@@ -58,10 +57,6 @@ bodiless_type bodiless.Apply name annots ts m c (a ∷ lambda (pair b d) r ∷ A
 bodiless_type bodiless.Failwith name annots ts m c (a ∷ A) = ap (no_body m.bodies) (where_type (pushable a) (made.failwith a) None)
 bodiless_type bodiless.Never name annots ts m c (never ∷ A) = refl
 bodiless_type _ name annots ts m c _ = refl
-
-no_body_bad : (bs : List Typer) → no_body bs (bad 0) ≡ bad 0
-no_body_bad [] = refl
-no_body_bad (b ∷ bs) = refl
 
 not_empty : (ns : List Node) (t : Typing) → IsNotEmpty ns → no_body (bodies (trees ns) 1) t ≡ bad 0
 not_empty [] t h = absurd h
@@ -114,13 +109,6 @@ left_leads P None h = h
 module _ (at : ℕ) (b : Bodiless) (c : Context) (name : List ℕ) (annots : List (List ℕ)) (ns : List Node) (S : List Kind) (f : HasForm (bodiless_form b) name) where
   bodiless_is : shift at (tree_type (prim name annots (trees ns)) c S) ≡ shift at (no_body (bodies (trees ns) 1) (plain_type (on_stack b S)))
   bodiless_is = ap (shift at) (formed (bodiless_form b) name annots (trees ns) c S f ∙ bodiless_type b (primitive_of_name name) annots (trees ns) (meanings (trees ns)) c S)
-
-  pub bodiless_arguments : IsNotEmpty ns → shift at (tree_type (prim name annots (trees ns)) c S) ≡ bad at
-  bodiless_arguments h = bodiless_is ∙ ap (shift at) (not_empty ns (plain_type (on_stack b S)) h) ∙ bad_here at
-
-  pub bodiless_stack : None ≡ on_stack b S → shift at (tree_type (prim name annots (trees ns)) c S) ≡ bad at
-  bodiless_stack e =
-      bodiless_is ∙ ap (λ o. shift at (no_body (bodies (trees ns) 1) (plain_type o))) (sym e) ∙ ap (shift at) (no_body_bad (bodies (trees ns) 1)) ∙ bad_here at
 
   shift_left : (o : Option (List Kind)) → shift at (left o) ≡ left o
   shift_left (Some B) = refl

@@ -1,5 +1,5 @@
 -- What is read of arguments at a location.
-use Rattle.std.proofs.Common.{◌≡◌, ℕ, ◌+◌, refl, sym, ap, ◌∙◌, subst}
+use Rattle.std.proofs.Common.{◌≡◌, ℕ, ◌+◌, ap}
 use Rattle.std.specs.Prelude.{Err}
 use Rattle.rules_instructions.specs.Arguments.{Found, found, fault, and_then}
 use Rattle.rules_typing.specs.Typing.{Typing, bad, shift, on_found}

@@ -1,18 +1,18 @@
 -- SELF.
-use Rattle.std.proofs.Common.{◌≡◌, ℕ, ◌+◌, Bool, true, false, List, [], ◌∷◌, Option, Some, None, refl, sym, ap, ◌∙◌, subst, arith}
+use Rattle.std.proofs.Common.{◌≡◌, ℕ, ◌+◌, Bool, true, false, List, [], ◌∷◌, Some, refl, sym, ap, ◌∙◌, subst, arith}
 use Rattle.std.specs.Prelude.{if◌then◌else◌, nat_le, Err}
 use Rattle.rules_base.specs.Limits.{type_limit}
-use Rattle.rules_base.specs.Tree.{Tree, prim, Trees, none, more}
+use Rattle.rules_base.specs.Tree.{prim, Trees, none, more}
 use Rattle.rules_base.specs.Primitives.{primitive_of_name}
 use Rattle.rules_forms.specs.Spelling.{default_name}
 use Rattle.rules_types.specs.Kind.{Kind, nodes, contract}
-use Rattle.rules_types.specs.Entrypoints.{Entry, find_entry}
+use Rattle.rules_types.specs.Entrypoints.{Entry}
 use Rattle.rules_instructions.specs.Arguments.{Found, found, fault, and_then, no_argument, annotated}
 use Rattle.rules_instructions.specs.Control.{self_of}
 use Rattle.rules_instructions.specs.Context.{Context}
 use Rattle.rules_instructions.specs.Context as standing
 use Rattle.rules_instructions.specs.Forms as f
-use Rattle.rules_typing.specs.Typing.{Typing, goes, bad, shift, made, on_found}
+use Rattle.rules_typing.specs.Typing.{goes, bad, shift, made, on_found}
 use Rattle.rules_typing.specs.Acts.{of_entry, self_type}
 use Rattle.rules_typing.specs.Nodes.{tree_type}
 use Rattle.mich_base.specs.declared.node.Node.{Node}
@@ -28,7 +28,7 @@ use Rattle.mich_instr.specs.Typed.{HasForm, IsCode, is_self}
 use Rattle.mich_control.specs.declared.error.CheckError.{CheckError}
 use Rattle.mich_control.specs.Begun.{entry_in}
 use Rattle.mich_control.specs.Answers.{IsFault, IsFound}
-use Rattle.mich_control.proofs.Shifts.{bad_here, fault_is}
+use Rattle.mich_control.proofs.Shifts.{fault_is}
 use Rattle.mich_control.proofs.Forms.{formed}
 use Rattle.mich_control.proofs.Read.{found_typing, read_as}
 
@@ -96,15 +96,9 @@ module _ (at : ℕ) (c : Context) (name : List ℕ) (annots : List (List ℕ)) (
     entered =
         whole ∙ ap (λ o. shift at (on_found o (λ x. self_type x c S))) (read_as at (self_of annots (trees ns)) x named) ∙ ap (shift at) (self_in x c S)
 
-    pub self_absent : None ≡ entry_in x c → shift at (tree_type (prim name annots (trees ns)) c S) ≡ bad at
-    self_absent e = entered ∙ ap (λ o. shift at (of_entry o S)) (sym e) ∙ bad_here at
-
     module _ (e : Entry) (a : Kind) (there : Some e ≡ entry_in x c) (of : a ≡ contract e.kind) where
       typed : shift at (tree_type (prim name annots (trees ns)) c S) ≡ shift at (made a S)
       typed = entered ∙ ap (λ o. shift at (of_entry o S)) (sym there) ∙ ap (λ b. shift at (made b S)) (sym of)
-
-      pub self_large : (z : CheckError) → IsFault (shift at (made a S)) z → IsFault (shift at (tree_type (prim name annots (trees ns)) c S)) z
-      self_large z h = fault_is _ _ z typed h
 
       pub self_made : (vs : List Ty) (kept_as : List (List ℕ)) (i : Code) → shift at (made a S) ≡ goes (kinds vs) → kept_as ≡ kept (primitive_of_name name) annots →
           i ≡ made_code.self x kept_as →

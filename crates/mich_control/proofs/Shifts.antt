@@ -1,6 +1,6 @@
 -- Typings at a location.
 use Rattle.std.proofs.Common.{◌≡◌, ℕ, ◌+◌, List, Option, Some, None, refl, sym, ap, ◌∙◌, arith}
-use Rattle.rules_base.specs.Tree.{Tree, int, str, bytes, prim, seq, Trees, none, more, size}
+use Rattle.rules_base.specs.Tree.{Tree, int, str, bytes, prim, seq, Trees}
 use Rattle.rules_types.specs.Kind.{Kind}
 use Rattle.rules_instructions.specs.Context.{Context}
 use Rattle.rules_typing.specs.Typing.{Typing, goes, fails, bad, shift}

@@ -7,12 +7,12 @@ use Rattle.std.proofs.Math.Seq.{take-append_seam}
 use Rattle.rules_types.specs.Kind.{Kind, nodes}
 use Rattle.rules_instructions.specs.Same.{same_kind, same_kinds}
 use Rattle.rules_typing.specs.Typing.{goes, bad, shift, made}
-use Rattle.laws_types.proofs.SameKinds.{same_kind_refl, same_kind_true, same_kinds_refl, same_kinds_true}
+use Rattle.laws_types.proofs.ForCallers.{same_kind_refl, same_kind_true, same_kinds_refl, same_kinds_true}
 use Rattle.mich_base.specs.declared.ty.Ty.{Ty}
 use Rattle.mich_base.specs.TypeView.{kind}
 use Rattle.mich_overload.specs.View.{kinds}
-use Rattle.mich_overload.proofs.Tops.{kinds_below, length_kinds}
-use Rattle.mich_base.proofs.Faithful.{kind_faithful}
+use Rattle.mich_overload.proofs.ForCallers.{kinds_below, length_kinds}
+use Rattle.mich_base.proofs.ForCallers.{kind_faithful}
 
 reverse_push : (ts : List Ty) (t : Ty) → reverse (ts ++ t ∷ []) ≡ t ∷ reverse ts
 reverse_push ts t = reverse-append ts (t ∷ [])

@@ -1,7 +1,7 @@
 -- What is kept of applications.
-use Rattle.std.proofs.Common.{◌≡◌, ℕ, ◌≤◌, Bool, true, false, List, [], ◌∷◌, length, map, take, refl, sym, ap, ◌∙◌, subst}
+use Rattle.std.proofs.Common.{◌≡◌, ℕ, ◌≤◌, true, false, List, [], ◌∷◌, length, map, take, refl, sym, ap, ◌∙◌, subst}
 use Rattle.std.proofs.lemmas.List.{take_all}
-use Rattle.rules_base.specs.Tree.{Tree, prim, Trees, none, more, trees_of}
+use Rattle.rules_base.specs.Tree.{Tree, prim, Trees, more, trees_of}
 use Rattle.rules_base.specs.Primitives.{primitive_of_name}
 use Rattle.std.specs.Prelude.{if◌then◌else◌, Option, Some}
 use Rattle.rules_base.specs.declared.Primitive.{Primitive}
@@ -28,7 +28,7 @@ use Rattle.mich_instr.specs.Code as made
 use Rattle.mich_instr.specs.Typed.{HasForm, IsCode, is_straight, is_transfer}
 use Rattle.mich_control.specs.View.{is_view}
 use Rattle.mich_control.proofs.Shifts.{bad_here, unshift}
-use Rattle.mich_control.proofs.Forms.{meanings, formed}
+use Rattle.mich_control.proofs.Forms.{formed}
 
 pub bares_whole : (ns : List Node) → bares (trees ns) ≡ trees_of (map (λ n. bare (tree n)) ns)
 bares_whole [] = refl

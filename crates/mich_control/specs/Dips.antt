@@ -5,7 +5,7 @@ use Rattle.rules_base.specs.Tree.{Trees, none, more, size}
 use Rattle.rules_types.specs.Kind.{Kind}
 use Rattle.rules_instructions.specs.Arguments.{found, count_argument}
 use Rattle.rules_instructions.specs.Control.{dip_of}
-use Rattle.rules_typing.specs.Typing.{goes, shift, under}
+use Rattle.rules_typing.specs.Typing.{shift, under}
 use Rattle.mich_base.specs.declared.node.Node.{Node}
 use Rattle.mich_base.specs.declared.ty.Ty.{Ty}
 use Rattle.mich_base.specs.View.{tree, trees}

@@ -1,5 +1,5 @@
 -- What the types of the code stand for.
-use Rattle.std.specs.Prelude.{Bool, true, false, List, ◌++◌, drop, map, option_map}
+use Rattle.std.specs.Prelude.{Bool, true, false, ◌++◌, drop, map, option_map}
 use Rattle.rules_instructions.specs.Context.{Context}
 use Rattle.rules_instructions.specs.Context as standing
 use Rattle.rules_instructions.specs.Forms.{Form}

@@ -18,7 +18,7 @@ use Rattle.rules_course.specs.Ranges.{IsStatement}
 use Rattle.rules_statements.specs.Statements.{Group}
 use Rattle.laws_evaluation.specs.Laws.{IsCharged}
 use Rattle.laws_runs.specs.Worlds.{IsWhole}
-use Rattle.laws_world.proofs.Chains.{grants_keep_good, groups_keep_whole, new_worlds_are_good}
+use Rattle.laws_world.proofs.ForCallers.{grants_keep_good, groups_keep_whole, new_worlds_are_good}
 use Rattle.mich_bigmap.specs.Ticketless.{HoldNoTickets}
 use Rattle.mich_gas.specs.View.{listed, reading}
 use Rattle.mich_gas.specs.declared.costs.Costs.{Costs}
@@ -28,7 +28,7 @@ use Rattle.mich_instr.specs.Scripts.{IsTypedScript}
 use Rattle.mich_machine.specs.Calls.{IsHosting}
 use Rattle.mich_ops.specs.declared.receipt.GroupReceipt.{GroupReceipt}
 use Rattle.mich_standing.specs.Laws.{Grants}
-use Rattle.mich_standing.proofs.Agreement.{new_worlds_agree, clocks_agree, grants_agree, keeping_agrees}
+use Rattle.mich_standing.proofs.ForCallers.{new_worlds_agree, clocks_agree, grants_agree, keeping_agrees}
 use Rattle.mich_undo.specs.History.{History, kept as without_past}
 use Rattle.mich_world.specs.Answers.{IsGrant}
 use Rattle.mich_world.specs.Holders.{Holders}
@@ -42,7 +42,7 @@ use Rattle.mich_course.specs.declared.course.Course.{Course}
 use Rattle.mich_course.specs.declared.error.CourseError.{CourseError}
 use Rattle.mich_course.specs.declared.error.CourseError.TheVariants as error
 use Rattle.mich_course.specs.Following.{Follows, Goes}
-use Rattle.laws_course.proofs.Charged.{nothing_charged, table_charged}
+use Rattle.laws_course.proofs.ForCallers.{nothing_charged, table_charged}
 
 -- ---- the beginning
 
@@ -251,11 +251,6 @@ hosting_ended u v h funds stored ticketless = record {
 
 -- ---- what the code tells
 
--- a table that comes too late
-pub too_late : {p : PlainCourse} (old new : Course) (table : Tree) → Follows old p → old.only_chain ≡ false →
-    Goes (costs_step p.only_chain p table) new (Err error.BadOrder)
-too_late {p} old new table f late = rw (sym f.only_chain ∙ late) tt
-
 -- a table that comes in time
 pub in_time : {p : PlainCourse} (old new : Course) (table : Tree) (r : Result (Option GroupReceipt) CourseError) → Follows old p → old.only_chain ≡ true →
     Goes (with_prices p (table_of table)) new r → Goes (costs_step p.only_chain p table) new r
@@ -265,8 +260,3 @@ in_time {p} old new table r f early h = rw (sym f.only_chain ∙ early) h
 pub later_told : {p : PlainCourse} (c : Course) (level : ℕ) (moment : ℤ) → Follows c p →
     is_later p.world level moment ≡ (nat_lt c.world.level level && int_le c.world.moment moment)
 later_told c level moment f = λ i. nat_lt (f.stands.level i) level && int_le (f.stands.moment i) moment
-
--- a block that isn't
-pub not_later : (p : PlainCourse) (c : Course) (level : ℕ) (moment : ℤ) → is_later p.world level moment ≡ false →
-    Goes (block_step p level moment) c (Err error.BadOrder)
-not_later p c level moment early = rw early tt

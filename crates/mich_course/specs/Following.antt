@@ -2,7 +2,7 @@
 use Rattle.std.specs.Prelude.{◌≡◌, ◌<◌, ◌^◌, ℕ, List, [], ◌∷◌, map, Option, Some, None, Result, Ok, Err}
 use Rattle.laws_evaluation.specs.Laws.{IsCharged}
 use Rattle.laws_runs.specs.Worlds.{IsWhole}
-use Rattle.rules_course.specs.Course.{Course as PlainCourse, Step, goes_on, stops, stuck_step, BadOrder, BadCosts, RepeatedAccount, SupplyLimit}
+use Rattle.rules_course.specs.Course.{Course as PlainCourse, Step, goes_on, stops, BadOrder, BadCosts, RepeatedAccount, SupplyLimit}
 use Rattle.rules_world.specs.Good.{IsNewGroup}
 use Rattle.mich_gas.specs.View.{listed}
 use Rattle.mich_machine.specs.Calls.{IsHosting}

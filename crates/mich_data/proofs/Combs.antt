@@ -2,12 +2,11 @@
 use Rattle.std.proofs.Common.{◌≡◌, ℕ, ◌+◌, ◌<◌, List, [], ◌∷◌, length, refl, sym, ap, ◌∙◌, subst, arith}
 use Rattle.rules_base.specs.Tree.{Trees, size}
 use Rattle.rules_values.specs.Val.{Val, both}
-use Rattle.rules_values.specs.Literals.{Pending, Literal, good, bad, with_pending, and_then, mapped, Reader, read_parts}
+use Rattle.rules_values.specs.Literals.{Pending, Literal, good, with_pending, and_then, mapped, Reader, read_parts}
 use Rattle.mich_base.specs.View.{tree, trees}
 use Rattle.mich_base.specs.declared.node.Node.{Node}
 use Rattle.mich_data.specs.declared.error.ValueError.{ValueError}
 use Rattle.mich_data.specs.Answers.{IsFault}
-use Rattle.mich_data.specs.Wrapped.{IsBelowTwo}
 use Rattle.mich_data.proofs.Steps.{mapped_good, fault_mapped, then_good, fault_then}
 
 -- how the parts behind the first are read, at a location
@@ -46,10 +45,6 @@ module _ (first : Literal Val) (behind : Behind) (here : ℕ) (ps : List Pending
   both_good x y next qs rs f g h = behind_is x next qs f g ∙ mapped_good (both x) (behind next) y qs rs h
 
 module _ (r q : Reader) (rest : ℕ → Trees → Literal Val) (whole at : ℕ) (ns : List Node) (a : Node) (ps : List Pending) where
-  pub two_first_fault : (b : Node) (e : ValueError) → ns ≡ a ∷ b ∷ [] → IsFault (with_pending ps (r at (tree a))) e → IsFault (with_pending ps (read_parts r q rest whole at (trees ns))) e
-  two_first_fault b e s h =
-      subst (λ l. IsFault (with_pending ps l) e) (sym (two_are r q rest whole at a ns b s)) (first_fault (r at (tree a)) (λ j. q j (tree b)) (at + size (tree a)) ps e h)
-
   pub two_last_fault : (b : Node) (x : Val) (next : ℕ) (qs : List Pending) (e : ValueError) → ns ≡ a ∷ b ∷ [] → with_pending ps (r at (tree a)) ≡ good x qs → next ≡ at + size (tree a) →
       IsFault (with_pending qs (q next (tree b))) e → IsFault (with_pending ps (read_parts r q rest whole at (trees ns))) e
   two_last_fault b x next qs e s f g h =
@@ -74,9 +69,3 @@ module _ (r q : Reader) (rest : ℕ → Trees → Literal Val) (whole at : ℕ) 
       with_pending qs (rest next (trees us)) ≡ good y rs → with_pending ps (read_parts r q rest whole at (trees ns)) ≡ good (both x y) rs
   more_good us x y next qs rs s w f g h =
       ap (with_pending ps) (more_are r q rest whole at a ns us s w) ∙ both_good (r at (tree a)) (λ j. rest j (trees us)) (at + size (tree a)) ps x y next qs rs f g h
-
-pub fewer_are : (r q : Reader) (rest : ℕ → Trees → Literal Val) (whole at : ℕ) (ns : List Node) → IsBelowTwo ns → (ps : List Pending) →
-    with_pending ps (read_parts r q rest whole at (trees ns)) ≡ bad whole
-fewer_are r q rest whole at [] h ps = refl
-fewer_are r q rest whole at (n ∷ []) h ps = refl
-fewer_are r q rest whole at (n ∷ m ∷ ns) h ps = absurd h

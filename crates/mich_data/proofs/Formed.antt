@@ -16,8 +16,8 @@ use Rattle.mich_term.specs.declared.datum.Datum.{Datum}
 use Rattle.mich_term.specs.declared.value.Value.{Value, roll-Value, out-Value, roll-out-Value, fold-roll-Value}
 use Rattle.mich_term.specs.declared.value.Value.TheOpen.{Value-F, BigMap-F}
 use Rattle.mich_term.specs.declared.value.BigMap.{BigMap, out-BigMap}
-use Rattle.mich_term.proofs.Each as e
-use Rattle.mich_term.proofs.Overlays.{big_is}
+use Rattle.mich_term.proofs.ForCallers.Each as e
+use Rattle.mich_term.proofs.ForCallers.{big_is}
 use Rattle.mich_data.specs.Whole.{Layer, IsSimple, IsOption, IsEither, IsPair, IsListOf, IsSet, IsMapTo, IsLambda, IsBig, IsPut, LiesWhole, IsWhole}
 
 -- what is so of parts is so of what they make

@@ -12,7 +12,7 @@ use Rattle.rules_values.specs.Val.{Val, is_comparable}
 use Rattle.rules_values.specs.Literals.{is_behind}
 use Rattle.mich_term.specs.View.{datum, datum_step}
 use Rattle.mich_term.specs.Keyed.{by, IsIncreasing}
-use Rattle.laws_values.proofs.Lawful.{order_lawful}
+use Rattle.laws_values.proofs.ForCallers.{order_lawful}
 use Rattle.mich_term.specs.declared.datum.Datum.{Datum, ind-Datum, fold-roll-Datum, roll-Datum, map-Datum}
 use Rattle.mich_term.specs.declared.datum.Datum.TheOpen.{Datum-F}
 

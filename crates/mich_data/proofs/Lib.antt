@@ -11,3 +11,4 @@ pub mod Written
 pub mod Whole
 pub mod Formed
 pub mod Frequent
+pub mod ForCallers

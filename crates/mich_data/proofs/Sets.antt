@@ -8,7 +8,7 @@ use Rattle.rules_values.specs.Val.{Val, Vals, more_vals, set}
 use Rattle.rules_values.specs.Literals.{Pending, Literal, good, bad, with_pending, mapped, Reader, is_behind, read_increasing}
 use Rattle.mich_term.specs.View.{datum, datums}
 use Rattle.mich_term.specs.Keyed.{put, IsIncreasing}
-use Rattle.mich_term.proofs.Ends.{put_last, by_lawful}
+use Rattle.mich_term.proofs.ForCallers.{put_last, by_lawful}
 use Rattle.mich_term.specs.declared.datum.Datum.{Datum}
 use Rattle.mich_base.specs.View.{tree, trees}
 use Rattle.mich_base.specs.declared.node.Node.{Node}

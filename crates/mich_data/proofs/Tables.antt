@@ -12,12 +12,11 @@ use Rattle.mich_term.specs.View.{datum}
 use Rattle.rules_types.specs.Kind.{Kind}
 use Rattle.rules_types.specs.Attributes.{duplicable}
 use Rattle.mich_term.specs.ValueView.{val, pairs, put_pairs, big_pairs}
-use Rattle.mich_term.proofs.Overlays.{big_is}
+use Rattle.mich_term.proofs.ForCallers.{big_is, with_last, by_lawful}
 use Rattle.mich_term.specs.declared.value.BigMap.{BigMap, out-BigMap, roll-BigMap, out-roll-BigMap}
 use Rattle.mich_term.specs.declared.value.Value.TheOpen.{BigMap-F}
 use Rattle.mich_data.specs.Whole.{put_of, AreWholeEntries, IsPut, LiesWhole, IsWhole}
 use Rattle.mich_term.specs.Keyed.{with, IsIncreasing}
-use Rattle.mich_term.proofs.Ends.{with_last, by_lawful}
 use Rattle.mich_term.specs.declared.datum.Datum.{Datum}
 use Rattle.mich_term.specs.declared.value.Value.{Value}
 use Rattle.mich_base.specs.View.{tree, trees}

@@ -1,5 +1,5 @@
 -- Values with the parts that their types name.
-use Rattle.std.proofs.Common.{◌≡◌, ℕ, ℤ, Bool, List, [], ◌∷◌, ◌++◌, Some, None, sym, ap, ◌∙◌, subst}
+use Rattle.std.proofs.Common.{◌≡◌, ℕ, ℤ, Bool, List, [], ◌∷◌, ◌++◌, sym, ap, ◌∙◌, subst}
 use Rattle.std.specs.Prelude.{Result, IfOk}
 use Rattle.std.specs.List.{AllByRecursion}
 use Rattle.std.specs.declared.cmp.Ordering.{Ordering}
@@ -8,16 +8,15 @@ use Rattle.std.specs.Ordering.{match_ordering}
 use Rattle.rules_types.specs.Kind.{Kind}
 use Rattle.rules_types.specs.Kind as k
 use Rattle.rules_types.specs.Attributes.{duplicable}
-use Rattle.mich_base.specs.declared.node.Node.{Node}
 use Rattle.mich_term.specs.Keyed.{by, with}
 use Rattle.mich_term.specs.declared.datum.Datum.{Datum}
 use Rattle.mich_term.specs.declared.value.Value.{Value, out-Value, out-roll-Value}
 use Rattle.mich_term.specs.declared.value.Value.TheOpen.{Value-F}
 use Rattle.mich_term.specs.declared.value.Value.TheVariants as v
-use Rattle.mich_term.specs.declared.value.Value.TheVariants.{rolls-Some, rolls-Left, rolls-Right, rolls-Pair, rolls-List, rolls-Map, rolls-BigMap, rolls-Unit, rolls-Bool, rolls-Number, rolls-Text, rolls-Bytes, rolls-None, rolls-Set, rolls-Lambda}
+use Rattle.mich_term.specs.declared.value.Value.TheVariants.{rolls-List, rolls-BigMap, rolls-Unit, rolls-Bool, rolls-Number, rolls-Text, rolls-Bytes}
 use Rattle.mich_term.specs.declared.value.BigMap.{BigMap}
 use Rattle.mich_data.specs.declared.error.ValueError.{ValueError}
-use Rattle.mich_data.specs.Whole.{IsSimple, IsOption, IsEither, IsPair, IsListOf, IsSet, IsMapTo, IsLambda, IsBig, LiesWhole, IsWhole, AreWholeEntries}
+use Rattle.mich_data.specs.Whole.{IsSimple, IsListOf, IsBig, LiesWhole, IsWhole, AreWholeEntries}
 
 -- ---- values by their forms
 
@@ -36,35 +35,11 @@ text_simple s = subst IsSimple (sym (ap out-Value (sym (rolls-Text s)) ∙ out-r
 pub bytes_simple : (s : List ℕ) → IsSimple (out-Value (v.Bytes s))
 bytes_simple s = subst IsSimple (sym (ap out-Value (sym (rolls-Bytes s)) ∙ out-roll-Value (Value-F.Bytes s))) tt
 
-pub none_whole : (a : Kind) → IsWhole (k.option a) v.None
-none_whole a = subst (λ l. IsOption l (IsWhole a)) (sym (ap out-Value (sym rolls-None) ∙ out-roll-Value Value-F.None)) tt
-
-pub some_whole : (a : Kind) (x : Value) → IsWhole a x → IsWhole (k.option a) (v.Some x)
-some_whole a x h = subst (λ l. IsOption l (IsWhole a)) (sym (ap out-Value (sym (rolls-Some x)) ∙ out-roll-Value (Value-F.Some x))) h
-
-pub left_whole : (a b : Kind) (x : Value) → IsWhole a x → IsWhole (k.or a b) (v.Left x)
-left_whole a b x h = subst (λ l. IsEither l (IsWhole a) (IsWhole b)) (sym (ap out-Value (sym (rolls-Left x)) ∙ out-roll-Value (Value-F.Left x))) h
-
-pub right_whole : (a b : Kind) (x : Value) → IsWhole b x → IsWhole (k.or a b) (v.Right x)
-right_whole a b x h = subst (λ l. IsEither l (IsWhole a) (IsWhole b)) (sym (ap out-Value (sym (rolls-Right x)) ∙ out-roll-Value (Value-F.Right x))) h
-
-pub pair_whole : (a b : Kind) (x y : Value) → IsWhole a x → IsWhole b y → IsWhole (k.pair a b) (v.Pair x y)
-pair_whole a b x y h i = subst (λ l. IsPair l (IsWhole a) (IsWhole b)) (sym (ap out-Value (sym (rolls-Pair x y)) ∙ out-roll-Value (Value-F.Pair x y))) (h, i)
-
 pub list_whole : (a : Kind) (xs : List Value) → AllByRecursion (IsWhole a) xs → IsWhole (k.list a) (v.List xs)
 list_whole a xs h = subst (λ l. IsListOf l (IsWhole a)) (sym (ap out-Value (sym (rolls-List xs)) ∙ out-roll-Value (Value-F.List xs))) h
 
-pub set_whole : (a : Kind) (ds : List Datum) → IsWhole (k.set a) (v.Set ds)
-set_whole a ds = subst IsSet (sym (ap out-Value (sym (rolls-Set ds)) ∙ out-roll-Value (Value-F.Set ds))) tt
-
-pub map_whole : (a b : Kind) (es : List (Datum × Value)) → AreWholeEntries b es → IsWhole (k.map a b) (v.Map es)
-map_whole a b es h = subst (λ l. IsMapTo l (IsWhole b)) (sym (ap out-Value (sym (rolls-Map es)) ∙ out-roll-Value (Value-F.Map es))) h
-
 pub big_map_whole : (a b : Kind) (m : BigMap) → LiesWhole (duplicable b) (IsWhole b) m → IsWhole (k.big_map a b) (v.BigMap m)
 big_map_whole a b m h = subst (λ l. IsBig l (LiesWhole (duplicable b) (IsWhole b))) (sym (ap out-Value (sym (rolls-BigMap m)) ∙ out-roll-Value (Value-F.BigMap m))) h
-
-pub lambda_whole : (a b : Kind) (n : Node) (r : Bool) → IsWhole (k.lambda a b) (v.Lambda n r)
-lambda_whole a b n r = subst IsLambda (sym (ap out-Value (sym (rolls-Lambda n r)) ∙ out-roll-Value (Value-F.Lambda n r))) tt
 
 -- ---- elements and entries
 

@@ -69,7 +69,8 @@ impl Reading {
     #[cycle(read)]
     fn read_increasing(&mut self, part: &Ty, nodes: &Nodes) -> Result<Value, ValueError>
         requires { self.old.next + sizes (trees nodes.now) < 2 ^ 32 }
-        ensures found { AreFound (made set (read_increasing (read (kind part.now)) None)) (trees nodes.now) self.old self.new result }
+        ensures found { AreFound (made set (read_increasing (read (kind part.now)) None)) (trees nodes.now)
+            self.old self.new result }
         ensures whole { IfOk result (λ v. IsWhole (k.set (kind part.now)) v) }
     {
         let mut elements = Elements::new(self.alloc);
@@ -123,7 +124,8 @@ impl Reading {
     #[cycle(read)]
     fn read_small(&mut self, key: &Ty, value: &Ty, nodes: &Nodes) -> Result<Value, ValueError>
         requires { self.old.next + sizes (trees nodes.now) < 2 ^ 32 }
-        ensures found { AreFound (made table (all_entries (kind key.now) (kind value.now))) (trees nodes.now) self.old self.new result }
+        ensures found { AreFound (made table (all_entries (kind key.now) (kind value.now))) (trees nodes.now)
+            self.old self.new result }
         ensures whole { IfOk result (λ v. IsWhole (k.map (kind key.now) (kind value.now)) v) }
     {
         let entries = self.read_entries(key, value, nodes)?;
@@ -135,7 +137,8 @@ impl Reading {
     #[cycle(read)]
     fn read_big(&mut self, key: &Ty, value: &Ty, nodes: &Nodes) -> Result<Value, ValueError>
         requires { self.old.next + sizes (trees nodes.now) < 2 ^ 32 }
-        ensures found { AreFound (made big_table (all_entries (kind key.now) (kind value.now))) (trees nodes.now) self.old self.new result }
+        ensures found { AreFound (made big_table (all_entries (kind key.now) (kind value.now))) (trees nodes.now)
+            self.old self.new result }
         ensures whole { IfOk result (λ v. IsWhole (k.big_map (kind key.now) (kind value.now)) v) }
     {
         let entries = self.read_entries(key, value, nodes)?;

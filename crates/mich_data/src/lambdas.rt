@@ -98,7 +98,8 @@ impl Reading {
 
 #[tactic(auto, using(crate::proofs::Spellings::addressed))]
 fn address_of(bytes: &[u8]) -> Option<Address>
-    ensures { MatchOption result (is_address bytes.now ≡ false) (λ a. (is_address bytes.now ≡ true) × (address_bytes a ≡ bytes.now)) }
+    ensures { MatchOption result (is_address bytes.now ≡ false)
+        (λ a. (is_address bytes.now ≡ true) × (address_bytes a ≡ bytes.now)) }
 {
     Address::read(bytes)
 }

@@ -53,7 +53,8 @@ impl Reading {
         node: &Node,
     ) -> Result<Value, ValueError>
         requires { self.old.next + size (tree node.now) < 2 ^ 32 }
-        ensures found { IsFound (read_or (read (kind left.now)) (read (kind right.now))) (tree node.now) self.old self.new result }
+        ensures found { IsFound (read_or (read (kind left.now)) (read (kind right.now))) (tree node.now)
+            self.old self.new result }
         ensures whole { IfOk result (λ v. IsWhole (k.or (kind left.now) (kind right.now)) v) }
     {
         let at = self.next;

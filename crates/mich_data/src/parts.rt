@@ -72,7 +72,8 @@ pub(crate) fn pair_value(alloc: Global, first: Value, second: Value) -> Result<V
 // A big map whose entries lie in the value itself, and which may have a base later where it shares.
 pub(crate) fn big_value(alloc: Global, shares: bool, table: Table<Value>) -> Result<Value, Memory>
     ensures value { IfOk result (λ v. val v ≡ big_table (pairs table)) }
-    ensures whole { IfOk result (λ v. (a b : Kind) → shares ≡ duplicable b → AreWholeEntries b table → IsWhole (k.big_map a b) v) }
+    ensures whole { IfOk result (λ v. (a b : Kind) → shares ≡ duplicable b → AreWholeEntries b table
+        → IsWhole (k.big_map a b) v) }
 {
     let overlay = overlay_of(alloc, table)?;
     let big = BigMap {

@@ -94,7 +94,8 @@ fn datum_node(alloc: Global, value: &Datum) -> Result<Node, Memory>
 }
 
 fn ticket_node(alloc: Global, ticket: &Ticket) -> Result<Node, Memory>
-    ensures { IfOk result (λ n. tree n ≡ canonical (values.ticket (place_bytes ticket.now.id.issuer) (kind ticket.now.id.ty) (datum ticket.now.id.content) ticket.now.amount)) }
+    ensures { IfOk result (λ n. tree n ≡ canonical (values.ticket (place_bytes ticket.now.id.issuer)
+        (kind ticket.now.id.ty) (datum ticket.now.id.content) ticket.now.amount)) }
 {
     let issuer = ticket.id.issuer.bytes();
     let mut parts = Rows::new(alloc);
@@ -150,7 +151,7 @@ fn table_node(alloc: Global, table: &Table<Value>) -> Result<Node, Memory>
     Ok(sequence(nodes))
 }
 
-#[tactic(auto, using(mich_term::proofs::Overlays::big_is, crate::proofs::Written::entries_written))]
+#[tactic(auto, using(mich_term::proofs::ForCallers::big_is, crate::proofs::Written::entries_written))]
 #[cycle(write)]
 fn big_node(alloc: Global, big: &BigMap) -> Result<Node, Memory>
     ensures { IfOk result (λ n. tree n ≡ seq (canonical_entries (big_pairs big.now))) }

@@ -1,35 +1,32 @@
 -- A big map that is seen with its entries has its form in the store, and is seen as it stands there; after a write too.
-use Rattle.std.proofs.Common.{◌≡◌, ℕ, Bool, true, false, List, [], ◌∷◌, ◌++◌, map, Some, None, Bor, refl, sym, ap, ◌∙◌, subst}
+use Rattle.std.proofs.Common.{◌≡◌, Bool, true, false, List, [], ◌∷◌, ◌++◌, map, Some, None, Bor, refl, sym, ap, ◌∙◌, subst}
 use Rattle.std.specs.Prelude.{option_map, is_some}
 use Rattle.std.specs.declared.option.Option.{Option}
 use Rattle.std.specs.List.{AllByRecursion}
 use Rattle.std.specs.Map.{keys_of}
-use Rattle.rules_values.specs.Val.{Val, Pairs, no_pair, more_pairs, big_table}
+use Rattle.rules_values.specs.Val.{Val, Pairs, no_pair, big_table}
 use Rattle.rules_values.specs.Tables.{AreIncreasingKeys, value_at, with_value, without_key}
 use Rattle.rules_values.specs.Tickets.{Held, tickets, pair_tickets}
 use Rattle.rules_bigmap.specs.Changes.{changed}
-use Rattle.mich_term.specs.Keyed.{found, IsIncreasing}
-use Rattle.mich_term.specs.Layers.{NoBigMap, PutsNoBigMap, FormedLayer}
+use Rattle.mich_term.specs.Keyed.{IsIncreasing}
+use Rattle.mich_term.specs.Layers.{PutsNoBigMap, FormedLayer}
 use Rattle.mich_term.specs.View.{datum}
 use Rattle.mich_term.specs.ValueView.{val, value_step, big_step, big_pairs, change, puts, put_pairs}
-use Rattle.mich_term.specs.declared.datum.Datum.{Datum}
 use Rattle.mich_term.specs.declared.value.Value.{Value, fold-roll-Value}
-use Rattle.mich_term.specs.declared.value.Value.TheOpen.{Value-F, BigMap-F}
+use Rattle.mich_term.specs.declared.value.Value.TheOpen.{Value-F}
 use Rattle.mich_term.specs.declared.value.Value.TheFolds.{fold_out-BigMap}
 use Rattle.mich_term.specs.declared.value.Value.TheVariants as v
 use Rattle.mich_term.specs.declared.value.Value.TheVariants.{rolls-BigMap}
 use Rattle.mich_term.specs.declared.value.BigMap.{BigMap, out-BigMap}
-use Rattle.mich_term.proofs.Overlays.{big_is}
+use Rattle.mich_term.proofs.ForCallers.{big_is}
 use Rattle.mich_bigmap.specs.Bases.{Bases, Changes, entries_in, big_in, seen_change, seen as seen_changes}
 use Rattle.mich_bigmap.specs.Formed.{IsFormed, is_there}
 use Rattle.mich_bigmap.specs.Standing.{big_step_in, change_step}
-use Rattle.mich_bigmap.proofs.Meaning.{found_over, none_in, none_sorted}
+use Rattle.mich_bigmap.proofs.ForCallers.{found_over, none_in, none_sorted}
 use Rattle.mich_stack.specs.Views.{Sight, seen}
 use Rattle.mich_step.specs.Shown.{as_entries, shown, ShowsTickets}
 use Rattle.laws_sights.specs.Sights.{is_plain, entries_plain, is_layer, odd, seen_where, sight}
-use Rattle.laws_sights.proofs.Parts.{plain_tells, plain_seen}
-use Rattle.laws_sights.proofs.Seen.{SoundLayer, layer, layer_of, layer_is, layer_alike}
-use Rattle.laws_sights.proofs.Shown.{entries_tickets}
+use Rattle.laws_sights.proofs.ForCallers.{plain_tells, plain_seen, SoundLayer, layer, layer_of, layer_is, layer_alike, entries_tickets}
 use Rattle.mich_entries.specs.Given.{entries_by, entries_seen, seen_in}
 use Rattle.mich_entries.specs.Operands.{AreEntries}
 use Rattle.mich_entries.proofs.Values.{AllValues, Plain, Ticketless, all_at, all_with, all_without, plain_all, ticketless_all, all_found}
@@ -135,6 +132,13 @@ module _ (bs : Bases) where
         plain = all_found PutsNoBigMap l.overlay f.keys (λ k o e. put_plain (big_in bs n) (datum k) o plain (found_over bs l.base k l.overlay o e));
         ticketless = λ s. none_put l.overlay (all_found PutsNoTicket l.overlay f.keys (λ k o e. put_ticketless (big_in bs n) (datum k) o (ticketless s) (found_over bs l.base k l.overlay o e)));
       }
+
+  -- one that keeps all entries of another in itself is seen with the same
+  pub alone_seen : (m n : BigMap) → AreEntries (entries_seen bs m) → IsFormed n → (out-BigMap n).shares ≡ false → (out-BigMap n).base ≡ None → big_in bs n ≡ big_in bs m → entries_seen bs n ≡ entries_seen bs m
+  alone_seen m n h formed shares base e =
+      let same : big_in bs n ≡ entries_seen bs m = e ∙ sym (seen_here bs m (sound_here bs m h.0)) in
+      let plain : AllValues Plain (big_in bs n) = subst (AllValues Plain) (sym same) (plain_all (entries_seen bs m) h.1) in
+      seen_here bs n (record { formed = formed_again n formed plain (λ s. let no : false ≡ true = sym shares ∙ s in absurd cc); based = ap (is_there bs) base }) ∙ same
 
   -- the tickets that it is seen with are those that lie in it
   first_tickets : (ps qs : Pairs) → map shown (big_table ps ∷ []) ≡ map shown (big_table qs ∷ []) → pair_tickets ps ≡ pair_tickets qs

@@ -1,5 +1,5 @@
 -- Rows on a stack whose top is known.
-use Rattle.std.proofs.Common.{◌≡◌, List, [], ◌∷◌, Bool, true, Some, None, refl, sym, ap, ◌∙◌, subst}
+use Rattle.std.proofs.Common.{◌≡◌, List, [], ◌∷◌, Bool, true, Some, None, sym, ap, ◌∙◌, subst}
 use Rattle.std.specs.Prelude.{is_some, option_map, option_to_list, IfSome}
 use Rattle.std.specs.declared.option.Option.{Option}
 use Rattle.std.proofs.lemmas.List.{append-nil}
@@ -15,7 +15,7 @@ use Rattle.rules_steps.specs.Step.{Step, done, kept, discarding, optional}
 use Rattle.mich_term.specs.declared.value.Value.{Value}
 use Rattle.laws_sights.specs.Sights.{is_plain, sight}
 use Rattle.mich_bigmap.specs.Bases.{Bases}
-use Rattle.mich_stack.proofs.Comparable.{comparable_seen}
+use Rattle.mich_stack.proofs.ForCallers.{comparable_seen}
 use Rattle.mich_term.specs.View.{datum}
 use Rattle.mich_term.specs.ValueView.{val, value_step}
 use Rattle.mich_term.specs.declared.datum.Datum.{Datum}

@@ -21,7 +21,7 @@ use Rattle.mich_term.specs.Keyed.{by, found, IsIncreasing}
 use Rattle.mich_term.specs.declared.datum.Datum.{Datum}
 use Rattle.mich_term.specs.declared.value.Value.{Value}
 use Rattle.mich_bigmap.specs.Bases.{Changes}
-use Rattle.mich_bigmap.proofs.Keys.{by_lawful}
+use Rattle.mich_bigmap.proofs.ForCallers.{by_lawful}
 use Rattle.laws_sights.specs.Sights.{is_plain, entries_plain}
 use Rattle.mich_entries.specs.Operands.{holds, any_holds, any_entry_holds}
 

@@ -16,7 +16,7 @@ ghost use Rattle.mich_entries.specs.Operands.{AreEntries, holds};
 
 use crate::holding::holds;
 use mich_base::{Memory, Rows, Ty};
-use mich_bigmap::{Store, erase, get, write};
+use mich_bigmap::{Store, erase, get, unshared, write};
 use mich_term::{BigMap, Datum, Value};
 use mich_types::duplicable;
 use std::alloc::Global;
@@ -57,8 +57,20 @@ fn is_barred(big: &BigMap, value: &Value) -> bool
     big.shares && holds(value)
 }
 
-// Puts a value at a key, and gives the one that was there. Values of a big map that shares can be copied, so what typed code puts
-// there holds no ticket; one that does is answered as want of memory.
+// Values of a big map that shares can be copied, so what typed code puts there holds no ticket; where a value does, the big map first
+// takes its entries out of the store, and shares no more.
+fn unbar(alloc: Global, store: &Store, big: &mut BigMap, value: &Value) -> Result<(), Memory>
+    requires { AreEntries (entries_seen store.now.bases.present big.old) }
+    ensures entries { OnOk result (entries_seen store.now.bases.present big.new ≡ entries_seen store.now.bases.present big.old) }
+    ensures permitted { OnOk result ((out-BigMap big.new).shares ≡ true → tickets (val value.now) ≡ []) }
+{
+    if is_barred(big, value) {
+        *big = unshared(alloc, store, big)?;
+    }
+    Ok(())
+}
+
+// Puts a value at a key, and gives the one that was there.
 fn put(
     alloc: Global,
     store: &Store,
@@ -72,9 +84,7 @@ fn put(
     ensures old { IfOk result (λ old. option_map (seen_in store.now.bases.present) old ≡ value_at (datum key) (entries_seen store.now.bases.present big.old)) }
     ensures new { OnOk result (entries_seen store.now.bases.present big.new ≡ with_value (datum key) (seen_in store.now.bases.present value) (entries_seen store.now.bases.present big.old)) }
 {
-    if is_barred(big, &value) {
-        return Err(Memory);
-    }
+    unbar(alloc, store, big, &value)?;
     let old = write(alloc, store, big, key, value)?;
     Ok(old)
 }

@@ -1,3 +1,4 @@
 pub mod Joining
 pub mod OneSpelling
 pub mod ZeroEnded
+pub mod ForCallers

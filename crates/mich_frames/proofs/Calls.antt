@@ -8,7 +8,7 @@ use Rattle.rules_types.specs.Kind.{Kind}
 use Rattle.rules_types.specs.Kind as k
 use Rattle.rules_instructions.specs.Context.{Context}
 use Rattle.rules_instructions.specs.Context as place
-use Rattle.rules_values.specs.Val.{Val, Vals, no_val, more_vals}
+use Rattle.rules_values.specs.Val.{Val}
 use Rattle.rules_values.specs.Val as v
 use Rattle.rules_steps.specs.Failure as f
 use Rattle.rules_evaluation.specs.Operations.{Tally}
@@ -17,10 +17,9 @@ use Rattle.std.specs.Prelude.{is_none, if◌then◌else◌}
 use Rattle.rules_typing.specs.Typing.{Typing, goes, fails, bad}
 use Rattle.rules_typing.specs.Bodies.{body_fault}
 use Rattle.rules_typing.specs.Literals.{lambda_fault}
-use Rattle.rules_typing.specs.Nodes.{tree_type}
 use Rattle.rules_typing.specs.Fits.{Leads}
 use Rattle.rules_evaluation.specs.Evaluation.{eval_task}
-use Rattle.mich_instr.specs.Code.{Code, Codes}
+use Rattle.mich_instr.specs.Code.{Codes}
 use Rattle.mich_instr.specs.Code as made
 use Rattle.mich_frames.specs.Around.{Around, at, less, Pays, Lacks}
 use Rattle.mich_frames.specs.Pending.{Pending, depth_of, block_run, resume}
@@ -31,7 +30,7 @@ use Rattle.mich_frames.specs.Stands.{Runs, StandsAt, MeetsAt, OpensAt}
 use Rattle.mich_frames.proofs.Paying.{after_after, pays_is, when_paid, when_broke}
 use Rattle.mich_frames.proofs.Made.{stands_of, opens_of, form_is, Case, meets_by, block_of, FineCase, meets_fine, Ends, ends_of}
 use Rattle.mich_frames.proofs.Fine.{in_call, lambda_below}
-use Rattle.laws_code.proofs.Leading.{seq_leads}
+use Rattle.laws_code.proofs.ForCallers.{seq_leads}
 use Rattle.std.proofs.lemmas.Bool.{le-leb, leb-true}
 use Rattle.rules_base.specs.Tree.{size}
 use Rattle.rules_base.specs.Tree.{depth as levels}
@@ -43,8 +42,8 @@ use Rattle.rules_evaluation.specs.Outcome.{charge}
 use Rattle.rules_evaluation.specs.Branches.{paid}
 use Rattle.rules_evaluation.specs.Calls.{call_values, applied, shallow_enough, small_enough, within_bounds}
 use Rattle.rules_evaluation.specs.Evaluation.{node}
-use Rattle.laws_evaluation.proofs.Levels.{eval_is}
-use Rattle.laws_types.proofs.SameKinds.{same_kind_refl, same_kinds_true}
+use Rattle.laws_evaluation.proofs.ForCallers.{eval_is}
+use Rattle.laws_types.proofs.ForCallers.{same_kind_refl, same_kinds_true}
 use Rattle.mich_instr.specs.Typed.{AreCode, is_exec, is_apply, is_failwith, is_never}
 use Rattle.mich_frames.specs.Shapes.{HasTop, HasCall}
 use Rattle.mich_frames.proofs.Shapes.{has_top, has_call, has_capture, holds}
@@ -101,14 +100,6 @@ module _ {fs : List Frame} {u : Around} {m : Tally} {d : ℕ} {Z : List Kind} {o
           ∙ ap (λ y. after (after y (on_result u m o c ps a r A x ts recursive W)) (resume ps (at u c))) (sym (eval_is (node (seq ts)) (at u place.lambda) h.runs.charged (depth_of ps) K X n))
           ∙ when_paid u g.Exec 0 m (called u m o c ps a r A x ts recursive W) o _ (resume ps (at u c)) refl pays (exec_is u m o c ps a r A x ts recursive W h.runs (ap (λ p. after p (resume ps (at u c))) (sym (form_is _ _ _ _ _ _ _ _ m form)) ∙ same)).1)
           (in_call holds)
-
-  pub exec_leads : {a r : Kind} (x : Val) (ts : Trees) (recursive : Bool) (W : List Val) → MeetsAt (made.exec a r) fs u (x ∷ v.lambda (seq ts) recursive ∷ W) m d Z o →
-      Leads (tree_type (seq ts) place.lambda (call_kinds a r recursive)) (r ∷ [])
-  exec_leads {a = a} {r = r} x ts recursive W h = meets_by h by
-    where
-      by : Case (made.exec a r) fs u (x ∷ v.lambda (seq ts) recursive ∷ W) m d Z o (Leads (tree_type (seq ts) place.lambda (call_kinds a r recursive)) (r ∷ []))
-      by ps c _ _ _ (is_exec {A = A} form) rests depth same =
-          no_fault (tree_type (seq ts) place.lambda (call_kinds a r recursive)) r (exec_is u m o c ps a r A x ts recursive W h.runs (ap (λ p. after p (resume ps (at u c))) (sym (form_is _ _ _ _ _ _ _ _ m form)) ∙ same)).0
 
   -- the body is one of the lambda's type
   pub exec_typed : {a r : Kind} (x : Val) (ts : Trees) (recursive : Bool) (W : List Val) → MeetsAt (made.exec a r) fs u (x ∷ v.lambda (seq ts) recursive ∷ W) m d Z o →

@@ -1,5 +1,5 @@
 -- Blocks that open and end, what is under DIP, calls that end, and where a run begins and ends.
-use Rattle.std.proofs.Common.{◌≡◌, ◌<◌, ◌≤◌, ◌+◌, ℕ, suc, Bool, true, false, List, [], ◌∷◌, Option, Some, None, ◌++◌, refl, sym, ap, ◌∙◌, subst, arith}
+use Rattle.std.proofs.Common.{◌≡◌, ◌<◌, ◌≤◌, ◌+◌, ℕ, suc, Bool, true, false, List, [], ◌∷◌, ◌++◌, refl, sym, ap, ◌∙◌, subst, arith}
 use Rattle.std.specs.Prelude.{nat_lt}
 use Rattle.rules_base.specs.Limits.{block_limit}
 use Rattle.rules_base.specs.Tree.{seq, Trees, none}
@@ -21,19 +21,18 @@ use Rattle.rules_evaluation.specs.Evaluation.{tree_run, eval_task}
 use Rattle.laws_evaluation.specs.Laws.{IsCharged}
 use Rattle.mich_instr.specs.Code.{Code, Codes}
 use Rattle.mich_instr.specs.Code as made
-use Rattle.mich_frames.specs.Around.{Around, at, around, in_environment, with_burnt, returned}
+use Rattle.mich_frames.specs.Around.{Around, at, in_environment, with_burnt, returned}
 use Rattle.mich_frames.specs.Pending.{Pending, depth_of, block_run, resume}
 use Rattle.mich_frames.specs.Pending as p
 use Rattle.mich_frames.specs.Fine.{IsFine}
 use Rattle.mich_frames.specs.Frames.{Frame, IsBlock, Rests}
 use Rattle.mich_frames.specs.Frames as fr
-use Rattle.rules_steps.specs.Failure.{Failure}
-use Rattle.mich_frames.specs.Stands.{ActsAt, EntersAt, StandsAt, MeetsAt, OpensAt}
+use Rattle.mich_frames.specs.Stands.{StandsAt, MeetsAt, OpensAt}
 use Rattle.mich_frames.proofs.Paying.{after_after, after_stack}
 use Rattle.mich_frames.proofs.Made.{stands_of, opens_of, block_of}
 use Rattle.mich_frames.proofs.Fine.{over_rest, behind_rest, off_rest, back, called_back, viewed_back, sound_here}
-use Rattle.laws_code.proofs.Leading.{next_leads, leads_seq}
-use Rattle.laws_stock.proofs.Nodes.{node_sound}
+use Rattle.laws_code.proofs.ForCallers.{next_leads, leads_seq}
+use Rattle.laws_stock.proofs.ForCallers.{node_sound}
 use Rattle.std.proofs.lemmas.Bool.{lt-ltb, ltb-true}
 use Rattle.rules_evaluation.specs.Outcome.{opened}
 use Rattle.rules_evaluation.specs.Evaluation.{node, trees_run, eval}
@@ -42,8 +41,8 @@ use Rattle.rules_values.specs.Tickets.{Identity}
 use Rattle.rules_base.specs.Tree.{size}
 use Rattle.rules_typing.specs.Nodes.{trees_type}
 use Rattle.rules_typing.specs.Fits.{Leads}
-use Rattle.laws_evaluation.proofs.Levels.{eval_is}
-use Rattle.laws_types.proofs.SameKinds.{same_kinds_refl}
+use Rattle.laws_evaluation.proofs.ForCallers.{eval_is}
+use Rattle.laws_types.proofs.ForCallers.{same_kinds_refl}
 use Rattle.mich_instr.specs.Typed.{AreCode, no_code, more_code}
 
 -- ---- blocks
@@ -66,11 +65,6 @@ module _ {fs : List Frame} {u : Around} {V : List Val} {m : Tally} {d : ℕ} {Z 
   too_deep {is = is} le h =
       let above : nat_lt (depth_of h.pending) block_limit ≡ false = not_below (depth_of h.pending) (let e = h.depth in omega (arith, le, e)) in
       sym h.same ∙ ap (λ b. after (opened b (trees_run eval_task h.nodes) (at u h.context) (depth_of h.pending) h.types V m) (resume h.pending (at u h.context))) above
-
-  pub enter_acts : {is : Codes} (x : Option Failure) (fs' : List Frame) (d' : ℕ) → EntersAt x fs d fs' d' is → OpensAt is fs u V m d Z o → ActsAt x fs' u V m d' Z o
-  enter_acts {is = is} None fs' d' e h =
-      subst (λ gs. StandsAt gs u V m d' Z o) (sym e.2) (subst (λ n. StandsAt (fr.rest is ∷ fs) u V m n Z o) (sym e.1) (enters e.0 h))
-  enter_acts (Some x) fs' d' e h = too_deep e.0 h ∙ ap failed (sym e.1)
 
   -- the next instruction of a block, and the rest of it
   pub meets_next : {i : Code} {is : Codes} → StandsAt (fr.rest (made.more i is) ∷ fs) u V m d Z o → MeetsAt i (fr.rest is ∷ fs) u V m d Z o
@@ -166,19 +160,9 @@ all_done {u = u} {V = V} {m = m} {Z = Z} {o = o} h = by h.pending h.context h.ty
     by : (ps : List Pending) (c : Context) (A : List Kind) → Rests [] ps u c A Z → resume ps (at u c) A V m ≡ o → o ≡ stack Z V m
     by _ c _ fr.rests_end same = sym same
 
--- and values and tickets are as they were left
-pub done_holds : {u : Around} {V : List Val} {m : Tally} {d : ℕ} {Z : List Kind} {o : Outcome} → StandsAt [] u V m d Z o → (c : Context) × IsFine u c [] Z V m.issued m.changes
-done_holds {u = u} {V = V} {m = m} {Z = Z} h = by h.pending h.context h.types h.rests h.holds
-  where
-    by : (ps : List Pending) (c : Context) (A : List Kind) → Rests [] ps u c A Z → IsFine u c ps A V m.issued m.changes → (c : Context) × IsFine u c [] Z V m.issued m.changes
-    by _ c _ fr.rests_end holds = (c, holds)
-
 -- where a run begins
 pub starts : (u : Around) (c : Context) (ts : Trees) (is : Codes) (A Z : List Kind) (V : List Val) (m : Tally) → IsCharged u.prices → IsBlock c ts is A Z →
     IsFine u c [] A V m.issued m.changes → OpensAt is [] u V m 0 Z (eval (seq ts) (at u c) 0 A V m)
 starts u c ts is A Z V m charged fine holds =
     opens_of record { charged = charged; sound = node_sound (at u c) 0 (seq ts) A Z V m fine.small (leads_seq ts c A Z fine.typed) holds.good (sound_here holds) } [] c ts A Z fine fr.rests_end refl
     (after_stack (block_run ts (at u c) 0 A V m) ∙ sym (eval_is (node (seq ts)) (at u c) charged 0 A V m)) holds
-
-pub at_around : (e : Surroundings) (burnt : Identity → ℤ) → at (around e burnt) e.context ≡ e
-at_around e burnt = refl

@@ -25,25 +25,15 @@ use Rattle.rules_evaluation.specs.Calls.{call_values}
 use Rattle.rules_evaluation.specs.Items.{elements, with_items, rebuilt}
 use Rattle.rules_evaluation.specs.Evaluation.{tree_run, eval_task}
 use Rattle.laws_evaluation.specs.Laws.{known, IsCharged, IsType, IsGood, amount_on, amount_issued}
-use Rattle.laws_amounts.proofs.Sums.{among_append}
+use Rattle.laws_amounts.proofs.ForCallers.{among_append}
 use Rattle.laws_stacks.specs.Sound.{seen, AllTypes, Sound}
-use Rattle.laws_stacks.proofs.Amounts.{on-append, on_positive, positive}
-use Rattle.laws_stacks.proofs.Grow.{Knows, fits_grow, fits_packed, all_grow}
-use Rattle.laws_stacks.proofs.Kept.{fit-append, knows_grow}
-use Rattle.laws_stacks.proofs.Nothing.{no_amount, no_amount_compared, packable_duplicable}
-use Rattle.laws_stacks.proofs.Parts.{type_list, type_element, type_entry, type_option}
-use Rattle.laws_control.proofs.Branches.{fit_drop, types_drop}
-use Rattle.laws_control.proofs.Calls.{good_in_lambda}
-use Rattle.laws_control.proofs.Items.{element_amount, entry_amount}
-use Rattle.laws_typed.proofs.Typings.{Types, both_types}
-use Rattle.laws_typed.proofs.Outlines.{contexts}
-use Rattle.laws_control.proofs.Typed.{tree_types}
-use Rattle.laws_stock.proofs.Nodes.{Leaves, node_leaves}
-use Rattle.laws_stock.proofs.Values.{take_fit, take_types, split_amount, all_one_grow, all_one_last, one_kind_positive}
-use Rattle.laws_stock.proofs.Collections.{elements_fit, entries_fit, IsMade, list_made, table_made, some_made, none_made}
+use Rattle.laws_stacks.proofs.ForCallers.{on-append, on_positive, positive, Knows, fits_grow, fits_packed, all_grow, fit-append, knows_grow, no_amount, no_amount_compared, packable_duplicable, type_list, type_element, type_entry, type_option}
+use Rattle.laws_control.proofs.ForCallers.{fit_drop, types_drop, good_in_lambda, element_amount, entry_amount, tree_types}
+use Rattle.laws_typed.proofs.ForCallers.{Types, both_types, contexts}
+use Rattle.laws_stock.proofs.ForCallers.{Leaves, node_leaves, take_fit, take_types, split_amount, all_one_grow, all_one_last, one_kind_positive, elements_fit, entries_fit, IsMade, list_made, table_made, some_made, none_made}
 use Rattle.mich_instr.specs.Typed.{HasParts, of_list, of_set, of_map, IsMapped, to_list, to_option, to_map}
 use Rattle.rules_evaluation.specs.Contracts.{Viewed, is_contract_of}
-use Rattle.laws_safety.proofs.Views.{Seeing, good_in_view}
+use Rattle.laws_safety.proofs.ForCallers.{Seeing, good_in_view}
 use Rattle.mich_frames.specs.Around.{Around, at, viewing_at}
 use Rattle.mich_frames.specs.Pending.{Mapping, Pending}
 use Rattle.mich_frames.specs.Pending as p

@@ -6,13 +6,13 @@ use Rattle.rules_types.specs.Kind.{Kind}
 use Rattle.rules_types.specs.Kind as k
 use Rattle.rules_instructions.specs.Types as t
 use Rattle.rules_instructions.specs.Context.{Context}
-use Rattle.rules_values.specs.Val.{Val, Vals, no_val, more_vals}
+use Rattle.rules_values.specs.Val.{Val}
 use Rattle.rules_values.specs.Val as v
 use Rattle.rules_steps.specs.Failure as f
 use Rattle.rules_evaluation.specs.Operations.{Tally}
 use Rattle.rules_evaluation.specs.Outcome.{Outcome, failed, after, only_if}
 use Rattle.rules_evaluation.specs.Evaluation.{eval_task}
-use Rattle.mich_instr.specs.Code.{Code, Codes}
+use Rattle.mich_instr.specs.Code.{Codes}
 use Rattle.mich_instr.specs.Code as made
 use Rattle.mich_frames.specs.Around.{Around, at, less, Pays, Lacks}
 use Rattle.mich_frames.specs.Pending.{Pending, depth_of, block_run, resume}
@@ -25,13 +25,13 @@ use Rattle.mich_frames.proofs.Paying.{after_after, when_paid, when_broke}
 use Rattle.mich_frames.proofs.Made.{stands_of, opens_of, form_is, Case, meets_by, block_of, small_one, FineCase, meets_fine}
 use Rattle.mich_frames.proofs.Fine.{over_turns, off_turns, over_left, off_left, off_top, new_top}
 use Rattle.std.proofs.lemmas.Int.{ints}
-use Rattle.laws_stacks.proofs.Parts.{type_left, type_right}
-use Rattle.laws_code.proofs.Leading.{loop_leads, loop_left_leads}
+use Rattle.laws_stacks.proofs.ForCallers.{type_left, type_right}
+use Rattle.laws_code.proofs.ForCallers.{loop_leads, loop_left_leads}
 use Rattle.rules_instructions.specs.Same.{same_kinds}
 use Rattle.rules_evaluation.specs.Loops.{turns_run, left_turns_run}
 use Rattle.rules_evaluation.specs.Evaluation.{turns, left_turns}
-use Rattle.laws_evaluation.proofs.Levels.{eval_is}
-use Rattle.laws_types.proofs.SameKinds.{same_kinds_refl}
+use Rattle.laws_evaluation.proofs.ForCallers.{eval_is}
+use Rattle.laws_types.proofs.ForCallers.{same_kinds_refl}
 use Rattle.mich_instr.specs.Typed.{is_loop, is_loop_left}
 use Rattle.mich_frames.specs.Shapes.{HasTruth, HasUnion}
 use Rattle.mich_frames.proofs.Shapes.{has_truth, has_union}

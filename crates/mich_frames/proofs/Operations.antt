@@ -6,27 +6,26 @@ use Rattle.rules_types.specs.Kind.{Kind}
 use Rattle.rules_types.specs.Kind as k
 use Rattle.rules_instructions.specs.Context.{Context}
 use Rattle.rules_instructions.specs.Context as place
-use Rattle.rules_values.specs.Val.{Val, Vals, no_val, more_vals}
+use Rattle.rules_values.specs.Val.{Val}
 use Rattle.rules_values.specs.Val as v
 use Rattle.rules_steps.specs.Failure as f
 use Rattle.rules_evaluation.specs.Surroundings.{Surroundings}
 use Rattle.rules_evaluation.specs.Operations.{Tally}
 use Rattle.rules_evaluation.specs.Outcome.{Outcome, stack, failed, stuck, Go, after, only_if}
 use Rattle.rules_evaluation.specs.Evaluation.{eval_task}
-use Rattle.mich_instr.specs.Code.{Code, Codes}
+use Rattle.mich_instr.specs.Code.{Codes}
 use Rattle.mich_instr.specs.Code as made
 use Rattle.mich_frames.specs.Around.{Around, at, less, Pays}
 use Rattle.mich_frames.specs.Pending.{Pending, depth_of, block_run, resume}
 use Rattle.mich_frames.specs.Pending as p
-use Rattle.mich_frames.specs.Frames.{Frame, Rests}
+use Rattle.mich_frames.specs.Frames.{Frame}
 use Rattle.mich_frames.specs.Frames as fr
 use Rattle.mich_frames.specs.Stands.{StandsAt, MeetsAt, OpensAt}
 use Rattle.mich_frames.proofs.Paying.{after_after}
 use Rattle.mich_frames.proofs.Made.{opens_of, block_of}
-use Rattle.rules_instructions.specs.Straight.{Straight, OperationRow, on_stack, on_pairs, on_unions, on_collections, on_numbers, on_truth, on_text, on_hashes, on_environment, on_operations, on_tickets}
+use Rattle.rules_instructions.specs.Straight.{Straight, OperationRow, on_operations}
 use Rattle.rules_instructions.specs.Same.{same_kinds}
 use Rattle.rules_values.specs.Tickets.{tickets}
-use Rattle.rules_steps.specs.Failure.{Failure}
 use Rattle.rules_steps.specs.Changes.{burns}
 use Rattle.rules_steps.specs.Costs.{kind_of, weight_of}
 use Rattle.rules_evaluation.specs.Outcome.{with_changes}
@@ -34,10 +33,9 @@ use Rattle.rules_evaluation.specs.Shapes.{on_top}
 use Rattle.rules_evaluation.specs.Contracts.{Viewed, viewed}
 use Rattle.rules_evaluation.specs.Operating.{view_run}
 use Rattle.rules_evaluation.specs.Evaluation.{node}
-use Rattle.laws_evaluation.proofs.Levels.{eval_is}
+use Rattle.laws_evaluation.proofs.ForCallers.{eval_is}
 use Rattle.mich_instr.specs.Typed.{AreCode}
 use Rattle.mich_frames.specs.Around.{viewing_at, returned}
-use Rattle.rules_instructions.specs.Straight.{HashRow}
 use Rattle.rules_instructions.specs.Straight as i
 use Rattle.rules_steps.specs.Step.{optional}
 use Rattle.mich_frames.specs.Rows.{does, view_row, view_paid}
@@ -60,11 +58,11 @@ use Rattle.rules_instructions.specs.Change.{after as after_change}
 use Rattle.rules_instructions.specs.OtherChanges.{operation_change}
 use Rattle.rules_typing.specs.Nodes.{tree_type}
 use Rattle.rules_typing.specs.Fits.{Leads}
-use Rattle.laws_types.proofs.SameKinds.{same_kind_true}
+use Rattle.laws_types.proofs.ForCallers.{same_kind_true}
 use Rattle.laws_stacks.specs.Sound.{AllTypes}
-use Rattle.laws_typed.proofs.TypedRules.{Taken}
-use Rattle.laws_safety.proofs.Views.{Seeing, SeesIf, sees}
-use Rattle.laws_code.proofs.Leading.{seq_leads}
+use Rattle.laws_typed.proofs.ForCallers.{Taken}
+use Rattle.laws_safety.proofs.ForCallers.{Seeing, SeesIf, sees}
+use Rattle.laws_code.proofs.ForCallers.{seq_leads}
 use Rattle.mich_frames.specs.Frames.{IsBlock}
 use Rattle.mich_frames.specs.Fine.{IsFine}
 use Rattle.mich_frames.proofs.Fine.{in_view}
@@ -109,9 +107,6 @@ abbrev pub spent : Around → Tally → Straight → List Val → Tally
 spent u m r V = less u (kind_of r) (weight_of r V) m
 
 module _ {fs : List Frame} {u : Around} {m : Tally} {d : ℕ} {Z : List Kind} {o : Outcome} {app : Tree} where
-  pub place_top : (r : OperationRow) → IsPlace r → {V : List Val} → Pays u (kind_of (on_operations r)) (weight_of (on_operations r) V) m → MeetsAt (made.straight (on_operations r) app) fs u V m d Z o → HasBytes V
-  place_top r p {V = V} pays h = let s = row_sound (on_operations r) h pays in bytes_of r p (at u s.0) s.1 s.2 V _ s.3
-
   module _ (r : OperationRow) (p : IsPlace r) (b : List ℕ) (W : List Val) where
     pub place_acts : Pays u (kind_of (on_operations r)) (weight_of (on_operations r) (v.bytes b ∷ W)) m → MeetsAt (made.straight (on_operations r) app) fs u (v.bytes b ∷ W) m d Z o →
         StandsAt fs u (placed u r p b ∷ W) (spent u m (on_operations r) (v.bytes b ∷ W)) d Z o

@@ -15,7 +15,7 @@ use Rattle.rules_evaluation.specs.Items.{with_items, rebuilt}
 use Rattle.rules_evaluation.specs.Loops.{map_each_run}
 use Rattle.mich_instr.specs.Code.{Codes}
 use Rattle.mich_frames.specs.Around.{Around, at}
-use Rattle.mich_frames.specs.Pending.{Pending, Mapping, mapping_run, depth_of, block_run, resume}
+use Rattle.mich_frames.specs.Pending.{Pending, Mapping, depth_of, block_run, resume}
 use Rattle.mich_frames.specs.Pending as p
 use Rattle.mich_frames.specs.Fine.{IsFine}
 use Rattle.mich_frames.specs.Frames.{Frame, Rests}

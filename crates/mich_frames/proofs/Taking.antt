@@ -7,7 +7,7 @@ use Rattle.rules_instructions.specs.Context.{Context}
 use Rattle.rules_instructions.specs.Rules.{rule, ruled}
 use Rattle.rules_instructions.specs.Straight.{Straight}
 use Rattle.laws_stacks.specs.Sound.{AllTypes}
-use Rattle.laws_typed.proofs.TypedRules.{Taken, RuledTypes, rule_taken}
+use Rattle.laws_typed.proofs.ForCallers.{Taken, RuledTypes, rule_taken}
 use Rattle.mich_instr.specs.Code as made
 use Rattle.mich_instr.specs.Typed.{IsCode, is_straight, is_transfer}
 

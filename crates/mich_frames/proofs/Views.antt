@@ -14,8 +14,8 @@ use Rattle.rules_typing.specs.Scripts.{Script, Outline, View, TypedView, unless_
 use Rattle.rules_typing.specs.Nodes.{sections, outline, script}
 use Rattle.rules_evaluation.specs.Surroundings.{Contract}
 use Rattle.rules_evaluation.specs.Contracts.{if_found, outline_in, view_named, viewed_with, viewed_of}
-use Rattle.laws_types.proofs.SameKinds.{same_kind_true}
-use Rattle.mich_instr.specs.Code.{Codes, ScriptCode, ViewCode, ViewCodes, view, no_view, more_views}
+use Rattle.laws_types.proofs.ForCallers.{same_kind_true}
+use Rattle.mich_instr.specs.Code.{Codes, ViewCode, ViewCodes, view}
 use Rattle.mich_instr.specs.Code as made
 use Rattle.mich_instr.specs.Typed.{AreCode, IsScript, is_script, AreViews, no_views, one_more}
 use Rattle.mich_frames.specs.Views.{code_named, code_with, view_code, ViewedAs}

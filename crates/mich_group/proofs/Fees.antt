@@ -2,7 +2,7 @@
 use Rattle.std.proofs.Common.{◌≡◌, ◌≤◌, ◌<◌, ℕ, List, [], Bool, true, false, None, Some, refl, sym, ap, ◌∙◌, subst, arith, is_some, option_map}
 use Rattle.std.specs.Prelude.{IfOk, Result, Ok, Err, nat_lt, not, unwrap_or, if◌then◌else◌}
 use Rattle.std.specs.declared.option.Option.{Option}
-use Rattle.std.specs.List.{All, list_any, sum_by}
+use Rattle.std.specs.List.{list_any}
 use Rattle.std.proofs.lemmas.Bool.Decides.{nat_tests}
 use Rattle.rules_forms.specs.Spelling.{implicit_place, is_implicit, is_key_hash, is_place}
 use Rattle.rules_gas.specs.Prices.{Listed}
@@ -14,11 +14,10 @@ use Rattle.rules_world.specs.Outcomes.{no_counts, Setting}
 use Rattle.rules_world.specs.Receipts.{GroupFault, UnknownSource, GasTooHigh, FeeTooHigh, Refused, Done}
 use Rattle.rules_world.specs.World.{World as PlainWorld, account_at, Account}
 use Rattle.mich_forms.specs.declared.places.Place.TheVariants as place
-use Rattle.laws_world.proofs.Groups.{setting, fees_going, fees_there}
+use Rattle.laws_world.proofs.ForCallers.{setting, fees_going, fees_there}
 use Rattle.mich_group.specs.Settled.{IsSettled}
 use Rattle.mich_group.specs.Trees.{Goes}
-use Rattle.mich_group.specs.Turns.{AreApplied, AreBroken}
-use Rattle.mich_ops.specs.Told.{told_receipt, told_status}
+use Rattle.mich_group.specs.Turns.{AreBroken}
 use Rattle.mich_ops.specs.Told as t
 use Rattle.mich_ops.specs.View.{fault}
 use Rattle.mich_ops.specs.declared.receipt.GroupFault.{GroupFault as Why}
@@ -27,7 +26,7 @@ use Rattle.mich_ops.specs.declared.receipt.Status.{Status as Said}
 use Rattle.mich_world.specs.Holders.{balance_at, fee_taken}
 use Rattle.mich_world.specs.Standing.{StandsFor}
 use Rattle.mich_world.specs.World.{World, with_funds}
-use Rattle.mich_world.proofs.Agreeing.{balance_is, fees_agree}
+use Rattle.mich_world.proofs.ForCallers.{balance_is, fees_agree}
 
 -- ---- refusals
 
@@ -89,14 +88,6 @@ fees_went u v w prices number source contents fees s g n e o m = record {
 }
 
 -- ---- receipts
-
-pub settled_done : (s : Setting) (after : PlainWorld) (contents : List Content) (v : World) (ss : List Said) → AreApplied (in_turn s contents after no_counts) v ss → IsSettled (admitted s after contents) v (receipt.Done ss)
-settled_done s after contents v ss a = record {
-  settled = record { receipt = Done a.done; world = a.world };
-  same = ap (settled_by after) a.same;
-  told = ap t.Done a.statuses;
-  stands = a.stands;
-}
 
 pub settled_broken : (s : Setting) (after : PlainWorld) (contents : List Content) (v : World) (ss : List Said) → StandsFor v after → AreBroken (in_turn s contents after no_counts) ss → IsSettled (admitted s after contents) v (receipt.Done ss)
 settled_broken s after contents v ss h a = record {

@@ -11,7 +11,7 @@ use Rattle.mich_base.specs.TypeView.{kind}
 use Rattle.mich_forms.specs.Spelled.{address_bytes}
 use Rattle.mich_bigmap.specs.Bases.{Bases}
 use Rattle.mich_bigmap.specs.Extended.{Extends}
-use Rattle.mich_bigmap.proofs.Settled.{based_later, val_later}
+use Rattle.mich_bigmap.proofs.ForCallers.{based_later, val_later}
 use Rattle.mich_instr.specs.Issued.{numbered}
 use Rattle.mich_instr.specs.View.{script_node}
 use Rattle.mich_instr.specs.declared.issued.Issued.{Issued}

@@ -9,7 +9,7 @@ use Rattle.rules_world.specs.Application.{apply}
 use Rattle.mich_bigmap.specs.Extended.{Extends}
 use Rattle.mich_machine.specs.Calls.{counts_of}
 use Rattle.mich_interpreter.specs.declared.state.Counts.{Counts}
-use Rattle.mich_operations.specs.Going.{Begins, IsApplied, EndsAs, KeepsContracts, WithMemory}
+use Rattle.mich_operations.specs.Going.{Begins, IsApplied, EndsAs, WithMemory}
 use Rattle.mich_operations.specs.declared.applied.Applied.{Applied}
 use Rattle.mich_operations.specs.declared.applied.ApplyError.{ApplyError}
 use Rattle.mich_operations.specs.declared.applied.ApplyError.TheVariants as one

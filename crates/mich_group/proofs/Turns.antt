@@ -5,7 +5,7 @@ use Rattle.std.specs.List.{All, list_any}
 use Rattle.std.specs.Prelude.{◌||◌, ◌≤ℤ◌, ◌<ℤ◌}
 use Rattle.std.proofs.lemmas.Int.{ints}
 use Rattle.std.proofs.lemmas.List.Elements.{All-head, All-tail}
-use Rattle.std.proofs.lemmas.List.{append_assoc, append-nil, map-append, length-map, replicate-append-replicate}
+use Rattle.std.proofs.lemmas.List.{append_assoc, append-nil, map-append, replicate-append-replicate}
 use Rattle.rules_base.specs.Limits.{most_gas}
 use Rattle.rules_world.specs.Contents.{Content}
 use Rattle.rules_world.specs.Forms.{IsContent}
@@ -16,7 +16,7 @@ use Rattle.rules_world.specs.Receipts.{Status, Applied, Backtracked, Failed}
 use Rattle.rules_world.specs.Trees.{Walk, completed, broken_off, stuck_walk, tree}
 use Rattle.rules_world.specs.World.{World as PlainWorld}
 use Rattle.laws_runs.specs.Going.{IsGoing}
-use Rattle.laws_world.proofs.Walks.{KeepsWalk, tree_keeps, begins}
+use Rattle.laws_world.proofs.ForCallers.{KeepsWalk, tree_keeps, begins}
 use Rattle.mich_machine.specs.Calls.{counts_of}
 use Rattle.mich_interpreter.specs.declared.state.Counts.{Counts}
 use Rattle.mich_ops.specs.Told.{told, told_status}

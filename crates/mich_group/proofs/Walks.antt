@@ -12,7 +12,7 @@ use Rattle.rules_world.specs.Application.{apply}
 use Rattle.rules_world.specs.Trees.{Walk, completed, broken_off, stuck_walk, behind_one, with_emitted, tree_within, tree}
 use Rattle.rules_steps.specs.Failure.{Failure, out_of_gas}
 use Rattle.laws_runs.specs.Going.{IsGoing, KeepsGoing}
-use Rattle.laws_world.proofs.Walks.{apply_keeps}
+use Rattle.laws_world.proofs.ForCallers.{apply_keeps}
 use Rattle.mich_machine.specs.Calls.{counts_of}
 use Rattle.mich_interpreter.specs.declared.state.Counts.{Counts}
 use Rattle.mich_operations.specs.declared.applied.ApplyError.{ApplyError}
@@ -86,9 +86,6 @@ step_comes start s contents t limit n v x w waiting gas counts now left ss befor
     )
 
 -- ---- the end
-
-within_nothing : (limit : ℕ) (s : Setting) (w : PlainWorld) (gas : ℕ) (counts : PlainCounts) → tree_within limit s w [] gas counts ≡ completed (record { world = w; effects = []; gas = gas; counts = counts })
-within_nothing limit s w gas counts = refl
 
 within_zero : (s : Setting) (w : PlainWorld) (waiting : List Waiting) (gas : ℕ) (counts : PlainCounts) → IsNotEmpty waiting → tree_within 0 s w waiting gas counts ≡ broken_off 0 out_of_gas
 within_zero s w [] gas counts h = absurd h

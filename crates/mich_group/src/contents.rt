@@ -52,7 +52,7 @@ fn broken(
     Ok(statuses)
 }
 
-#[tactic(auto, using(crate::proofs::Turns::all_turned, mich_world::proofs::Marks::world_trans))]
+#[tactic(auto, using(crate::proofs::Turns::all_turned, mich_world::proofs::ForCallers::world_trans))]
 // Applies the contents of a group, each with gas of its own, until one fails.
 pub(crate) fn apply_contents(
     alloc: Global,

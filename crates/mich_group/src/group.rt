@@ -28,7 +28,7 @@ use mich_ops::{Group, GroupReceipt};
 use mich_world::{MoveError, World};
 use std::alloc::Global;
 
-#[tactic(auto, using(crate::proofs::Fees::fees_went, mich_operations::proofs::Hosting::hosting_fee))]
+#[tactic(auto, using(crate::proofs::Fees::fees_went, mich_operations::proofs::ForCallers::hosting_fee))]
 // Takes the fees of a group that isn't refused.
 fn take_fees(world: &mut World, group: &Group, fees: u64) -> Result<(), Memory>
     requires all { fees ≡ all_fees (contents_of group.now) }
@@ -86,7 +86,7 @@ fn apply_admitted(
     }
 }
 
-#[tactic(auto, using(crate::proofs::Fees::settled_refused, crate::proofs::Fees::settled_admitted, mich_world::proofs::Marks::world_trans))]
+#[tactic(auto, using(crate::proofs::Fees::settled_refused, crate::proofs::Fees::settled_admitted, mich_world::proofs::ForCallers::world_trans))]
 /// Applies a group of a number, in a good world that has no contract of this number: it is refused, or its fees are taken, and then its
 /// contents are applied in turn, all of them or none. The receipt is the rules', and the world stands for the one that the rules give.
 /// A group that is refused leaves the world as it is. After Memory the world is given up (Octez "Operations", batches).

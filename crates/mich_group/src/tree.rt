@@ -40,7 +40,7 @@ impl From<Memory> for TreeError {
     }
 }
 
-#[tactic(auto, using(crate::proofs::Walks::failed_walk, mich_world::proofs::Marks::world_trans))]
+#[tactic(auto, using(crate::proofs::Walks::failed_walk, mich_world::proofs::ForCallers::world_trans))]
 // Applies the operations that wait, of which one was applied before; each takes a unit of gas or more.
 fn apply_waiting(
     alloc: Global,
@@ -79,7 +79,7 @@ fn apply_waiting(
     }
 }
 
-#[tactic(auto, using(mich_world::proofs::Marks::world_trans))]
+#[tactic(auto, using(mich_world::proofs::ForCallers::world_trans))]
 /// Applies an action that a source orders, and then all that it emits, depth first. The meter has the content's gas, and ends with
 /// what is left; what was done is put behind the effects. Failed exactly where the rules say that one fails, with how many were applied
 /// before; the world can then be taken back to an earlier mark. After Memory the world is given up (Octez "Operations", the order of

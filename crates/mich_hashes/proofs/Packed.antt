@@ -5,7 +5,7 @@ use Rattle.std.proofs.lemmas.Bool.Decides.{nat_tests}
 use Rattle.rules_base.specs.Limits.{byte_limit}
 use Rattle.laws_packing.specs.Names.{IsPackable}
 use Rattle.laws_sights.specs.Sights.{is_plain}
-use Rattle.laws_sights.proofs.Parts.{plain_tells, plain_seen}
+use Rattle.laws_sights.proofs.ForCallers.{plain_tells, plain_seen}
 use Rattle.rules_instructions.specs.Straight as i
 use Rattle.rules_steps.specs.Costs.{hash_weight}
 use Rattle.rules_steps.specs.Failure as why

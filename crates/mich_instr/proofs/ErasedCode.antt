@@ -8,7 +8,7 @@ use Rattle.rules_base.specs.declared.Primitive.TheVariants as p
 use Rattle.rules_types.specs.Kind.{Kind}
 use Rattle.rules_instructions.specs.Arguments.{found, count_argument}
 use Rattle.rules_instructions.specs.Context.{Context}
-use Rattle.rules_instructions.specs.Forms.{Form, form_of}
+use Rattle.rules_instructions.specs.Forms.{form_of}
 use Rattle.rules_instructions.specs.Forms as f
 use Rattle.mich_instr.specs.Code.{Code, Codes}
 use Rattle.mich_instr.specs.Erased.{erased, all_erased, one, two, lambda_name}

@@ -14,11 +14,7 @@ use Rattle.mich_frames.specs.Frames.{Frame}
 use Rattle.mich_frames.specs.Frames as fr
 use Rattle.mich_frames.specs.Stands.{StandsAt, MeetsAt, OpensAt}
 use Rattle.mich_frames.specs.Shapes.{HasTop, HasTruth, HasOption, HasUnion, HasItems, HasList, HasMapped}
-use Rattle.mich_frames.proofs.Branches.{if_broke, if_none_opens, if_some_opens, if_none_broke, if_some_broke, if_left_opens, if_right_opens, if_left_broke, if_right_broke, if_cons_opens, if_empty_opens, if_cons_broke, if_empty_broke}
-use Rattle.mich_frames.proofs.Loops.{turns_end, turns_broke, turn_opens, loop_acts, loop_broke, loop_left_acts, loop_left_broke, loop_right_acts, loop_right_broke, left_turns_end, left_turns_broke, left_turn_opens}
-use Rattle.mich_frames.proofs.Items.{iter_broke, each_broke}
-use Rattle.mich_frames.proofs.Calls.{fail_broke}
-use Rattle.mich_frames.proofs.Mapping.{map_broke}
+use Rattle.mich_frames.proofs.ForCallers.{if_broke, if_none_opens, if_some_opens, if_none_broke, if_some_broke, if_left_opens, if_right_opens, if_left_broke, if_right_broke, if_cons_opens, if_empty_opens, if_cons_broke, if_empty_broke, turns_end, turns_broke, turn_opens, loop_acts, loop_broke, loop_left_acts, loop_left_broke, loop_right_acts, loop_right_broke, left_turns_end, left_turns_broke, left_turn_opens, iter_broke, each_broke, fail_broke, map_broke}
 use Rattle.mich_interpreter.specs.Items.{IsNotEmpty}
 use Rattle.mich_interpreter.specs.Parts.{is_true_top, is_left_top, is_none_top, is_cons_top, opened}
 

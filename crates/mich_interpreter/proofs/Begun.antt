@@ -9,7 +9,7 @@ use Rattle.mich_instr.specs.View.{codes}
 use Rattle.mich_instr.specs.declared.instr.Instr.{Instr}
 use Rattle.mich_frames.specs.Frames as fr
 use Rattle.mich_frames.specs.Stands.{StandsAt, OpensAt}
-use Rattle.mich_frames.proofs.Ends.{enters, too_deep}
+use Rattle.mich_frames.proofs.ForCallers.{enters, too_deep}
 use Rattle.mich_interpreter.specs.View.{Beyond, tops, frame, frames, around, tally}
 use Rattle.mich_interpreter.specs.Ends.{over}
 use Rattle.mich_interpreter.specs.Runs.{InBlock, HasActedIn, HasBegun, with_below, with_rest}

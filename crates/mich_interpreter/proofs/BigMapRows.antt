@@ -23,26 +23,23 @@ use Rattle.rules_steps.specs.Step.{done}
 use Rattle.rules_evaluation.specs.Outcome.{Outcome, finish, with_changes}
 use Rattle.laws_evaluation.specs.Laws.{known}
 use Rattle.laws_stacks.specs.Sound.{AllTypes}
-use Rattle.laws_stacks.proofs.Identities.{comparable_value}
-use Rattle.laws_typed.proofs.TypedRules.{Taken}
-use Rattle.laws_types.proofs.SameKinds.{same_kind_true}
+use Rattle.laws_stacks.proofs.ForCallers.{comparable_value}
+use Rattle.laws_typed.proofs.ForCallers.{Taken}
+use Rattle.laws_types.proofs.ForCallers.{same_kind_true}
 use Rattle.mich_entries.specs.Operands.{IsPlainOption, IsBigMapOnTop, HasBigMap, HasKey}
 use Rattle.mich_frames.specs.Around.{less}
 use Rattle.mich_frames.specs.Frames.{Frame}
 use Rattle.mich_frames.specs.Stands.{StandsAt}
-use Rattle.mich_frames.proofs.Straights.{row_acts}
-use Rattle.mich_frames.proofs.Taking.{row_taken}
+use Rattle.mich_frames.proofs.ForCallers.{row_acts, row_taken}
 use Rattle.mich_gas.specs.declared.costs.Costs.{Costs}
 use Rattle.mich_gas.specs.View.{listed}
 use Rattle.mich_instr.specs.Code as made
 use Rattle.mich_stack.specs.Ends.{gone}
 use Rattle.mich_stack.specs.Keys.{IsKeyOnTop}
 use Rattle.mich_stack.specs.Views.{seen, plain}
-use Rattle.mich_stack.proofs.Burnt.{given_gone}
+use Rattle.mich_stack.proofs.ForCallers.{given_gone}
 use Rattle.mich_step.specs.Shown.{shown}
-use Rattle.mich_step.proofs.Suiting.{suits_same}
-use Rattle.mich_step.proofs.Showing.{tickets_same}
-use Rattle.mich_step.proofs.Taken.{part_ready, collection_part}
+use Rattle.mich_step.proofs.ForCallers.{suits_same, tickets_same, part_ready, collection_part}
 use Rattle.mich_term.specs.ValueView.{val}
 use Rattle.mich_term.specs.declared.value.Value.{Value}
 use Rattle.mich_tickets.specs.Books.{State as Ledger}

@@ -17,7 +17,7 @@ use Rattle.mich_frames.specs.Around.{Around}
 use Rattle.mich_frames.specs.Frames as fr
 use Rattle.mich_frames.specs.Shapes.{HasTop}
 use Rattle.mich_frames.specs.Stands.{StandsAt}
-use Rattle.mich_frames.proofs.Ends.{enters, too_deep, view_ends, view_top}
+use Rattle.mich_frames.proofs.ForCallers.{enters, too_deep, view_ends, view_top}
 use Rattle.mich_gas.specs.declared.costs.Costs.{Costs}
 use Rattle.mich_gas.specs.View.{listed}
 use Rattle.mich_instr.specs.View.{codes}

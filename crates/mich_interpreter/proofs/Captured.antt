@@ -1,7 +1,7 @@
 -- Values that lambdas capture.
 use Rattle.std.proofs.Common.{◌≡◌, ◌<◌, ◌≤◌, ℕ, Bool, true, false, List, [], ◌∷◌, ap, sym, ◌∙◌}
 use Rattle.rules_base.specs.Limits.{applied_size, applied_depth}
-use Rattle.rules_base.specs.Tree.{Tree, int, str, bytes, prim, seq, Trees, none, size}
+use Rattle.rules_base.specs.Tree.{Tree, seq, Trees, none, size}
 use Rattle.rules_base.specs.Tree.{depth as levels}
 use Rattle.rules_gas.specs.declared.Kind.TheVariants as g
 use Rattle.rules_types.specs.Kind.{Kind}
@@ -16,8 +16,8 @@ use Rattle.rules_evaluation.specs.Calls.{applied, within_bounds}
 use Rattle.rules_evaluation.specs.Operations.{Tally}
 use Rattle.rules_evaluation.specs.Outcome.{Outcome, stack, failed, after, only_if, charge}
 use Rattle.laws_evaluation.specs.Laws.{known}
-use Rattle.laws_types.proofs.SameKinds.{same_kind_refl}
-use Rattle.laws_sights.proofs.Fitting.{pushable_seen}
+use Rattle.laws_types.proofs.ForCallers.{same_kind_refl}
+use Rattle.laws_sights.proofs.ForCallers.{pushable_seen}
 use Rattle.mich_term.specs.ValueView.{val}
 use Rattle.mich_term.specs.declared.value.Value.{Value}
 use Rattle.mich_stack.specs.Views.{Sight, seen}
@@ -28,9 +28,7 @@ use Rattle.mich_frames.specs.Frames.{Frame}
 use Rattle.mich_frames.specs.Pending.{depth_of, resume}
 use Rattle.mich_frames.specs.Stands.{StandsAt, MeetsAt}
 use Rattle.mich_frames.specs.Shapes.{HasCall}
-use Rattle.mich_frames.proofs.Calls.{apply_top, apply_acts, apply_large, apply_deep, apply_broke}
-use Rattle.mich_frames.proofs.Made.{FineCase, meets_fine, form_is}
-use Rattle.mich_frames.proofs.Shapes.{holds}
+use Rattle.mich_frames.proofs.ForCallers.{apply_top, apply_acts, apply_large, apply_deep, apply_broke, FineCase, meets_fine, form_is, holds}
 
 module _ {fs : List Frame} {u : Around} {m : Tally} {d : ℕ} {Z : List Kind} {o : Outcome} {a b r : Kind} where
   captured_fits : (x : Val) (ts : Trees) (recursive : Bool) (W : List Val) → MeetsAt (made.apply a b r) fs u (x ∷ v.lambda (seq ts) recursive ∷ W) m d Z o → (pushable a ≡ true) × Fits (known u.contract_at m.issued) a x

@@ -5,7 +5,7 @@ use Rattle.std.specs.Ordering.{int_eq}
 use Rattle.std.proofs.lemmas.Int.{ints}
 use Rattle.rules_values.specs.Tickets.{Identity}
 use Rattle.rules_steps.specs.Changes.{Change, minted, burnt, identity_of, amount_of, minted_in, burnt_in}
-use Rattle.laws_agreement.proofs.Amounts.{minted_append, burnt_append}
+use Rattle.laws_agreement.proofs.ForCallers.{minted_append, burnt_append}
 use Rattle.mich_tickets.specs.Books.{Books, State as Ledger}
 use Rattle.mich_tickets.specs.Effects.{change, listed_after, listed_in, Adds, Tells}
 use Rattle.mich_tickets.specs.Sums.{minted_of, burnt_of}

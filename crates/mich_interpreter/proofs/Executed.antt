@@ -1,7 +1,7 @@
 -- Calls of lambdas, whatever their bodies are.
 use Rattle.std.proofs.Common.{◌≡◌, ◌<◌, ◌^◌, ℕ, Bool, true, false, List, [], ◌∷◌, Option, Some, None, refl, subst}
 use Rattle.std.specs.Prelude.{is_none}
-use Rattle.rules_base.specs.Tree.{Tree, str, bytes, prim, seq, Trees, size}
+use Rattle.rules_base.specs.Tree.{Tree, seq, Trees, size}
 use Rattle.rules_gas.specs.declared.Kind.TheVariants as g
 use Rattle.rules_types.specs.Kind.{Kind}
 use Rattle.rules_instructions.specs.Context as place
@@ -22,9 +22,7 @@ use Rattle.mich_frames.specs.Frames.{Frame}
 use Rattle.mich_frames.specs.Frames as fr
 use Rattle.mich_frames.specs.Stands.{MeetsAt, OpensAt}
 use Rattle.mich_frames.specs.Shapes.{HasTop, HasCall}
-use Rattle.mich_frames.proofs.Calls.{exec_top, exec_opens, exec_typed, exec_broke}
-use Rattle.mich_frames.proofs.Fine.{lambda_below}
-use Rattle.mich_frames.proofs.Made.{FineCase, meets_fine}
+use Rattle.mich_frames.proofs.ForCallers.{exec_top, exec_opens, exec_typed, exec_broke, lambda_below, FineCase, meets_fine}
 use Rattle.mich_interpreter.specs.Calls.{HasLambda, called}
 
 -- ---- an argument and a lambda

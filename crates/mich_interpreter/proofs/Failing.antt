@@ -7,7 +7,7 @@ use Rattle.rules_values.specs.Val.{Val}
 use Rattle.rules_evaluation.specs.Operations.{Tally}
 use Rattle.rules_evaluation.specs.Outcome.{Outcome, after}
 use Rattle.laws_evaluation.specs.Laws.{known}
-use Rattle.laws_sights.proofs.Fitting.{pushable_seen}
+use Rattle.laws_sights.proofs.ForCallers.{pushable_seen}
 use Rattle.mich_term.specs.ValueView.{val}
 use Rattle.mich_term.specs.declared.value.Value.{Value}
 use Rattle.mich_stack.specs.Views.{Sight, seen}
@@ -17,8 +17,7 @@ use Rattle.mich_frames.specs.Around.{Around, at}
 use Rattle.mich_frames.specs.Frames.{Frame}
 use Rattle.mich_frames.specs.Pending.{resume}
 use Rattle.mich_frames.specs.Stands.{MeetsAt}
-use Rattle.mich_frames.proofs.Made.{FineCase, meets_fine, form_is}
-use Rattle.mich_frames.proofs.Shapes.{holds}
+use Rattle.mich_frames.proofs.ForCallers.{FineCase, meets_fine, form_is, holds}
 
 module _ {fs : List Frame} {u : Around} {m : Tally} {d : ℕ} {Z : List Kind} {o : Outcome} where
   fail_fits : {a : Kind} (x : Val) {W : List Val} → MeetsAt (made.failwith a) fs u (x ∷ W) m d Z o → (pushable a ≡ true) × Fits (known u.contract_at m.issued) a x

@@ -1,8 +1,7 @@
 -- Originations by scripts.
-use Rattle.std.proofs.Common.{◌≡◌, ◌≤◌, ◌<◌, ◌+◌, ℕ, suc, List, [], ◌∷◌, Option, Some, None, refl, subst}
+use Rattle.std.proofs.Common.{◌≡◌, ◌≤◌, ◌<◌, ℕ, List, [], ◌∷◌, Option, Some, None}
 use Rattle.std.specs.Prelude.{pos}
 use Rattle.rules_base.specs.Limits.{operation_limit}
-use Rattle.rules_base.specs.Tree.{Tree}
 use Rattle.rules_gas.specs.declared.Kind.TheVariants as g
 use Rattle.rules_types.specs.Kind.{Kind}
 use Rattle.rules_values.specs.Val.{Val}
@@ -12,7 +11,7 @@ use Rattle.rules_steps.specs.Failure as f
 use Rattle.rules_evaluation.specs.Issuing.{with_operation, with_origination}
 use Rattle.rules_evaluation.specs.Operations.{Tally, new_contract}
 use Rattle.rules_evaluation.specs.Outcome.{Outcome, failed}
-use Rattle.mich_instr.specs.Code.{Code, ScriptCode}
+use Rattle.mich_instr.specs.Code.{ScriptCode}
 use Rattle.mich_instr.specs.Code as made
 use Rattle.mich_instr.specs.Typed.{IsScript, is_create}
 use Rattle.mich_instr.specs.View.{node_of}
@@ -21,22 +20,9 @@ use Rattle.mich_frames.specs.Frames.{Frame}
 use Rattle.mich_frames.specs.Rows.{origination_of}
 use Rattle.mich_frames.specs.Stands.{StandsAt, MeetsAt}
 use Rattle.mich_frames.specs.Shapes.{HasTop, HasOrigination, delegate_value}
-use Rattle.mich_frames.proofs.Creating.{create_top, create_acts, create_over, create_broke}
-use Rattle.mich_frames.proofs.Made.{Case, meets_by}
-use Rattle.mich_interpreter.specs.Parts.{HasAmount, HasDelegate}
+use Rattle.mich_frames.proofs.ForCallers.{create_top, create_acts, create_over, create_broke, Case, meets_by}
 
--- ---- a delegate, an amount and a storage
-
-pub delegate_first : (V : List Val) → HasOrigination V → HasDelegate V
-delegate_first (v.nothing ∷ v.number (pos n) ∷ y ∷ W) h = tt
-delegate_first (v.some (v.bytes b) ∷ v.number (pos n) ∷ y ∷ W) h = tt
-delegate_first _ h = absurd h
-
-pub amount_second : (delegate : Option (List ℕ)) (V : List Val) → HasOrigination (delegate_value delegate ∷ V) → HasAmount V
-amount_second None (v.number (pos n) ∷ y ∷ W) h = tt
-amount_second (Some b) (v.number (pos n) ∷ y ∷ W) h = tt
-amount_second None _ h = absurd h
-amount_second (Some b) _ h = absurd h
+-- behind a delegate and an amount there is a storage
 
 pub storage_third : (delegate : Option (List ℕ)) (x : Val) (V : List Val) → HasOrigination (delegate_value delegate ∷ x ∷ V) → HasTop V
 storage_third None x (y ∷ W) h = tt

@@ -14,11 +14,11 @@ use Rattle.rules_evaluation.specs.Trying.{trial}
 use Rattle.mich_frames.specs.Around.{at, less}
 use Rattle.mich_frames.specs.Frames.{Frame}
 use Rattle.mich_frames.specs.Stands.{StandsAt}
-use Rattle.mich_frames.proofs.Straights.{row_acts, row_fails}
+use Rattle.mich_frames.proofs.ForCallers.{row_acts, row_fails}
 use Rattle.mich_gas.specs.declared.costs.Costs.{Costs}
 use Rattle.mich_gas.specs.View.{listed}
 use Rattle.mich_instr.specs.Code as made
-use Rattle.mich_step.proofs.Ledgers.{tells_same}
+use Rattle.mich_step.proofs.ForCallers.{tells_same}
 use Rattle.mich_term.specs.declared.value.Value.{Value}
 use Rattle.mich_interpreter.specs.View.{Beyond, tops, around, tally}
 use Rattle.mich_interpreter.specs.Ends.{Meets}

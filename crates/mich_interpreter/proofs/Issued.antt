@@ -4,8 +4,8 @@ use Rattle.std.proofs.lemmas.List.{map-append}
 use Rattle.rules_gas.specs.declared.Kind.{Kind as Priced}
 use Rattle.rules_gas.specs.Prices.{cost}
 use Rattle.rules_types.specs.Kind.{Kind}
-use Rattle.rules_values.specs.Val.{Val, number, bytes, operation}
-use Rattle.std.specs.Prelude.{pos, MatchOption}
+use Rattle.rules_values.specs.Val.{Val, operation}
+use Rattle.std.specs.Prelude.{MatchOption}
 use Rattle.rules_base.specs.Limits.{operation_limit}
 use Rattle.rules_evaluation.specs.Operations.{Operation}
 use Rattle.rules_evaluation.specs.Operations as rules
@@ -20,10 +20,9 @@ use Rattle.mich_term.specs.declared.value.Value.TheVariants as value
 use Rattle.mich_stack.specs.Views.{Sight, seen}
 use Rattle.mich_frames.specs.Around.{less}
 use Rattle.mich_frames.specs.Frames.{Frame}
-use Rattle.mich_frames.specs.Shapes.{HasTop, HasBytes, HasTransfer}
+use Rattle.mich_frames.specs.Shapes.{HasTop, HasTransfer}
 use Rattle.mich_frames.specs.Stands.{StandsAt}
 use Rattle.mich_interpreter.specs.Issues.{issued_by}
-use Rattle.mich_interpreter.specs.Parts.{HasAmount, HasAddress}
 use Rattle.mich_interpreter.specs.View.{Beyond, tops, all_issued, around, tally}
 use Rattle.mich_interpreter.specs.declared.state.Counts.{Counts}
 use Rattle.mich_interpreter.specs.declared.state.State.{State}
@@ -61,23 +60,10 @@ module _ (x : Beyond) (costs : Costs) (old : State) (stack : List Value) (meter 
       StandsAt fs (around x costs (record old { stack = stack; meter = meter; counts = counts; issued = issued })) (tops x.sight stack) (tally x (record old { stack = stack; meter = meter; counts = counts; issued = issued })) d Z o
   stands_issued kind w op i n paid is_next counted originated group put same h = stands_counted kind w old.counts.originated op i n paid is_next counted originated group put same h
 
--- what a transfer needs, from the top on
+-- a transfer has an argument
 pub transfer_first : (V : List Val) → HasTransfer V → HasTop V
 transfer_first [] h = absurd h
 transfer_first (x ∷ V) h = tt
-
-pub transfer_second : (x : Val) (V : List Val) → HasTransfer (x ∷ V) → HasAmount V
-transfer_second x (number (pos n) ∷ bytes b ∷ V) h = tt
-transfer_second x _ h = absurd h
-
--- what is on top where an address is
-pub address_first : (V : List Val) → HasBytes V → HasAddress V
-address_first (bytes b ∷ V) h = tt
-address_first _ h = absurd h
-
-pub transfer_third : (x y : Val) (V : List Val) → HasTransfer (x ∷ y ∷ V) → HasAddress V
-transfer_third x (number (pos n)) (bytes b ∷ V) h = tt
-transfer_third x _ _ h = absurd h
 
 pub seen_operation : (big : Sight) (n : ℕ) → seen big (value.Operation n) ≡ operation n
 seen_operation big n = search (rules, values.the_lemmas)

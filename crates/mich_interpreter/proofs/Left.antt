@@ -10,7 +10,7 @@ use Rattle.mich_instr.specs.View.{code, codes}
 use Rattle.mich_instr.specs.declared.instr.Instr.{Instr}
 use Rattle.mich_frames.specs.Frames as fr
 use Rattle.mich_frames.specs.Stands.{StandsAt}
-use Rattle.mich_frames.proofs.Ends.{rest_depth, rest_ends, meets_next}
+use Rattle.mich_frames.proofs.ForCallers.{rest_depth, rest_ends, meets_next}
 use Rattle.mich_interpreter.specs.View.{Beyond, tops, frames, around, tally}
 use Rattle.mich_interpreter.specs.Ends.{Meets}
 use Rattle.mich_interpreter.specs.Runs.{InBlock, Behind}

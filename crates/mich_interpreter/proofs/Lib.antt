@@ -5,13 +5,14 @@ pub mod Any
 pub mod Listed
 pub mod Looked
 pub mod Mapped
-pub mod Keys
+pub mod Rising
 pub mod Rebuilt
 pub mod Results
 pub mod Begun
 pub mod Left
 pub mod Stepped
 pub mod Leaving
+pub mod Spelled
 pub mod Starting
 pub mod Located
 pub mod Pushed
@@ -26,6 +27,7 @@ pub mod Opened
 pub mod Issued
 pub mod Suited
 pub mod Straightened
+pub mod Weighed
 pub mod Changed
 pub mod Failing
 pub mod Operands

@@ -1,7 +1,7 @@
 -- Frames and values in order.
 use Rattle.std.proofs.Common.{◌≡◌, ◌<◌, ◌+◌, ℕ, zero, suc, List, [], ◌∷◌, ◌++◌, length, take, drop, reverse, map, Option, Some, None, refl, sym, ap, ◌∙◌, arith, rules}
 use Rattle.std.specs.List.{slice_get}
-use Rattle.std.proofs.lemmas.List.{reverse-append, map-append, length-map, length-reverse, length-drop, take-append-drop, take_at, drop_at}
+use Rattle.std.proofs.lemmas.List.{reverse-append, length-map, length-reverse, length-drop, take-append-drop, take_at, drop_at}
 use Rattle.std.proofs.lemmas.Option.{get_or_from_slice_get}
 use Rattle.std.proofs.Math.Seq.{drop-cons}
 use Rattle.rules_values.specs.Val.{Val, list}
@@ -22,9 +22,6 @@ use Rattle.mich_interpreter.specs.declared.frame.Frame.{Frame}
 
 pub map_reverse : {A B : Type 0} (g : A → B) (xs : List A) (x : A) → map g (reverse (xs ++ x ∷ [])) ≡ g x ∷ map g (reverse xs)
 map_reverse g xs x = ap (map g) (reverse-append xs (x ∷ []))
-
-pub map_reverse_append : {A B : Type 0} (g : A → B) (xs ys : List A) → map g (reverse (xs ++ ys)) ≡ map g (reverse ys) ++ map g (reverse xs)
-map_reverse_append g xs ys = ap (map g) (reverse-append xs ys) ∙ map-append g (reverse ys) (reverse xs)
 
 pub over_is : (big : Sight) (fs : List Frame) (gs : List fr.Frame) (below : Option Frame) → over big below (frames big fs ++ gs) ≡ frames big (with_below fs below) ++ gs
 over_is big fs gs None = refl

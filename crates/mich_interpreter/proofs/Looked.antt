@@ -7,10 +7,10 @@ use Rattle.rules_types.specs.Kind.{Kind}
 use Rattle.rules_types.specs.Entrypoints.{find_entry}
 use Rattle.rules_evaluation.specs.Contracts.{Lookup, address_where, chosen_entrypoint, contract_named, contract_of, entry_in, has_kind, hash_in, takes}
 use Rattle.rules_evaluation.specs.Surroundings.{Contract as PlainContract}
-use Rattle.laws_stacks.proofs.Addresses.{name_back, place_back}
+use Rattle.laws_stacks.proofs.ForCallers.{name_back, place_back}
 use Rattle.mich_arguments.specs.Arguments.{HasTypedScripts, entries_in}
-use Rattle.mich_arguments.proofs.Entries.{entry_found}
-use Rattle.mich_standing.proofs.Owners.{hash_of}
+use Rattle.mich_arguments.proofs.ForCallers.{entry_found}
+use Rattle.mich_standing.proofs.ForCallers.{hash_of}
 use Rattle.mich_world.specs.Holders.{contract_at}
 use Rattle.mich_world.specs.Standing.{plain}
 use Rattle.mich_world.specs.World.{World}

@@ -1,5 +1,5 @@
 -- VIEW, where there is a view, and where there is none.
-use Rattle.std.proofs.Common.{◌≡◌, ◌≤◌, ◌-◌, ℕ, List, [], ◌∷◌, ◌++◌, Some, None, refl, sym, ap, ◌∙◌, subst}
+use Rattle.std.proofs.Common.{◌≡◌, ◌≤◌, ◌-◌, ℕ, List, [], ◌∷◌, Some, None, refl, sym, ap, ◌∙◌, subst}
 use Rattle.std.specs.List.{flat_map}
 use Rattle.std.specs.declared.option.Option.{Option}
 use Rattle.std.proofs.lemmas.List.{append-nil}
@@ -21,7 +21,7 @@ use Rattle.mich_frames.specs.Frames as fr
 use Rattle.mich_frames.specs.Rows.{view_row}
 use Rattle.mich_frames.specs.Shapes.{HasTop, HasViewing}
 use Rattle.mich_frames.specs.Stands.{MeetsAt, OpensAt, StandsAt}
-use Rattle.mich_frames.proofs.Operations.{view_none, view_opens}
+use Rattle.mich_frames.proofs.ForCallers.{view_none, view_opens}
 use Rattle.mich_gas.specs.View.{listed}
 use Rattle.mich_gas.specs.declared.costs.Costs.{Costs}
 use Rattle.mich_instr.specs.Code as made
@@ -29,7 +29,7 @@ use Rattle.mich_instr.specs.Code.{Codes}
 use Rattle.mich_instr.specs.View.{codes}
 use Rattle.mich_stack.specs.Views.{plain, seen, values}
 use Rattle.mich_step.specs.Views.{environment}
-use Rattle.mich_step.proofs.Showing.{tickets_same}
+use Rattle.mich_step.proofs.ForCallers.{tickets_same}
 use Rattle.mich_term.specs.ValueView.{val}
 use Rattle.mich_term.specs.declared.value.Value.{Value}
 use Rattle.mich_tickets.specs.Books.{State as Ledger}
@@ -37,7 +37,6 @@ use Rattle.mich_tickets.specs.Effects.{Tells}
 use Rattle.mich_tickets.specs.Limits.{IsReady}
 use Rattle.mich_tickets.specs.Prefixes.{prefix_ready}
 use Rattle.mich_interpreter.specs.Ends.{Acts, Meets, in_view}
-use Rattle.mich_interpreter.specs.Parts.{HasAddress}
 use Rattle.mich_interpreter.specs.View.{Beyond, around, tally, tops}
 use Rattle.mich_interpreter.specs.Viewing.{env_at}
 use Rattle.mich_interpreter.specs.Visits.{IsVisit, Visits}
@@ -53,10 +52,6 @@ use Rattle.mich_interpreter.proofs.Told.{later, stands_told}
 pub view_first : (V : List Val) → HasViewing V → HasTop V
 view_first [] h = absurd h
 view_first (x ∷ V) h = tt
-
-pub view_second : (x : Val) (V : List Val) → HasViewing (x ∷ V) → HasAddress V
-view_second x (bytes b ∷ V) h = tt
-view_second x _ h = absurd h
 
 -- ---- the view that there is
 

@@ -9,7 +9,7 @@ use Rattle.mich_term.specs.declared.value.Value.{Value}
 use Rattle.mich_term.specs.declared.value.Value as values
 use Rattle.mich_term.specs.declared.value.Value.TheVariants as value
 use Rattle.mich_stack.specs.Views.{Sight, seen}
-use Rattle.mich_frames.proofs.Remapped.{AreAlike}
+use Rattle.mich_frames.proofs.ForCallers.{AreAlike}
 use Rattle.mich_interpreter.specs.Made.{Entry, vals_by, pairs_by, keyed, key_of, value_in}
 
 pub seen_some : (big : Sight) (x : Value) → seen big (value.Some x) ≡ v.some (seen big x)

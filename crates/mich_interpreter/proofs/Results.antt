@@ -20,8 +20,7 @@ use Rattle.mich_frames.specs.Frames.{Frame}
 use Rattle.mich_frames.specs.Frames as fr
 use Rattle.mich_frames.specs.Stands.{StandsAt, OpensAt}
 use Rattle.mich_frames.specs.Shapes.{HasTop, items_in}
-use Rattle.mich_frames.proofs.Mapping.{mapping_end, mapping_broke, mapping_opens, making_top, making_ends}
-use Rattle.mich_frames.proofs.Remapped.{remap}
+use Rattle.mich_frames.proofs.ForCallers.{mapping_end, mapping_broke, mapping_opens, making_top, making_ends, remap}
 use Rattle.mich_interpreter.specs.Items.{entry_pair}
 use Rattle.mich_interpreter.specs.Made.{Entry, keyed, key_of, value_in, list_mapping, table_mapping, making_of}
 use Rattle.mich_interpreter.specs.declared.made.OverList.{OverList}

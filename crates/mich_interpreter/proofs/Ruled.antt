@@ -22,7 +22,7 @@ use Rattle.mich_frames.specs.Around.{Around, at, less, Pays}
 use Rattle.mich_frames.specs.Frames.{Frame}
 use Rattle.mich_frames.specs.Rows.{does, minted_at}
 use Rattle.mich_frames.specs.Stands.{StandsAt, MeetsAt}
-use Rattle.mich_frames.proofs.Straights.{row_acts, row_fails, row_sound}
+use Rattle.mich_frames.proofs.ForCallers.{row_acts, row_fails, row_sound}
 
 pub right_fits : (s : Step) → (s ≡ wrong → ⊥) → IsFitting s
 right_fits (done V changes) h = tt

@@ -7,7 +7,7 @@ use Rattle.mich_instr.specs.View.{codes}
 use Rattle.mich_instr.specs.declared.instr.Instr.{Instr}
 use Rattle.mich_frames.specs.Frames as fr
 use Rattle.mich_frames.specs.Stands.{StandsAt}
-use Rattle.mich_frames.proofs.Ends.{enters}
+use Rattle.mich_frames.proofs.ForCallers.{enters}
 use Rattle.mich_interpreter.specs.View.{Beyond, tops, frames, around, tally}
 use Rattle.mich_interpreter.specs.Begins.{Opens}
 use Rattle.mich_interpreter.specs.declared.frame.Frame.{Frame}

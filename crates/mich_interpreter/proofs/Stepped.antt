@@ -1,14 +1,14 @@
 -- Steps of a run in its block.
-use Rattle.std.proofs.Common.{◌≡◌, ◌<◌, ℕ, Bool, true, false, List, [], ◌∷◌, ◌++◌, drop, Option, None, refl, sym, ap, ◌∙◌, subst, arith}
+use Rattle.std.proofs.Common.{◌≡◌, ◌<◌, ℕ, List, [], ◌∷◌, ◌++◌, drop, None, refl, sym, ap, ◌∙◌, subst, arith}
 use Rattle.mich_instr.specs.Code.{Codes}
 use Rattle.mich_instr.specs.Code as made
 use Rattle.mich_instr.specs.View.{codes}
 use Rattle.mich_instr.specs.declared.instr.Instr.{Instr}
 use Rattle.mich_frames.specs.Frames as fr
 use Rattle.mich_frames.specs.Sizes.{frames_size}
-use Rattle.mich_frames.proofs.Sizes.{seq_counts, frame_counts}
+use Rattle.mich_frames.proofs.ForCallers.{seq_counts, frame_counts}
 use Rattle.mich_interpreter.specs.View.{frame, frames}
-use Rattle.mich_interpreter.specs.Runs.{HasBegun, IsBegun, IsSpent, IsPaidStep, IsSettled, HasLeft, with_below, with_rest, size_of, left_of}
+use Rattle.mich_interpreter.specs.Runs.{HasBegun, IsSpent, IsPaidStep, IsSettled, HasLeft, with_rest, size_of, left_of}
 use Rattle.mich_interpreter.specs.declared.machine.Step.{Step}
 use Rattle.mich_interpreter.specs.declared.machine.Step.TheVariants as s
 use Rattle.mich_interpreter.specs.declared.frame.Frame.{Frame}
@@ -16,13 +16,6 @@ use Rattle.mich_interpreter.specs.declared.frame.Frame.TheVariants as f
 use Rattle.mich_interpreter.specs.declared.machine.Machine.{Machine}
 use Rattle.mich_interpreter.proofs.Listed.{map_reverse}
 use Rattle.mich_term.specs.ValueView.{big_step}
-
--- what has begun over frames that the rest of the block is the last of has begun inside it
-pub inside_begun : (b : Bool) (below : Option Frame) (body : List Instr) (old : Machine) (gs : List Frame) (new : Machine) → gs ≡ with_rest old →
-    IsBegun b below body gs (record old { frames = gs }) new → IsBegun b below body (with_rest old) old new
-inside_begun true below body old gs new e h =
-    record { few = h.few; block = h.block; at = h.at; frames = h.frames ∙ ap (λ fs. with_below fs below) e; depth = h.depth }
-inside_begun false below body old gs new e h = h
 
 -- a sequence that opens leaves less to do that costs nothing
 pub seq_smaller : (old mid new : Machine) (inner : List Instr) → codes (drop old.at old.block) ≡ made.more (made.seq (codes inner)) (codes (drop mid.at mid.block)) → mid.frames ≡ old.frames →

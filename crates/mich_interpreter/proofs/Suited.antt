@@ -13,16 +13,14 @@ use Rattle.rules_evaluation.specs.Operations.{Issued, operation_tickets}
 use Rattle.rules_evaluation.specs.Outcome.{Outcome}
 use Rattle.laws_evaluation.specs.Laws.{amount_issued}
 use Rattle.laws_stacks.specs.Sound.{IsSoundIssue}
-use Rattle.laws_suits.proofs.Tickets.{issued_positive, tickets_handed}
-use Rattle.laws_suits.proofs.Rows.{row_suits, row_positive}
+use Rattle.laws_suits.proofs.ForCallers.{issued_positive, tickets_handed, row_suits, row_positive}
 use Rattle.mich_gas.specs.declared.costs.Costs.{Costs}
 use Rattle.mich_instr.specs.Code as made
 use Rattle.mich_frames.specs.Fine.{minted_by, burnt_by}
 use Rattle.mich_frames.specs.Frames.{Frame}
 use Rattle.mich_stack.specs.Views.{plain}
 use Rattle.mich_step.specs.Rule.{Suits}
-use Rattle.mich_step.proofs.Suiting.{suits_same}
-use Rattle.mich_step.proofs.Showing.{tickets_same}
+use Rattle.mich_step.proofs.ForCallers.{suits_same, tickets_same}
 use Rattle.mich_tickets.specs.Limits.{IsReady, IsWithin}
 use Rattle.mich_tickets.specs.Sums.{minted_of, burnt_of}
 use Rattle.mich_interpreter.specs.Issues.{issued_by}

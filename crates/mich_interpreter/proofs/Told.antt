@@ -8,7 +8,7 @@ use Rattle.rules_types.specs.Kind.{Kind}
 use Rattle.rules_values.specs.Tickets.{Identity}
 use Rattle.rules_steps.specs.Changes.{Change, minted_in, burnt_in}
 use Rattle.rules_evaluation.specs.Outcome.{Outcome, with_changes}
-use Rattle.laws_agreement.proofs.Amounts.{minted_append, burnt_append}
+use Rattle.laws_agreement.proofs.ForCallers.{minted_append, burnt_append}
 use Rattle.mich_gas.specs.declared.costs.Costs.{Costs}
 use Rattle.mich_gas.specs.View.{listed}
 use Rattle.mich_term.specs.declared.value.Value.{Value}

@@ -6,7 +6,7 @@ use Rattle.rules_steps.specs.Failure as f
 use Rattle.rules_evaluation.specs.Outcome.{Outcome, failed, stack}
 use Rattle.mich_frames.specs.Frames as fr
 use Rattle.mich_frames.specs.Shapes.{HasTop}
-use Rattle.mich_frames.proofs.Ends.{all_done}
+use Rattle.mich_frames.proofs.ForCallers.{all_done}
 use Rattle.mich_gas.specs.declared.costs.Costs.{Costs}
 use Rattle.mich_stack.specs.Views.{Sight}
 use Rattle.mich_world.specs.World.{World}
@@ -21,7 +21,6 @@ use Rattle.mich_interpreter.specs.declared.callers.Caller.{Caller}
 use Rattle.mich_interpreter.specs.declared.machine.Machine.{Machine}
 use Rattle.mich_interpreter.specs.declared.machine.Step.{Step}
 use Rattle.mich_interpreter.specs.declared.machine.Step.TheVariants as s
-use Rattle.mich_interpreter.specs.declared.state.State.{State}
 use Rattle.mich_interpreter.proofs.Called.{home_in, home_on, home_out, home_past, minted_enters, minted_less, minted_now, minted_on, sees_in, view_deep, view_gives, view_in, view_out}
 use Rattle.mich_interpreter.proofs.Keeping.{keeps_state}
 

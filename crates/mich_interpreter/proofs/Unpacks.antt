@@ -24,12 +24,11 @@ use Rattle.rules_evaluation.specs.Outcome.{Outcome, failed}
 use Rattle.rules_evaluation.specs.Surroundings.{Surroundings}
 use Rattle.rules_evaluation.specs.Trying.{trial}
 use Rattle.laws_evaluation.specs.Laws.{known}
-use Rattle.laws_typed.proofs.TypedRules.{Taken}
+use Rattle.laws_typed.proofs.ForCallers.{Taken}
 use Rattle.mich_frames.specs.Frames.{Frame}
 use Rattle.mich_frames.specs.Shapes.{HasBytes}
 use Rattle.mich_frames.specs.Stands.{StandsAt}
-use Rattle.mich_frames.proofs.Straights.{row_broke}
-use Rattle.mich_frames.proofs.Taking.{row_taken}
+use Rattle.mich_frames.proofs.ForCallers.{row_broke, row_taken}
 use Rattle.mich_gas.specs.declared.costs.Costs.{Costs}
 use Rattle.mich_gas.specs.View.{listed}
 use Rattle.mich_data.specs.Whole.{IsWhole}

@@ -5,28 +5,25 @@ use Rattle.std.specs.declared.option.Option.{Option}
 use Rattle.std.specs.BTreeMap.{is_at}
 use Rattle.std.specs.List.{AllByRecursion}
 use Rattle.std.specs.Map.{lookup}
-use Rattle.rules_base.specs.Tree.{Tree, Trees, seq}
-use Rattle.rules_types.specs.Entrypoints.{Entry}
 use Rattle.rules_types.specs.Kind.{Kind}
 use Rattle.rules_types.specs.Kind as k
 use Rattle.rules_instructions.specs.Context as place
 use Rattle.rules_instructions.specs.Same.{same_kind}
-use Rattle.rules_forms.specs.Spelling.{IsPlace, contract_place, implicit_place, spelled_address, is_key_hash}
+use Rattle.rules_forms.specs.Spelling.{contract_place, implicit_place, spelled_address, is_key_hash}
 use Rattle.rules_typing.specs.Scripts.{Outline, TypedView}
-use Rattle.rules_values.specs.Val.{Val}
-use Rattle.rules_evaluation.specs.Contracts.{Lookup, Viewed, contract_in, hash_in, outline_in, view_named, viewed, viewed_of, viewed_with}
+use Rattle.rules_evaluation.specs.Contracts.{Viewed, contract_in, hash_in, outline_in, view_named, viewed, viewed_of, viewed_with}
 use Rattle.rules_evaluation.specs.Surroundings.{Contract as PlainContract}
 use Rattle.laws_sights.specs.Sights.{sight}
-use Rattle.laws_sights.proofs.Seen.{sound_of, sound_seen}
-use Rattle.laws_stacks.proofs.Addresses.{place_back}
-use Rattle.mich_arguments.proofs.Claims.{account_place, contract_place_is}
+use Rattle.laws_sights.proofs.ForCallers.{sound_of, sound_seen}
+use Rattle.laws_stacks.proofs.ForCallers.{place_back}
+use Rattle.mich_arguments.proofs.ForCallers.{account_place, contract_place_is}
 use Rattle.mich_base.specs.TypeView.{kind}
 use Rattle.mich_bigmap.specs.Bases.{Bases}
 use Rattle.mich_bigmap.specs.Layers.{AreSettled, SettledLayer}
 use Rattle.mich_bigmap.specs.Standing.{val_in}
-use Rattle.mich_bigmap.proofs.Staying.{each_more}
+use Rattle.mich_bigmap.proofs.ForCallers.{each_more}
 use Rattle.mich_frames.specs.Views.{ViewedAs, view_code}
-use Rattle.mich_frames.proofs.Views.{views_agree}
+use Rattle.mich_frames.proofs.ForCallers.{views_agree}
 use Rattle.mich_instr.specs.Code as made
 use Rattle.mich_instr.specs.Code.{Codes}
 use Rattle.mich_instr.specs.Scripts.{IsTypedScript}
@@ -34,8 +31,8 @@ use Rattle.mich_instr.specs.Typed.{AreCode, IsScript}
 use Rattle.mich_instr.specs.View.{codes, script_code, script_node, view_codes}
 use Rattle.mich_instr.specs.declared.instr.Script.{Script, out-Script}
 use Rattle.mich_instr.specs.declared.instr.Script as scripts
-use Rattle.mich_stack.specs.Views.{Sight, seen}
-use Rattle.mich_standing.proofs.Owners.{hash_of}
+use Rattle.mich_stack.specs.Views.{seen}
+use Rattle.mich_standing.proofs.ForCallers.{hash_of}
 use Rattle.mich_term.specs.Layers.{AreFormed, FormedLayer}
 use Rattle.mich_term.specs.declared.value.Value.{Value}
 use Rattle.mich_types.specs.Entered.{entry_of}
@@ -46,7 +43,7 @@ use Rattle.mich_world.specs.World.{World}
 use Rattle.mich_world.specs.declared.contract.Contract.{Contract}
 use Rattle.mich_interpreter.specs.Sees.{Sees}
 use Rattle.mich_interpreter.specs.View.{Beyond}
-use Rattle.mich_interpreter.specs.Visits.{HasCode, IsOf, IsVisit, Visits}
+use Rattle.mich_interpreter.specs.Visits.{HasCode, IsVisit}
 use Rattle.mich_interpreter.specs.declared.visits.Visit.{Visit}
 
 -- ---- scripts and contracts

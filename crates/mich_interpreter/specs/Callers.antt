@@ -1,5 +1,5 @@
 -- Callers of views: the frames that they stand for, and what was before the views that they called. The first one is outermost.
-use Rattle.std.specs.Prelude.{◌≡◌, ◌≤◌, ◌<◌, ◌+◌, ◌++◌, ℕ, ℤ, Bool, true, false, List, [], ◌∷◌, drop}
+use Rattle.std.specs.Prelude.{◌≡◌, ◌≤◌, ◌<◌, ◌+◌, ◌++◌, ℤ, Bool, true, false, List, [], ◌∷◌, drop}
 use Rattle.rules_base.specs.Limits.{block_limit}
 use Rattle.rules_types.specs.Kind.{Kind}
 use Rattle.rules_values.specs.Tickets.{Identity}

@@ -1,8 +1,10 @@
 -- What MAP goes over, as frames. A collection is one that is rebuilt alike: with the same keys.
-use Rattle.std.specs.Prelude.{List, [], ◌∷◌, ◌++◌, map, reverse}
+use Rattle.std.specs.Prelude.{◌≡◌, List, [], ◌∷◌, ◌++◌, map, reverse}
+use Rattle.std.specs.declared.cmp.Ordering.TheVariants.{Less}
 use Rattle.rules_values.specs.Val.{Val, Vals, Pairs, no_val, no_pair, more_pairs}
 use Rattle.rules_values.specs.Val as v
 use Rattle.mich_term.specs.View.{datum, vals_of, pairs_of}
+use Rattle.mich_term.specs.Keyed.{by}
 use Rattle.mich_term.specs.declared.datum.Datum.{Datum}
 use Rattle.mich_term.specs.declared.value.Value.{Value}
 use Rattle.mich_stack.specs.Views.{Sight, seen}
@@ -31,6 +33,11 @@ keyed (k ∷ ks) = more_pairs (datum k) v.unit (keyed ks)
 
 abbrev pub key_of : Entry → Datum
 key_of e = e.0
+
+-- each key of the entries is below k
+abbrev pub AreKeysBelow : Datum → List Entry → Type 0
+AreKeysBelow k [] = Unit {0}
+AreKeysBelow k (e ∷ es) = (by (key_of e) k ≡ Less) × AreKeysBelow k es
 
 abbrev pub value_in : Sight → Entry → Val
 value_in big e = seen big e.1

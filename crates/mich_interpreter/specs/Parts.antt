@@ -1,5 +1,6 @@
 -- Truth values, unions, options and lists on top of a stack.
-use Rattle.std.specs.Prelude.{pos, Bool, true, false, List, ◌∷◌}
+use Rattle.std.specs.Prelude.{◌≡◌, ◌<◌, ◌^◌, pos, Bool, true, false, List, ◌∷◌}
+use Rattle.rules_forms.specs.Spelling.{is_address, is_key_hash}
 use Rattle.rules_values.specs.Val.{Val, no_val, more_vals}
 use Rattle.rules_values.specs.Val as v
 
@@ -29,21 +30,21 @@ opened (v.list (more_vals x xs) ∷ V) = x ∷ v.list xs ∷ V
 opened (v.list no_val ∷ V) = V
 opened V = V
 
--- an amount, and an address
+-- an amount of mutez of 64 bits, and the spelling of an address
 abbrev pub HasAmount : List Val → Type 0
-HasAmount (v.number (pos amount) ∷ V) = Unit {0}
+HasAmount (v.number (pos amount) ∷ V) = amount < 2 ^ 64
 HasAmount _ = ⊥
 
 abbrev pub HasAddress : List Val → Type 0
-HasAddress (v.bytes b ∷ V) = Unit {0}
+HasAddress (v.bytes b ∷ V) = is_address b ≡ true
 HasAddress _ = ⊥
 
--- a key hash, and an option of one on top
-abbrev pub HasKeyHash : Val → Type 0
-HasKeyHash (v.bytes b) = Unit {0}
-HasKeyHash _ = ⊥
+-- the spelling of a key hash, and an option of one on top
+abbrev pub IsSpelledKeyHash : Val → Type 0
+IsSpelledKeyHash (v.bytes b) = is_key_hash b ≡ true
+IsSpelledKeyHash _ = ⊥
 
 abbrev pub HasDelegate : List Val → Type 0
 HasDelegate (v.nothing ∷ V) = Unit {0}
-HasDelegate (v.some (v.bytes b) ∷ V) = Unit {0}
+HasDelegate (v.some x ∷ V) = IsSpelledKeyHash x
 HasDelegate _ = ⊥

@@ -14,7 +14,7 @@ use mich_tickets::{Collector, Ledger};
 use std::alloc::Global;
 
 // Burns the tickets of a value that is discarded, parts from left to right and entries by key.
-#[tactic(auto, using(mich_undo::proofs::Histories::keeps_same))]
+#[tactic(auto, using(mich_undo::proofs::ForCallers::keeps_same))]
 pub(crate) fn burn_value(alloc: Global, ledger: &mut Ledger, value: Value) -> Result<(), Memory>
     requires { IsReady ledger.old.books.present (tickets (val value)) }
     ensures tells { IfOk result (λ _. Tells (burns (tickets (val value))) ledger.old ledger.new) }

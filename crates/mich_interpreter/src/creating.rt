@@ -1,5 +1,6 @@
 // CREATE_CONTRACT.
-ghost use Rattle.std.specs.Prelude.{◌≡◌, ◌+◌, ◌∷◌, IfSome, IfOk};
+ghost use Rattle.std.specs.Prelude.{◌≡◌, ◌<◌, ◌+◌, ◌∷◌, IfOk};
+ghost use Rattle.rules_base.specs.Limits.{most_contents};
 ghost use Rattle.rules_forms.specs.Spelling.{contract_place};
 ghost use Rattle.rules_values.specs.Val.{bytes};
 ghost use Rattle.rules_evaluation.specs.Operations.{new_contract};
@@ -9,7 +10,7 @@ ghost use Rattle.mich_frames.specs.Shapes.{delegate_value};
 ghost use Rattle.mich_stack.specs.Views.{Sight, seen};
 ghost use Rattle.mich_interpreter.specs.Ends.{Comes, Carries, Spends};
 ghost use Rattle.mich_interpreter.specs.Issues.{KeepsScripts};
-ghost use Rattle.mich_interpreter.specs.Parts.{HasDelegate, HasKeyHash};
+ghost use Rattle.mich_interpreter.specs.Parts.{HasDelegate, IsSpelledKeyHash};
 ghost use Rattle.mich_interpreter.specs.View.{tops};
 
 use crate::act::{Act, Failed};
@@ -25,41 +26,42 @@ use mich_instr::{Issued, Script};
 use mich_term::Value;
 use std::alloc::Global;
 
-// The key hash that is in an option. None where the bytes are none.
-fn key_hash_of(value: Value) -> Option<KeyHash>
-    requires { (big : Sight) × HasKeyHash (seen big value) }
-    ensures { IfSome result (λ k. (big : Sight) → seen big value ≡ bytes k) }
+// The key hash that bytes spell.
+fn key_hash_of(value: Value) -> KeyHash
+    requires { (big : Sight) × IsSpelledKeyHash (seen big value) }
+    ensures { (big : Sight) → seen big value ≡ bytes result }
 {
-    match value {
-        Value::Bytes(spelled) => KeyHash::read(spelled.as_slice()),
-        _ => unreachable!(),
+    let Value::Bytes(spelled) = value else {
+        unreachable!();
+    };
+    match KeyHash::read(spelled.as_slice()) {
+        Some(key_hash) => key_hash,
+        None => unreachable!(),
     }
 }
 
-// Takes the delegate on top, if there is one. Memory where its bytes are no key hash.
-fn pop_delegate(stack: &mut Rows<Value>) -> Result<Option<KeyHash>, Memory>
+// Takes the delegate on top, if there is one.
+fn pop_delegate(stack: &mut Rows<Value>) -> Option<KeyHash>
     requires { (big : Sight) × HasDelegate (tops big stack.old) }
-    ensures { IfOk result (λ d. (big : Sight) → tops big stack.old ≡ delegate_value d ∷ tops big stack.new) }
+    ensures { (big : Sight) → tops big stack.old ≡ delegate_value result ∷ tops big stack.new }
 {
     match stack.pop() {
-        Some(Value::None) => Ok(None),
-        Some(Value::Some(value)) => match key_hash_of(value.into_value()) {
-            Some(key_hash) => Ok(Some(key_hash)),
-            None => Err(Memory),
-        },
+        Some(Value::None) => None,
+        Some(Value::Some(value)) => Some(key_hash_of(value.into_value())),
         _ => unreachable!(),
     }
 }
 
-// Counts one more origination, and gives the 20 bytes of its contract. None where 2^32-1 were counted.
-fn count_origination(counts: &mut Counts) -> Option<[u8; 20]>
-    ensures hash { IfSome result (λ h. (h ≡ new_contract counts.old.group counts.old.originated) × (counts.new.originated ≡ counts.old.originated + 1)) }
+// Counts one more origination, and gives the 20 bytes of its contract.
+fn count_origination(counts: &mut Counts) -> [u8; 20]
+    requires { counts.old.originated < counts.old.issued + most_contents }
+    ensures hash { result ≡ new_contract counts.old.group counts.old.originated }
+    ensures more { counts.new.originated ≡ counts.old.originated + 1 }
     ensures others { (counts.new.issued ≡ counts.old.issued) × (counts.new.group ≡ counts.old.group) }
 {
-    let more = counts.originated.checked_add(1)?;
     let hash = new_contract(counts.group, counts.originated);
-    counts.originated = more;
-    Some(hash)
+    counts.originated += 1;
+    hash
 }
 
 // The address of a contract as a value.
@@ -86,17 +88,13 @@ pub(crate) fn act_create(
     if !pay(&mut m.meter, costs, Kind::CreateContract, 0) {
         return Ok(Act::Failed(Failed::OutOfGas));
     }
-    let delegate = pop_delegate(&mut m.stack)?;
-    let Some(amount) = pop_amount(&mut m.stack) else {
-        return Err(Memory);
-    };
+    let delegate = pop_delegate(&mut m.stack);
+    let amount = pop_amount(&mut m.stack);
     let storage = pop(&mut m.stack);
     let Some(number) = count_operation(&mut m.counts) else {
         return Ok(Act::Failed(Failed::TooManyOperations));
     };
-    let Some(hash) = count_origination(&mut m.counts) else {
-        return Err(Memory);
-    };
+    let hash = count_origination(&mut m.counts);
     let script = script.share()?;
     m.issued.push(Issued::Origination {
         number,

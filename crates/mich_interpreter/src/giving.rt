@@ -1,6 +1,6 @@
 // PUSH, LAMBDA, LAMBDA_REC and SELF.
-ghost use Rattle.std.specs.Prelude.{◌≡◌, ℕ, List, true, Some, IfOk, IfSome};
-ghost use Rattle.rules_base.specs.Tree.{Tree, Trees};
+ghost use Rattle.std.specs.Prelude.{◌≡◌, ◌<◌, ◌^◌, ℕ, List, true, is_some, Some, IfOk, IfSome};
+ghost use Rattle.rules_base.specs.Tree.{Tree, Trees, size};
 ghost use Rattle.rules_types.specs.Kind.{Kind as TypeKind, simple};
 ghost use Rattle.rules_types.specs.Attributes.{pushable};
 ghost use Rattle.rules_forms.specs.Spelling.{contract_place, spelled_address};
@@ -22,8 +22,8 @@ use crate::act::{Act, Failed};
 use crate::paying::{pay, pay_capped};
 use crate::stack::push;
 use crate::state::State;
-use mich_base::{Bytes, Memory, Node, Shared, Ty, size_within};
-use mich_data::{read_value, simple_value};
+use mich_base::{Bytes, Memory, Node, Shared, Ty};
+use mich_data::{ValueError, read_value, simple_value};
 use mich_forms::{Address, Entrypoint, Place};
 use mich_gas::{Costs, Kind};
 use mich_term::{Value, weight};
@@ -53,32 +53,33 @@ fn simple_of(ty: &Ty) -> Option<Simple>
     }
 }
 
-// The value of a literal of a type without arguments. Memory too where it is none.
+// The value of a literal of a type without arguments.
 fn simple_literal(alloc: Global, simple: Simple, literal: &Node) -> Result<Value, Memory>
+    requires { is_some (simple_value simple (tree literal.now)) ≡ true }
     ensures value { IfOk result (λ v. Some (val v) ≡ simple_value simple (tree literal.now)) }
     ensures simple { IfOk result (λ v. IsSimple (out-Value v)) }
 {
     match simple_value(alloc, simple, literal)? {
         Some(value) => Ok(value),
-        None => Err(Memory),
+        None => unreachable!(),
     }
 }
 
-// The value of a literal of a type that can be pushed. Memory too where it has 2^32 nodes and more, or is none.
+// The value of a literal of a type that can be pushed.
 fn literal_value(alloc: Global, ty: &Ty, literal: &Node) -> Result<Value, Memory>
-    requires { pushable (kind ty.now) ≡ true }
+    requires pushed { pushable (kind ty.now) ≡ true }
+    requires small { size (tree literal.now) < 2 ^ 32 }
+    requires literal { (at : ℕ) → is_some (value_of (read (kind ty.now) at (tree literal.now))) ≡ true }
     ensures { IfOk result (λ v. (big : Sight) (at : ℕ) → value_of (read (kind ty.now) at (tree literal.now)) ≡ Some (seen big v)) }
 {
     if let Some(simple) = simple_of(ty) {
         let value = simple_literal(alloc, simple, literal)?;
         return Ok(value);
     }
-    if !size_within(literal, u32::MAX) {
-        return Err(Memory);
-    }
     match read_value(alloc, ty, literal) {
         Ok(read) => Ok(read.value),
-        Err(_) => Err(Memory),
+        Err(ValueError::NotOfType(_)) => unreachable!(),
+        Err(ValueError::Memory) => Err(Memory),
     }
 }
 

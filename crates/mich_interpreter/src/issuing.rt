@@ -1,5 +1,5 @@
 // TRANSFER_TOKENS, EMIT, CONTRACT and VIEW.
-ghost use Rattle.std.specs.Prelude.{false, ◌≡◌, ◌≤◌, ◌<◌, ◌+◌, ◌∷◌, pos, MatchOption, IfSome, IfOk, option_map};
+ghost use Rattle.std.specs.Prelude.{false, ◌≡◌, ◌≤◌, ◌<◌, ◌+◌, ◌∷◌, pos, MatchOption, IfOk, option_map};
 ghost use Rattle.rules_base.specs.Limits.{operation_limit};
 ghost use Rattle.rules_base.specs.Tree.{Tree};
 ghost use Rattle.rules_values.specs.Val.{number, bytes};
@@ -33,14 +33,17 @@ use mich_term::Value;
 use mich_world::World;
 use std::alloc::Global;
 
-// Takes the amount of mutez on top. None where it is past 2^64-1.
-pub(crate) fn pop_amount(stack: &mut Rows<Value>) -> Option<u64>
+// Takes the amount of mutez on top.
+pub(crate) fn pop_amount(stack: &mut Rows<Value>) -> u64
     requires { (big : Sight) × HasAmount (tops big stack.old) }
-    ensures { IfSome result (λ n. (big : Sight) → tops big stack.old ≡ number (pos n) ∷ tops big stack.new) }
+    ensures { (big : Sight) → tops big stack.old ≡ number (pos result) ∷ tops big stack.new }
 {
-    match stack.pop() {
-        Some(Value::Number(amount)) => u64::try_from(amount).ok(),
-        _ => unreachable!(),
+    let Some(Value::Number(amount)) = stack.pop() else {
+        unreachable!();
+    };
+    match u64::try_from(amount) {
+        Ok(mutez) => mutez,
+        Err(_) => unreachable!(),
     }
 }
 
@@ -69,12 +72,8 @@ fn act_transfer(m: &mut State, costs: &Costs) -> Result<Act, Memory>
         return Ok(Act::Failed(Failed::OutOfGas));
     }
     let argument = pop(&mut m.stack);
-    let Some(amount) = pop_amount(&mut m.stack) else {
-        return Err(Memory);
-    };
-    let Some(to) = pop_address(&mut m.stack) else {
-        return Err(Memory);
-    };
+    let amount = pop_amount(&mut m.stack);
+    let to = pop_address(&mut m.stack);
     let Some(number) = count_operation(&mut m.counts) else {
         return Ok(Act::Failed(Failed::TooManyOperations));
     };
@@ -145,9 +144,7 @@ fn act_contract(
     if !pay(&mut m.meter, costs, Kind::Contract, 0) {
         return Ok(Act::Failed(Failed::OutOfGas));
     }
-    let Some(address) = pop_address(&mut m.stack) else {
-        return Err(Memory);
-    };
+    let address = pop_address(&mut m.stack);
     let found = contract_of(world, annotation, ty, &address);
     let value = optional_address(alloc, found)?;
     push(&mut m.stack, value)?;

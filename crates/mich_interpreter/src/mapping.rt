@@ -1,14 +1,12 @@
 // MAP.
-ghost use Rattle.std.specs.Prelude.{◌≡◌, ◌∷◌, ◌++◌, [], IfOk, option_map};
-ghost use Rattle.rules_values.specs.Literals.{is_behind};
+ghost use Rattle.std.specs.Prelude.{◌≡◌, ◌∷◌, ◌++◌, [], IfOk};
 ghost use Rattle.rules_values.specs.Val.{some, unit};
 ghost use Rattle.mich_stack.specs.Views.{Sight, seen};
 ghost use Rattle.mich_frames.specs.Frames as fr;
 ghost use Rattle.mich_frames.specs.Shapes.{HasMapped, items_in};
-ghost use Rattle.mich_term.specs.View.{datum};
 ghost use Rattle.mich_instr.specs.Code as made;
 ghost use Rattle.mich_instr.specs.View.{codes};
-ghost use Rattle.mich_interpreter.specs.Made.{list_mapping, table_mapping, list_with, table_with};
+ghost use Rattle.mich_interpreter.specs.Made.{AreKeysBelow, list_mapping, table_mapping, list_with, table_with};
 ghost use Rattle.mich_interpreter.specs.Ends.{Comes, Carries, Waits, Resumes, WaitsOn, ResumesOn, Spends, Turns};
 
 use crate::act::{Act, Failed};
@@ -21,29 +19,14 @@ use crate::state::State;
 use mich_base::{Link, Memory, Rows};
 use mich_gas::{Costs, Kind};
 use mich_instr::Block;
-use mich_term::{Chain, Datum, Table, Value, compare};
+use mich_term::{Chain, Datum, Table, Value};
 use std::alloc::Global;
-use std::cmp::Ordering;
-
-#[tactic(auto, using(crate::proofs::Flat::datum_comparable))]
-fn stands_behind(before: Option<&Datum>, key: &Datum) -> bool
-    ensures { result ≡ is_behind (option_map (λ d. datum d.now) before.entry) (datum key.now) }
-{
-    match before {
-        None => true,
-        Some(last) => compare(last, key) == Ordering::Less,
-    }
-}
 
 // Puts an entry behind those that are there.
 fn put_last(table: &mut Table<Value>, key: Datum, value: Value) -> Result<(), Memory>
+    requires { AreKeysBelow key table.old }
     ensures { IfOk result (λ _. table.new ≡ table.old ++ (key, value) ∷ []) }
 {
-    // The entries come by key.
-    if !stands_behind(table.last_key(), &key) {
-        return Err(Memory);
-    }
-    let _count = table.len();
     table.insert(key, value)?;
     Ok(())
 }

@@ -1,5 +1,5 @@
 // Stacks of values, whose last element is on top.
-ghost use Rattle.std.specs.Prelude.{◌≡◌, ◌∷◌, ◌++◌, [], reverse, IfOk, IfSome, MatchOption};
+ghost use Rattle.std.specs.Prelude.{◌≡◌, ◌∷◌, ◌++◌, [], reverse, IfOk, MatchOption};
 ghost use Rattle.rules_values.specs.Val.{bytes, truth};
 ghost use Rattle.mich_forms.specs.Spelled.{address_bytes};
 ghost use Rattle.mich_stack.specs.Views.{Sight, seen};
@@ -136,13 +136,16 @@ pub(crate) fn put_below(stack: &mut Rows<Value>, below: Rows<Value>) -> Result<(
     put_all(stack, above)
 }
 
-// Takes the address on top. None where the bytes are none.
-pub(crate) fn pop_address(stack: &mut Rows<Value>) -> Option<Address>
+// Takes the address on top.
+pub(crate) fn pop_address(stack: &mut Rows<Value>) -> Address
     requires { (big : Sight) × HasAddress (tops big stack.old) }
-    ensures { IfSome result (λ a. (big : Sight) → tops big stack.old ≡ bytes (address_bytes a) ∷ tops big stack.new) }
+    ensures { (big : Sight) → tops big stack.old ≡ bytes (address_bytes result) ∷ tops big stack.new }
 {
-    match stack.pop() {
-        Some(Value::Bytes(spelled)) => Address::read(spelled.as_slice()),
-        _ => unreachable!(),
+    let Some(Value::Bytes(spelled)) = stack.pop() else {
+        unreachable!();
+    };
+    match Address::read(spelled.as_slice()) {
+        Some(address) => address,
+        None => unreachable!(),
     }
 }

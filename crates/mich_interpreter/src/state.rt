@@ -1,4 +1,7 @@
 // A run on its way.
+ghost use Rattle.std.specs.Prelude.{◌≤◌, ◌+◌};
+ghost use Rattle.rules_base.specs.Limits.{most_contents, operation_limit};
+
 use mich_base::Rows;
 use mich_gas::Meter;
 use mich_instr::Issued;
@@ -6,7 +9,8 @@ use mich_step::Env;
 use mich_term::Value;
 use mich_tickets::Ledger;
 
-/// What is counted in a group: the operations issued, the originations, and the group's own number.
+/// What is counted in a group: the operations issued, the originations, and the group's own number. There are at most as many
+/// operations as may be issued, and at most as many originations as operations and contents (this host's own limits).
 #[derive(Debug, Drop)]
 pub struct Counts {
     /// How many operations were issued in the group.
@@ -15,6 +19,8 @@ pub struct Counts {
     pub originated: u32,
     /// The number of the group.
     pub group: u64,
+    ghost issued_within: { issued ≤ operation_limit },
+    ghost originated_within: { originated ≤ issued + most_contents },
 }
 
 /// The values and the counts of a run, apart from its code.

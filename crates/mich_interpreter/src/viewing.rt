@@ -76,9 +76,7 @@ pub(crate) fn act_view(
         return Ok(Act::Failed(Failed::OutOfGas));
     }
     let given = pop(&mut m.stack);
-    let Some(address) = pop_address(&mut m.stack) else {
-        return Err(Memory);
-    };
+    let address = pop_address(&mut m.stack);
     match find_view(alloc, world, &address, name, input, output)? {
         Some(found) => {
             let view = opening(alloc, &m.env, found, given)?;

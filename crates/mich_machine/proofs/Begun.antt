@@ -25,20 +25,18 @@ use Rattle.rules_world.specs.Runs.{surroundings_of, tally_of, type_before, type_
 use Rattle.rules_world.specs.Targets.{Target, wrapped}
 use Rattle.rules_world.specs.World.{World as PlainWorld, contract_at as plain_contract_at}
 use Rattle.rules_world.specs.Holdings.{burnt_ever}
-use Rattle.laws_types.proofs.SameKinds.{same_kinds_refl}
+use Rattle.laws_types.proofs.ForCallers.{same_kinds_refl}
 use Rattle.laws_operations.specs.NewOperations.{AreInTurn, Advances, AdvancesTo}
-use Rattle.laws_operations.proofs.AdvancingLevels.{operations_are_new}
-use Rattle.laws_runs.proofs.Scripts.{IsMet}
-use Rattle.laws_runs.proofs.Surrounded.{is_met}
-use Rattle.laws_calls.proofs.Beginning.{call_opens}
+use Rattle.laws_operations.proofs.ForCallers.{operations_are_new}
+use Rattle.laws_runs.proofs.ForCallers.{IsMet, is_met}
+use Rattle.laws_calls.proofs.ForCallers.{call_opens}
 use Rattle.laws_sights.specs.Sights.{sight}
-use Rattle.laws_sights.proofs.Seen.{sound_of, sound_seen}
-use Rattle.laws_sights.proofs.Shown.{sight_shows}
+use Rattle.laws_sights.proofs.ForCallers.{sound_of, sound_seen, sight_shows}
 use Rattle.mich_base.specs.TypeView.{kind}
 use Rattle.mich_bigmap.specs.Bases.{Bases}
 use Rattle.mich_bigmap.specs.Layers.{HasBases, SettledLayer, AreSettled}
 use Rattle.mich_bigmap.specs.Standing.{val_in}
-use Rattle.mich_bigmap.proofs.Staying.{each_more}
+use Rattle.mich_bigmap.proofs.ForCallers.{each_more}
 use Rattle.mich_frames.specs.Around.{Around}
 use Rattle.mich_frames.specs.Around as frames
 use Rattle.mich_frames.specs.Stands.{OpensAt}
@@ -66,13 +64,11 @@ use Rattle.mich_term.specs.declared.value.Value.{Value}
 use Rattle.mich_tickets.specs.Books.{State as Ledger}
 use Rattle.mich_tickets.specs.Effects.{change, Adds}
 use Rattle.mich_world.specs.Holders.{by_bytes, contract_at}
-use Rattle.mich_world.specs.Marks.{KeepsWorld}
 use Rattle.mich_world.specs.Standing.{plain}
 use Rattle.mich_world.specs.Storages.{IsStored}
 use Rattle.mich_world.specs.World.{World, with_ledger}
 use Rattle.mich_world.specs.declared.contract.Contract.{Contract}
-use Rattle.mich_standing.proofs.Runs.{ledgers_run}
-use Rattle.mich_standing.proofs.Agreement.{contracts_agree}
+use Rattle.mich_standing.proofs.ForCallers.{ledgers_run, contracts_agree}
 use Rattle.mich_machine.specs.Begins.{entries_of, code_of}
 use Rattle.mich_machine.specs.Calls.{IsHosting, Calls, setting, counts_of, EndsAs, WithMemory}
 use Rattle.mich_machine.specs.Endings.{IsEnding}
@@ -152,18 +148,6 @@ with_memory (Err errors.Memory) g h = h
 
 pub failed_so : (o : Ended) (v : World) (gas : ℕ) (old new : Counts) (f : Why) (why : Failure) → o ≡ run_failed why → failures.failure f ≡ told why → EndsAs o v gas old new (Err (errors.Failed f))
 failed_so o v gas old new f why e h = subst (λ (p : Ended). EndsAs p v gas old new (Err (errors.Failed f))) (sym e) h
-
--- what is so of equal things
-pub as_said : (o : Ended) (v w : World) (gas left : ℕ) (old new now : Counts) (r s : Result Finished RunError) → v ≡ w → gas ≡ left → new ≡ now → r ≡ s →
-    EndsAs o w left old now s → EndsAs o v gas old new r
-as_said o v w gas left old new now r s a b d e h =
-    subst (λ (x : World). EndsAs o x gas old new r) (sym a)
-    (subst (λ (n : ℕ). EndsAs o w n old new r) (sym b)
-    (subst (λ (c : Counts). EndsAs o w left old c r) (sym d) (subst (λ (t : Result Finished RunError). EndsAs o w left old now t) (sym e) h)))
-
-pub kept_as_said : (u v w : World) (r s : Result Finished RunError) → v ≡ w → r ≡ s → WithMemory s (KeepsWorld u w) → WithMemory r (KeepsWorld u v)
-kept_as_said u v w r s a e h =
-    subst (λ (x : World). WithMemory r (KeepsWorld u x)) (sym a) (subst (λ (t : Result Finished RunError). WithMemory t (KeepsWorld u w)) (sym e) h)
 
 -- ---- a call
 

@@ -19,22 +19,18 @@ use Rattle.rules_world.specs.Holdings.{held, minted_ever, burnt_ever}
 use Rattle.rules_world.specs.Runs.{Returned, returned, has_twice, issued_with, unreturned, Finished, finished, run_failed, kept, unless_twice, with_returned}
 use Rattle.rules_world.specs.RunLaws.{amount_returned}
 use Rattle.rules_world.specs.World.{World as PlainWorld, contract_at as plain_contract_at}
-use Rattle.laws_accounts.proofs.Amounts.{minted_append, burnt_append, among_positive, in_positive}
-use Rattle.laws_agreement.proofs.Amounts.{burnt_of_burns, minted_of_burns}
+use Rattle.laws_accounts.proofs.ForCallers.{minted_append, burnt_append, among_positive, in_positive}
+use Rattle.laws_agreement.proofs.ForCallers.{burnt_of_burns, minted_of_burns}
 use Rattle.laws_operations.specs.NewOperations.{AreInTurn}
 use Rattle.laws_runs.specs.RunEnds.{IsFinished, EndsWell}
-use Rattle.laws_runs.proofs.Runs.{runs_end_well}
-use Rattle.laws_runs.proofs.Surrounded.{held_within, orderly}
-use Rattle.laws_runs.proofs.Waiting.{operation_good}
-use Rattle.laws_runs.proofs.Worlds.{set_here}
+use Rattle.laws_runs.proofs.ForCallers.{runs_end_well, held_within, orderly, operation_good, set_here}
 use Rattle.laws_sights.specs.Sights.{sight}
-use Rattle.laws_sights.proofs.Seen.{Sound, sound_formed, sound_based, sound_seen, fits_sound}
-use Rattle.laws_sights.proofs.Shown.{seen_tickets}
+use Rattle.laws_sights.proofs.ForCallers.{Sound, sound_formed, sound_based, sound_seen, fits_sound, seen_tickets}
 use Rattle.mich_bigmap.specs.Bases.{Bases}
 use Rattle.mich_bigmap.specs.Extended.{Extends}
 use Rattle.mich_bigmap.specs.Standing.{val_in}
 use Rattle.mich_bigmap.specs.Ticketless.{HoldNoTickets}
-use Rattle.mich_bigmap.proofs.Settled.{val_later, based_later}
+use Rattle.mich_bigmap.proofs.ForCallers.{val_later, based_later}
 use Rattle.mich_base.specs.TypeView.{kind}
 use Rattle.mich_bigmap.specs.Layers.{HasBases}
 use Rattle.mich_forms.specs.Spelled.{address_bytes}
@@ -59,10 +55,8 @@ use Rattle.mich_world.specs.Storages.{AreStored, MayReplace, owner_of, stored_ti
 use Rattle.mich_world.specs.World.{World, with_ledger}
 use Rattle.mich_world.specs.declared.contract.Contract.{Contract}
 use Rattle.mich_standing.specs.Runs.{Runs}
-use Rattle.mich_standing.proofs.Runs.{runs_go_on, ledgers_run}
-use Rattle.mich_standing.proofs.Agreement.{contracts_agree, run_ends_agree, runs_keep_stored}
-use Rattle.mich_conditions.proofs.Fitting.{commits_fit}
-use Rattle.mich_conditions.proofs.Room.{positives}
+use Rattle.mich_standing.proofs.ForCallers.{runs_go_on, ledgers_run, contracts_agree, run_ends_agree, runs_keep_stored}
+use Rattle.mich_conditions.proofs.ForCallers.{commits_fit, positives}
 use Rattle.mich_machine.specs.Calls.{issued_in, IsHanded}
 use Rattle.mich_machine.specs.Endings.{IsEnding}
 use Rattle.mich_machine.specs.Ends.{run_at}

@@ -9,7 +9,6 @@ use Rattle.rules_values.specs.Tickets.{tickets}
 use Rattle.rules_values.specs.Val.{Val, Vals, both, list}
 use Rattle.rules_world.specs.Runs.{Returned, numbers_in, Ended}
 use Rattle.laws_sights.specs.Sights.{sight}
-use Rattle.mich_bigmap.specs.Extended.{Extends}
 use Rattle.mich_bigmap.specs.Layers.{HasBases}
 use Rattle.mich_instr.specs.Scripts.{IsTypedScript}
 use Rattle.mich_instr.specs.declared.issued.Issued.{Issued}
@@ -32,7 +31,7 @@ use Rattle.mich_machine.specs.Calls.{IsHosting}
 use Rattle.mich_machine.specs.Endings.{IsEnding}
 use Rattle.mich_machine.specs.Ends.{run_at, FailsSo, EndsWith}
 use Rattle.mich_machine.specs.Returned.{by_number, handed, Numbered, Pick, picks, IsPicked}
-use Rattle.mich_machine.proofs.Ended.{some, shape, replayed, there_so, may_replace, y_stored, new_world, z_stands, bases_more, z_ticketless, run_so, handed_so, given_based}
+use Rattle.mich_machine.proofs.Ended.{some, shape, replayed, there_so, may_replace, y_stored, new_world, z_stands, z_ticketless, run_so, handed_so, given_based}
 
 -- ---- the stack
 
@@ -128,9 +127,6 @@ module _ {v : World} {to : List ℕ} {stack : List Value} {issued : List Issued}
           same = run_so e p is_picked given seen_so l tells z from;
           handed = handed_so e p is_picked given seen_so l tells z from;
         }))
-
-    pub more_so : Extends v.store.bases.present z.store.bases.present
-    more_so = bases_more e p is_picked given seen_so l tells z from
 
     typed_so : AllByRecursion (λ c. IsTypedScript c.1.script) z.funds.present.contracts
     typed_so =

@@ -12,7 +12,7 @@ use Rattle.mich_term.specs.declared.value.Value.{Value, roll-Value, out-Value, r
 use Rattle.mich_term.specs.declared.value.Value.TheOpen.{Value-F}
 use Rattle.mich_term.specs.declared.value.Value.TheVariants as v
 use Rattle.mich_term.specs.declared.value.Value.TheVariants.{rolls-Operation}
-use Rattle.laws_sights.proofs.Parts.{big_seen}
+use Rattle.laws_sights.proofs.ForCallers.{big_seen}
 use Rattle.mich_machine.specs.Returned.{Numbered, Pick}
 use Rattle.mich_machine.proofs.Picking.{IsOnWay}
 

@@ -8,9 +8,6 @@ drop_none : (xs : List Bool) → drop (length xs) xs ≡ []
 drop_none [] = refl
 drop_none (x ∷ xs) = drop_none xs
 
-pub wrap_begins : (xs : List Bool) (n : ℕ) (x : Val) → n ≡ length xs → x ≡ wrapped (drop n xs) x
-wrap_begins xs n x e = ap (λ ys. wrapped ys x) (sym (ap (λ k. drop k xs) e ∙ drop_none xs))
-
 drop_at : (n : ℕ) (xs : List Bool) (b : Bool) → slice_get xs n ≡ Some b → drop n xs ≡ b ∷ drop (suc n) xs
 drop_at zero [] b h = absurd cc
 drop_at zero (x ∷ xs) b h = let e : x ≡ b = cc in ap (λ y. y ∷ xs) e

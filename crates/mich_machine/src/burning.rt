@@ -43,7 +43,7 @@ fn discard_all(alloc: Global, operations: Numbered) -> Result<Rows<Ticket>, Memo
 }
 
 // Burns the tickets of operations that are discarded, in the order of their numbers.
-#[tactic(auto, using(mich_undo::proofs::Histories::keeps_same))]
+#[tactic(auto, using(mich_undo::proofs::ForCallers::keeps_same))]
 pub(crate) fn burn_discarded(
     alloc: Global,
     ledger: &mut Ledger,

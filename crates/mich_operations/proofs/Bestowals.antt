@@ -1,5 +1,5 @@
 -- Gifts that a source orders.
-use Rattle.std.proofs.Common.{◌≡◌, ◌<◌, ◌^◌, ℕ, ℤ, ◌≤ℤ◌, ◌<ℤ◌, List, ◌∷◌, Bool, true, false, None, Some, Err, Result, refl, sym, ap, ◌∙◌, subst, is_some}
+use Rattle.std.proofs.Common.{◌≡◌, ◌<◌, ◌^◌, ℕ, ℤ, ◌≤ℤ◌, ◌<ℤ◌, List, ◌∷◌, Bool, true, false, Some, Err, Result, refl, sym, ap, ◌∙◌, subst, is_some}
 use Rattle.std.specs.Prelude.{neg_ℤ}
 use Rattle.std.specs.declared.option.Option.{Option}
 use Rattle.std.proofs.lemmas.List.Elements.{All-head}
@@ -20,12 +20,11 @@ use Rattle.rules_world.specs.Gives.{Gift, Offer, as_value, give_account, give_co
 use Rattle.rules_world.specs.Good.{FitsIn, IsGoodWaiting}
 use Rattle.rules_world.specs.Groups.{setting_of}
 use Rattle.rules_world.specs.Holdings.{debited}
-use Rattle.rules_world.specs.Outcomes.{Setting, Waiting, ordered, Counts as PlainCounts}
+use Rattle.rules_world.specs.Outcomes.{Setting, ordered, Counts as PlainCounts}
 use Rattle.rules_world.specs.Runs.{run}
 use Rattle.rules_world.specs.Targets.{Target, Search, met, missing, on_met, search}
 use Rattle.rules_world.specs.World.{World as PlainWorld, contract_at as plain_contract_at}
-use Rattle.laws_runs.proofs.Scripts.{IsMet, Searched, searched}
-use Rattle.laws_runs.proofs.Steps.{orderly_of}
+use Rattle.laws_runs.proofs.ForCallers.{IsMet, Searched, searched, orderly_of}
 use Rattle.mich_bigmap.specs.Bases.{Bases}
 use Rattle.mich_bigmap.specs.Standing.{val_in}
 use Rattle.mich_forms.specs.Spelled.{place_bytes}
@@ -37,7 +36,7 @@ use Rattle.mich_ops.specs.Told.{told}
 use Rattle.mich_ops.specs.View.{failure}
 use Rattle.mich_ops.specs.declared.failure.Failure.{Failure as Why}
 use Rattle.mich_ops.specs.declared.failure.Failure.TheVariants as failures
-use Rattle.mich_standing.proofs.Owners.{hash_of, implicit_of, place_length}
+use Rattle.mich_standing.proofs.ForCallers.{hash_of, implicit_of, place_length}
 use Rattle.mich_term.specs.TicketView.{held, identity}
 use Rattle.mich_term.specs.declared.ticket.Ticket.{Ticket}
 use Rattle.mich_term.specs.declared.ticket.TicketId.{TicketId}
@@ -73,12 +72,6 @@ module _ (v : World) (w : PlainWorld) (s : Setting) (issuer : List ℕ) (kind co
 
   pub small : size content < 2 ^ 32
   small = action.3
-
-  pub nothing_offered : offered o ≡ None → (gas left : ℕ) (old new : Counts) (z : World)
-      → EndsAs (with_offered (offered o) s w (place_bytes to) name gas (counts_of old)) z left old new (Err (Failed (failures.BadParameter 0)))
-  nothing_offered none gas left old new z =
-      ends_failed (with_offered (offered o) s w (place_bytes to) name gas (counts_of old)) z left old new (failures.BadParameter 0) (bad_parameter 0)
-      (ap (λ (q : Option Held). with_offered q s w (place_bytes to) name gas (counts_of old)) none) refl
 
   module _ (id : TicketId) (is : offered o ≡ Some (tickets_of id amount)) where
     abbrev t : Held

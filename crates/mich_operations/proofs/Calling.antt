@@ -18,11 +18,9 @@ use Rattle.rules_world.specs.Outcomes.{Setting, Waiting, ordered, Counts as Plai
 use Rattle.rules_world.specs.Targets.{Search, met, missing, search, on_met}
 use Rattle.rules_world.specs.Transfers.{Transaction, delivered, with_argument}
 use Rattle.rules_world.specs.World.{World as PlainWorld, contract_at as plain_contract_at}
-use Rattle.laws_accounts.proofs.ReadLiterals.{literal_fits, literal_empty}
-use Rattle.laws_runs.proofs.Scripts.{IsMet, Searched, searched}
-use Rattle.laws_runs.proofs.Steps.{orderly_of}
-use Rattle.laws_world.proofs.Calls.{called_call}
-use Rattle.laws_world.proofs.Taken.{taken_order}
+use Rattle.laws_accounts.proofs.ForCallers.{literal_fits, literal_empty}
+use Rattle.laws_runs.proofs.ForCallers.{IsMet, Searched, searched, orderly_of}
+use Rattle.laws_world.proofs.ForCallers.{called_call, taken_order}
 use Rattle.mich_arguments.specs.Arguments.{IsArgument}
 use Rattle.mich_bigmap.specs.Bases.{Bases}
 use Rattle.mich_bigmap.specs.Layers.{HasBases}
@@ -36,7 +34,7 @@ use Rattle.mich_ops.specs.Told.{told}
 use Rattle.mich_ops.specs.View.{failure}
 use Rattle.mich_ops.specs.declared.failure.Failure.{Failure as Why}
 use Rattle.mich_ops.specs.declared.failure.Failure.TheVariants as failures
-use Rattle.mich_standing.proofs.Owners.{hash_of, place_length}
+use Rattle.mich_standing.proofs.ForCallers.{hash_of, place_length}
 use Rattle.mich_term.specs.ValueView.{val}
 use Rattle.mich_term.specs.declared.value.Value.{Value}
 use Rattle.mich_world.specs.Holders.{contract_at}

@@ -23,17 +23,15 @@ use Rattle.rules_world.specs.Outcomes.{applied}
 use Rattle.rules_world.specs.Receipts.{Transfer}
 use Rattle.rules_world.specs.Transfers.{Transaction, account_failure, account_outcome, with_taken, received, with_ticket}
 use Rattle.rules_world.specs.World.{World as PlainWorld}
-use Rattle.laws_accounts.proofs.Amounts.{tickets_good, ticket_positive}
-use Rattle.laws_runs.proofs.Moves.{moved_moves}
-use Rattle.laws_runs.proofs.Steps.{orderly_of}
-use Rattle.laws_runs.proofs.Worlds.{at_itself}
+use Rattle.laws_accounts.proofs.ForCallers.{tickets_good, ticket_positive}
+use Rattle.laws_runs.proofs.ForCallers.{moved_moves, orderly_of, at_itself}
 use Rattle.mich_base.specs.Counted.{IsNotEmpty}
 use Rattle.mich_base.specs.View.{tree}
 use Rattle.mich_base.specs.declared.node.Node.{Node}
 use Rattle.mich_bigmap.specs.Bases.{Bases}
 use Rattle.mich_bigmap.specs.Extended.{Extends}
 use Rattle.mich_bigmap.specs.Standing.{val_in, big_step_in}
-use Rattle.mich_conditions.proofs.Fitting.{credits_fit}
+use Rattle.mich_conditions.proofs.ForCallers.{credits_fit}
 use Rattle.mich_forms.specs.Spelled.{place_bytes}
 use Rattle.mich_forms.specs.declared.places.Place.{Place}
 use Rattle.mich_forms.specs.declared.places.Place.TheVariants as place
@@ -43,7 +41,7 @@ use Rattle.mich_ops.specs.Told.{told}
 use Rattle.mich_ops.specs.View.{failure, effect as effect_of}
 use Rattle.mich_ops.specs.declared.failure.Failure.{Failure as Why}
 use Rattle.mich_ops.specs.declared.receipt.Effect.TheVariants as effect
-use Rattle.mich_standing.proofs.Agreement.{credits_agree}
+use Rattle.mich_standing.proofs.ForCallers.{credits_agree}
 use Rattle.mich_term.specs.TicketView.{held, identity}
 use Rattle.mich_term.specs.ValueView.{value_step}
 use Rattle.mich_term.specs.declared.ticket.Ticket.{Ticket}
@@ -60,8 +58,7 @@ use Rattle.mich_undo.specs.History.{Keeps}
 use Rattle.mich_world.specs.Marks.{KeepsWorld}
 use Rattle.mich_world.specs.Standing.{StandsFor}
 use Rattle.mich_world.specs.World.{World, with_funds, with_ledger}
-use Rattle.mich_world.proofs.Agreeing.{balance_or_none_is, moves_agree}
-use Rattle.mich_world.proofs.Marks.{ledger_lent}
+use Rattle.mich_world.proofs.ForCallers.{balance_or_none_is, moves_agree, ledger_lent}
 use Rattle.mich_operations.specs.Going.{EndsAs, KeepsContracts, WithMemory, issued_by}
 use Rattle.mich_operations.specs.Transfers.{IsSent, transaction}
 use Rattle.mich_operations.specs.declared.applied.Applied.{Applied}

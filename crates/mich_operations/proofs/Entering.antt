@@ -11,10 +11,9 @@ use Rattle.rules_types.specs.Kind.{Kind}
 use Rattle.rules_typing.specs.Scripts.{Script}
 use Rattle.rules_world.specs.Targets.{Target, met, with_entry, in_script, in_contract, search}
 use Rattle.rules_world.specs.World.{World, contract_at}
-use Rattle.laws_runs.proofs.Scripts.{entry_of_script}
-use Rattle.laws_runs.proofs.Worlds.{IsOrderly, contract_stores}
-use Rattle.laws_forms.proofs.Places.{place_length}
-use Rattle.mich_forms.proofs.OneSpelling.{entrypoint_of-spelled}
+use Rattle.laws_runs.proofs.ForCallers.{entry_of_script, IsOrderly, contract_stores}
+use Rattle.laws_forms.proofs.ForCallers.{place_length}
+use Rattle.mich_forms.proofs.ForCallers.{entrypoint_of-spelled}
 
 module _ (place name : List ℕ) (is_place : IsPlace place) (is_name : IsEntrypoint name) where
   pub place_is : place_of (spelled_address place name) ≡ place

@@ -25,7 +25,7 @@ use Rattle.mich_ops.specs.Told.{told}
 use Rattle.mich_ops.specs.View.{failure, effect as effect_of}
 use Rattle.mich_ops.specs.declared.failure.Failure.{Failure as Why}
 use Rattle.mich_ops.specs.declared.receipt.Effect.TheVariants as effect
-use Rattle.mich_standing.proofs.Agreement.{installs_agree}
+use Rattle.mich_standing.proofs.ForCallers.{installs_agree}
 use Rattle.mich_term.specs.Layers.{AreFormed}
 use Rattle.mich_term.specs.declared.value.Value.{Value}
 use Rattle.mich_undo.specs.Undone.{changed_at}
@@ -33,8 +33,7 @@ use Rattle.mich_world.specs.Holders.{Holders, by_bytes, rebalanced, with_balance
 use Rattle.mich_world.specs.Storages.{AreStored, Installs}
 use Rattle.mich_world.specs.World.{World}
 use Rattle.mich_world.specs.declared.contract.Contract.{Contract}
-use Rattle.mich_world.proofs.Agreeing.{balance_or_none_is}
-use Rattle.mich_world.proofs.Moves.{contracts_there}
+use Rattle.mich_world.proofs.ForCallers.{balance_or_none_is, contracts_there}
 use Rattle.mich_operations.specs.Foundings.{IsPayer, founding}
 use Rattle.mich_operations.specs.Going.{EndsAs, KeepsContracts, issued_by}
 use Rattle.mich_operations.specs.declared.applied.Applied.{Applied}

@@ -16,12 +16,10 @@ use Rattle.rules_world.specs.Holdings.{credited, debited, held_by}
 use Rattle.rules_world.specs.Outcomes.{Setting, applied, failed}
 use Rattle.rules_world.specs.World.{World as PlainWorld, account_at as plain_account_at}
 use Rattle.rules_world.specs.Balances as rules
-use Rattle.laws_accounts.proofs.Amounts.{ticket_positive}
-use Rattle.laws_runs.proofs.Moves.{moved_moves}
-use Rattle.laws_runs.proofs.Steps.{orderly_of}
+use Rattle.laws_accounts.proofs.ForCallers.{ticket_positive}
+use Rattle.laws_runs.proofs.ForCallers.{moved_moves, orderly_of}
 use Rattle.mich_base.specs.Counted.{IsNotEmpty}
-use Rattle.mich_conditions.proofs.Fitting.{credits_fit}
-use Rattle.mich_conditions.proofs.Waiting.{gifts_may_run}
+use Rattle.mich_conditions.proofs.ForCallers.{credits_fit, gifts_may_run}
 use Rattle.mich_forms.specs.Spelled.{place_bytes}
 use Rattle.mich_forms.specs.declared.places.Place.{Place}
 use Rattle.mich_forms.specs.declared.places.Place.TheVariants as place
@@ -29,9 +27,8 @@ use Rattle.mich_interpreter.specs.declared.state.Counts.{Counts}
 use Rattle.mich_machine.specs.Calls.{counts_of, IsHanded}
 use Rattle.mich_ops.specs.View.{effect as effect_of}
 use Rattle.mich_ops.specs.declared.failure.Failure.TheVariants as failures
-use Rattle.mich_standing.proofs.Agreement.{credits_agree, debits_agree}
-use Rattle.mich_standing.proofs.Opening.{credits_make_accounts}
-use Rattle.laws_forms.proofs.Places.{implicit_is}
+use Rattle.mich_standing.proofs.ForCallers.{credits_agree, debits_agree, credits_make_accounts}
+use Rattle.laws_forms.proofs.ForCallers.{implicit_is}
 use Rattle.mich_term.specs.TicketView.{held, identity}
 use Rattle.mich_term.specs.declared.ticket.Ticket.{Ticket}
 use Rattle.mich_term.specs.declared.ticket.TicketId.{TicketId}
@@ -42,7 +39,7 @@ use Rattle.mich_tickets.specs.Sums.{held_of}
 use Rattle.mich_world.specs.Holders.{Holders, account_at, moved as moved_in}
 use Rattle.mich_world.specs.Standing.{StandsFor}
 use Rattle.mich_world.specs.World.{World, with_funds, with_ledger}
-use Rattle.mich_world.proofs.Agreeing.{moves_agree}
+use Rattle.mich_world.proofs.ForCallers.{moves_agree}
 use Rattle.mich_operations.specs.Gifts.{IsGiven, IsTakenFrom, gift, tickets_of}
 use Rattle.mich_operations.specs.Going.{EndsAs, issued_by}
 use Rattle.mich_operations.specs.declared.applied.Applied.{Applied}

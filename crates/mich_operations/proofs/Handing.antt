@@ -26,18 +26,12 @@ use Rattle.rules_world.specs.RunLaws.{IsCall}
 use Rattle.rules_world.specs.Runs.{Call, environment_of}
 use Rattle.rules_world.specs.Targets.{Target}
 use Rattle.rules_world.specs.World.{World, account_or_none}
-use Rattle.laws_accounts.proofs.Holdings.{debited_held}
-use Rattle.laws_accounts.proofs.More.{fits_in_more}
-use Rattle.laws_accounts.proofs.ReadLiterals.{compared_fits}
-use Rattle.laws_runs.proofs.Scripts.{IsMet, met_more}
-use Rattle.laws_runs.proofs.Steps.{orderly_of}
-use Rattle.laws_runs.proofs.Worlds.{IsOrderly, account_holdings}
+use Rattle.laws_accounts.proofs.ForCallers.{debited_held, fits_in_more, compared_fits}
+use Rattle.laws_runs.proofs.ForCallers.{IsMet, met_more, orderly_of, IsOrderly, account_holdings}
 use Rattle.laws_runs.specs.Going.{IsSetting, IsGoing}
-use Rattle.laws_types.proofs.SameKinds.{same_kind_true}
-use Rattle.laws_world.proofs.Accounts.{IsReceived, account_changed}
-use Rattle.laws_world.proofs.Calls.{run_called}
-use Rattle.laws_world.proofs.Taken.{taken_on, taken_order}
-use Rattle.mich_standing.proofs.Accounts.{account_held}
+use Rattle.laws_types.proofs.ForCallers.{same_kind_true}
+use Rattle.laws_world.proofs.ForCallers.{IsReceived, account_changed, run_called, taken_on, taken_order}
+use Rattle.mich_standing.proofs.ForCallers.{account_held}
 
 -- ---- the ticket
 

@@ -4,7 +4,6 @@ use Rattle.std.specs.BTreeMap.{is_at}
 use Rattle.std.specs.List.{AllByRecursion}
 use Rattle.rules_world.specs.World.{World as PlainWorld}
 use Rattle.mich_bigmap.specs.Bases.{Bases}
-use Rattle.mich_bigmap.specs.Ticketless.{HoldNoTickets}
 use Rattle.mich_forms.specs.declared.places.Place.{Place}
 use Rattle.mich_forms.specs.declared.places.Place.TheVariants as place
 use Rattle.mich_instr.specs.Scripts.{IsTypedScript}
@@ -15,8 +14,7 @@ use Rattle.mich_world.specs.Marks.{IsSame, KeepsWorld}
 use Rattle.mich_world.specs.Standing.{AreThose, StandsFor}
 use Rattle.mich_world.specs.Storages.{IsStored}
 use Rattle.mich_world.specs.World.{World, with_funds}
-use Rattle.mich_world.proofs.Moves.{contracts_there}
-use Rattle.mich_world.proofs.Marks.{world_same}
+use Rattle.mich_world.proofs.ForCallers.{contracts_there, world_same}
 use Rattle.mich_operations.specs.Going.{KeepsContracts, WithMemory}
 use Rattle.mich_operations.specs.declared.applied.ApplyError.{ApplyError}
 use Rattle.mich_operations.specs.declared.applied.ApplyError.TheVariants.{Failed, Memory}
@@ -75,12 +73,6 @@ keeps_same (Failed why) v = world_same v
 keeps_same Memory v = tt
 
 -- ---- worlds that are one
-
-pub hosting_same : (v w : World) → IsSame v w → IsHosting v → IsHosting w
-hosting_same v w s h =
-    let a = subst (λ b. AreHosts b.present v.funds.present) (sym s.bases) (h.typed, h.stored) in
-    let b = subst (λ f. AreHosts w.store.bases.present f.present) (sym s.funds) a in
-    record { typed = b.0; stored = b.1; ticketless = subst (λ b. HoldNoTickets b.present) (sym s.bases) h.ticketless }
 
 -- one stands for what the other stands for
 pub stands_same : (v w : World) (x : PlainWorld) → IsSame v w → StandsFor v x → StandsFor w x

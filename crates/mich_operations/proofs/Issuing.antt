@@ -3,7 +3,7 @@ use Rattle.std.proofs.Common.{◌≡◌, ◌-◌, ℕ, Bool, true, false, List, 
 use Rattle.std.specs.Prelude.{nat_lt, option_map}
 use Rattle.std.specs.declared.option.Option.{Option}
 use Rattle.std.proofs.lemmas.List.Elements.{All-head}
-use Rattle.laws_operations.proofs.NewContracts.{new_length}
+use Rattle.laws_operations.proofs.ForCallers.{new_length}
 use Rattle.rules_evaluation.specs.Operations.{origination}
 use Rattle.rules_evaluation.specs.Surroundings.{Contract as PlainContract}
 use Rattle.rules_forms.specs.Spelling.{contract_place}
@@ -22,8 +22,7 @@ use Rattle.mich_base.specs.declared.ty.Ty.{Ty}
 use Rattle.mich_bigmap.specs.Bases.{Bases}
 use Rattle.mich_bigmap.specs.Standing.{val_in, big_val_in, big_step_in}
 use Rattle.mich_bigmap.specs.Ticketless.{HoldNoTickets}
-use Rattle.mich_conditions.proofs.Fitting.{installs_fit}
-use Rattle.mich_conditions.proofs.Waiting.{originations_may_run}
+use Rattle.mich_conditions.proofs.ForCallers.{installs_fit, originations_may_run}
 use Rattle.mich_forms.specs.declared.places.Place.TheVariants as place
 use Rattle.mich_instr.specs.View.{script_node}
 use Rattle.mich_instr.specs.declared.instr.Script.{Script}
@@ -31,7 +30,7 @@ use Rattle.mich_instr.specs.declared.issued.Issued.{Issued}
 use Rattle.mich_instr.specs.declared.issued.Issued.TheVariants as i
 use Rattle.mich_machine.specs.Calls.{counts_of}
 use Rattle.mich_interpreter.specs.declared.state.Counts.{Counts}
-use Rattle.mich_standing.proofs.Agreement.{contracts_agree}
+use Rattle.mich_standing.proofs.ForCallers.{contracts_agree}
 use Rattle.mich_term.specs.Layers.{AreFormed}
 use Rattle.mich_term.specs.ValueView.{val, value_step}
 use Rattle.mich_term.specs.declared.value.BigMap.{BigMap}
@@ -44,7 +43,7 @@ use Rattle.mich_world.specs.Standing.{plain}
 use Rattle.mich_world.specs.Storages.{owner_of}
 use Rattle.mich_world.specs.World.{World}
 use Rattle.mich_world.specs.declared.contract.Contract.{Contract}
-use Rattle.mich_world.proofs.Marks.{world_same}
+use Rattle.mich_world.proofs.ForCallers.{world_same}
 use Rattle.mich_operations.specs.Foundings.{IsPayer, founding}
 use Rattle.mich_operations.specs.Going.{Begins, EndsAs, WithMemory, issued_by}
 use Rattle.mich_operations.specs.declared.applied.Applied.{Applied}

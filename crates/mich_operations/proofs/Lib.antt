@@ -13,3 +13,4 @@ pub mod Given
 pub mod Handing
 pub mod Bestowals
 pub mod Sent
+pub mod ForCallers

@@ -19,8 +19,8 @@ use Rattle.rules_values.specs.Val.{Val, is_comparable}
 use Rattle.rules_world.specs.Gives.{Offer, offered, ticket_by, ticket_with}
 use Rattle.rules_world.specs.Good.{known_with}
 use Rattle.rules_world.specs.World.{World, new_world}
-use Rattle.laws_accounts.proofs.ReadLiterals.{compared_fits}
-use Rattle.laws_stacks.proofs.Identities.{comparable_value}
+use Rattle.laws_accounts.proofs.ForCallers.{compared_fits}
+use Rattle.laws_stacks.proofs.ForCallers.{comparable_value}
 use Rattle.mich_base.specs.TypeView.{kind}
 use Rattle.mich_base.specs.declared.ty.Ty.{Ty}
 use Rattle.mich_forms.specs.Spelled.{place_bytes}

@@ -1,11 +1,11 @@
 -- Contracts that a source makes.
 use Rattle.std.proofs.Common.{◌≡◌, ◌≤◌, ◌<◌, ◌+◌, ◌^◌, ℕ, List, false, is_some, refl, sym, ap, ◌∙◌, subst, arith, Ok, Err, Result}
 use Rattle.std.proofs.lemmas.List.Elements.{All-head}
-use Rattle.rules_base.specs.Limits.{most_mutez}
+use Rattle.rules_base.specs.Limits.{most_contents, most_mutez}
 use Rattle.rules_base.specs.Tree.{Tree, size}
 use Rattle.rules_evaluation.specs.Operations.{new_contract}
 use Rattle.rules_instructions.specs.Arguments.{Found, found, fault}
-use Rattle.rules_steps.specs.Failure.{ill_typed, bad_storage}
+use Rattle.rules_steps.specs.Failure.{bad_storage}
 use Rattle.rules_typing.specs.Nodes.{script}
 use Rattle.rules_typing.specs.Scripts.{Script as PlainScript}
 use Rattle.rules_forms.specs.Spelling.{implicit_place}
@@ -19,27 +19,26 @@ use Rattle.rules_world.specs.Good.{IsGoodWaiting}
 use Rattle.rules_world.specs.Originations.{Founding, found_contract, founding_of, one_more, with_script, with_storage}
 use Rattle.rules_world.specs.Outcomes.{Setting, Outcome, Counts as PlainCounts, ordered}
 use Rattle.rules_world.specs.World.{World as PlainWorld}
-use Rattle.laws_accounts.proofs.ReadLiterals.{literal_empty, literal_fits}
-use Rattle.laws_operations.proofs.NewContracts.{new_length}
-use Rattle.laws_runs.proofs.Codes.{script_code}
+use Rattle.laws_accounts.proofs.ForCallers.{literal_empty, literal_fits}
+use Rattle.laws_operations.proofs.ForCallers.{new_length}
+use Rattle.laws_runs.proofs.ForCallers.{script_code}
 use Rattle.laws_types.specs.Laws.{IsWellFormed}
 use Rattle.mich_base.specs.TypeView.{kind}
 use Rattle.mich_bigmap.specs.Bases.{Bases}
 use Rattle.mich_bigmap.specs.Standing.{val_in}
 use Rattle.mich_bigmap.specs.Ticketless.{HoldNoTickets}
-use Rattle.mich_conditions.proofs.Fitting.{installs_fit}
-use Rattle.mich_conditions.proofs.Waiting.{plain_values_may_run}
+use Rattle.mich_conditions.proofs.ForCallers.{installs_fit, plain_values_may_run}
 use Rattle.mich_data.specs.Whole.{IsWhole}
 use Rattle.mich_forms.specs.declared.places.Place.TheVariants as place
 use Rattle.mich_instr.specs.Scripts.{IsTypedScript}
 use Rattle.mich_instr.specs.View.{script_node}
 use Rattle.mich_instr.specs.declared.instr.Script.{Script, out-Script}
-use Rattle.mich_arguments.proofs.Entries.{storage_read}
+use Rattle.mich_arguments.proofs.ForCallers.{storage_read}
 use Rattle.mich_interpreter.specs.declared.state.Counts.{Counts}
 use Rattle.mich_machine.specs.Calls.{counts_of}
 use Rattle.mich_ops.specs.declared.failure.Failure.TheVariants as failures
-use Rattle.mich_standing.proofs.Agreement.{contracts_agree}
-use Rattle.laws_forms.proofs.Places.{implicit_is}
+use Rattle.mich_standing.proofs.ForCallers.{contracts_agree}
+use Rattle.laws_forms.proofs.ForCallers.{implicit_is}
 use Rattle.mich_term.specs.Layers.{AreFormed}
 use Rattle.mich_term.specs.ValueView.{val}
 use Rattle.mich_term.specs.declared.value.Value.{Value}
@@ -80,16 +79,15 @@ module _ (v : World) (w : PlainWorld) (s : Setting) (balance : ℕ) (t u : Tree)
   its_fields : (balance ≤ most_mutez) × IsSmall t × IsSmall u
   its_fields = All-head (IsGoodWaiting w) (ordered (Originate balance t u)) b.next.behind b.next.going.good.waits
 
-  pub small_script : size t < 2 ^ 32
-  small_script = its_fields.1
-
   pub small_storage : size u < 2 ^ 32
   small_storage = its_fields.2
 
   -- the count of originations has room
-  pub few_originations : counts.originations + 1 < 2 ^ 32
-  few_originations =
-      let a = b.next.going.operations in let o = b.next.going.originations in let few = b.next.few in omega (arith, a, o, few)
+  pub originations_within : counts.originations + 1 ≤ counts.operations + most_contents
+  originations_within = let o = b.next.going.originations in let few = b.next.few in omega (arith, o, few)
+
+  few_originations : counts.originations + 1 < 2 ^ 32
+  few_originations = let a = b.next.going.operations in let within = originations_within in omega (arith, a, within)
 
   pub absent_there : is_some (contract_at v.funds.present (new_contract s.group counts.originations)) ≡ false
   absent_there =
@@ -119,9 +117,6 @@ module _ (v : World) (w : PlainWorld) (s : Setting) (balance : ℕ) (t u : Tree)
 -- ---- how it ends
 
 module _ (w : PlainWorld) (s : Setting) (balance : ℕ) (t u : Tree) (x : World) (gas : ℕ) (old : Counts) where
-  pub ends_ill_typed : (new : Counts) (l : ℕ) → script t ≡ fault l → EndsAs (with_script (script t) s w balance t u gas (counts_of old)) x gas old new (Err (Failed (failures.IllTyped l)))
-  ends_ill_typed new l e = ends_failed _ x gas old new (failures.IllTyped l) (ill_typed l) (ap (λ (f : Found PlainScript). with_script f s w balance t u gas (counts_of old)) e) refl
-
   module _ (p : PlainScript) (a : Kind) (read : script t ≡ found p) (stored : p.storage ≡ a) where
     reads_storage : with_script (script t) s w balance t u gas (counts_of old) ≡ with_storage (literal_in w a u) s w balance t gas (counts_of old)
     reads_storage =

@@ -8,7 +8,7 @@ use Rattle.std.proofs.lemmas.Bool.Decides.{nat_tests}
 use Rattle.rules_forms.specs.Spelling.{default_name, spelled_address, implicit_place, is_implicit, is_key_hash, is_place}
 use Rattle.rules_gas.specs.declared.Kind.{Kind}
 use Rattle.rules_gas.specs.Prices.{Listed, cost}
-use Rattle.rules_steps.specs.Failure.{Failure, out_of_gas, empty_transaction, balance_too_low, no_entrypoint}
+use Rattle.rules_steps.specs.Failure.{Failure, empty_transaction, balance_too_low, no_entrypoint}
 use Rattle.rules_values.specs.Canonical.{canonical}
 use Rattle.rules_values.specs.Val.{Val, Pairs, unit}
 use Rattle.rules_base.specs.Tree.{Tree}
@@ -47,7 +47,7 @@ use Rattle.mich_ops.specs.declared.receipt.Effect.TheVariants as effect
 use Rattle.mich_world.specs.Holders.{may_receive, moved, balance_or_none as balance_in}
 use Rattle.mich_world.specs.Standing.{StandsFor}
 use Rattle.mich_world.specs.World.{World, with_funds}
-use Rattle.mich_world.proofs.Agreeing.{balance_or_none_is, moves_agree}
+use Rattle.mich_world.proofs.ForCallers.{balance_or_none_is, moves_agree}
 use Rattle.mich_operations.specs.Going.{Begins, EndsAs, issued_by}
 use Rattle.mich_operations.specs.Transfers.{AreBetween, transaction}
 use Rattle.mich_operations.specs.declared.applied.Applied.{Applied}
@@ -68,9 +68,6 @@ pub charged_paid : (prices : Listed) (kind : Kind) (gas left : ℕ) (next : ℕ 
     charged prices kind gas next ≡ next left
 charged_paid prices kind gas left next h e = ap (λ b. charged_by b (gas - cost prices kind 0) next) h ∙ ap next (sym e)
 
-pub charged_out : (prices : Listed) (kind : Kind) (gas : ℕ) (next : ℕ → Outcome) → nat_lt gas (cost prices kind 0) ≡ true → charged prices kind gas next ≡ failed out_of_gas
-charged_out prices kind gas next h = ap (λ b. charged_by b (gas - cost prices kind 0) next) h
-
 -- ---- to an account
 
 nonzero : (n : ℕ) → n ≢ 0 → (n == 0) ≡ false
@@ -85,11 +82,6 @@ not_below n m h = grind (arith, nat_tests)
 module _ (w : PlainWorld) (t : Transaction) (x : Val) where
   abbrev fails : Bool → Bool → Option Failure
   fails a b = if a then Some empty_transaction else if b then Some balance_too_low else None
-
-  pub empty_fails : t.amount ≡ 0 → as_ticket x ≡ None → account_failure w t x ≡ Some empty_transaction
-  empty_fails e plain =
-      let none : ((t.amount == 0) && is_none (as_ticket x)) ≡ true = λ i. (e i == 0) && is_none (plain i) in
-      ap (λ a. fails a (nat_lt (balance_or_none w t.sender) t.amount)) none
 
   some_paid : t.amount ≢ 0 → ((t.amount == 0) && is_none (as_ticket x)) ≡ false
   some_paid h = ap (λ b. b && is_none (as_ticket x)) (nonzero t.amount h)
@@ -107,11 +99,6 @@ module _ (u : World) (w : PlainWorld) (from : Place) (to entry : List ℕ) (amou
 
   balance_here : balance_in u.funds.present from ≡ balance_or_none w t.sender
   balance_here = balance_or_none_is u.funds.present u.store.bases.present u.ledger.books.present w from b.stands.those b.sender
-
-  pub pays_nothing : (v : World) (f : Why) → amount ≡ 0 → as_ticket x ≡ None → failure f ≡ told empty_transaction →
-      EndsAs (with_taken (Some x) w t gas (counts_of counts)) v gas counts counts (Err (Failed f))
-  pays_nothing v f e plain h =
-      ends_failed _ v gas counts counts f empty_transaction (ap (λ o. account_outcome o w t x gas (counts_of counts)) (empty_fails w t x e plain)) h
 
   pub pays_too_much : (v : World) (f : Why) → amount ≢ 0 → balance_in u.funds.present from < amount → failure f ≡ told balance_too_low →
       EndsAs (with_taken (Some x) w t gas (counts_of counts)) v gas counts counts (Err (Failed f))

@@ -23,10 +23,9 @@ use Rattle.rules_world.specs.Runs.{Call, environment_of, Finished as PlainFinish
 use Rattle.rules_world.specs.Targets.{Target}
 use Rattle.rules_world.specs.Transfers.{transfer_effect, if_covered}
 use Rattle.rules_world.specs.World.{World as PlainWorld, contract_at as plain_contract_at}
-use Rattle.laws_accounts.proofs.More.{Extends}
+use Rattle.laws_accounts.proofs.ForCallers.{Extends}
 use Rattle.laws_runs.specs.RunEnds.{IsFinished as IsFinishedRun, EndsWell}
-use Rattle.laws_runs.proofs.Runs.{runs_end_well}
-use Rattle.laws_runs.proofs.Worlds.{extends_replaced}
+use Rattle.laws_runs.proofs.ForCallers.{runs_end_well, extends_replaced}
 use Rattle.mich_base.specs.View.{tree}
 use Rattle.mich_base.specs.declared.node.Node.{Node}
 use Rattle.mich_bigmap.specs.Bases.{Bases}
@@ -46,9 +45,8 @@ use Rattle.mich_ops.specs.Told.{told}
 use Rattle.mich_ops.specs.View.{failure, effect as effect_of, change as change_of}
 use Rattle.mich_ops.specs.declared.failure.Failure.{Failure as Why}
 use Rattle.mich_ops.specs.declared.receipt.Effect.TheVariants as effects
-use Rattle.mich_standing.proofs.Agreement.{contracts_agree}
-use Rattle.mich_standing.proofs.Contracts.{length_is}
-use Rattle.laws_forms.proofs.Places.{contract_is}
+use Rattle.mich_standing.proofs.ForCallers.{contracts_agree, length_is}
+use Rattle.laws_forms.proofs.ForCallers.{contract_is}
 use Rattle.mich_step.specs.Views.{environment}
 use Rattle.mich_step.specs.declared.environment.Env.{Env}
 use Rattle.mich_term.specs.declared.ticket.Change.{Change}
@@ -59,7 +57,7 @@ use Rattle.mich_world.specs.Holders.{contract_at, may_receive, balance_or_none a
 use Rattle.mich_world.specs.Standing.{plain, StandsFor}
 use Rattle.mich_world.specs.World.{World, with_funds}
 use Rattle.mich_world.specs.declared.contract.Contract.{Contract}
-use Rattle.mich_world.proofs.Agreeing.{balance_or_none_is, moves_agree}
+use Rattle.mich_world.proofs.ForCallers.{balance_or_none_is, moves_agree}
 use Rattle.mich_operations.specs.Calls.{call_of, covered, IsReady, IsDue}
 use Rattle.mich_operations.specs.Going.{EndsAs, KeepsContracts, WithMemory, issued_by}
 use Rattle.mich_operations.specs.Transfers.{transaction}

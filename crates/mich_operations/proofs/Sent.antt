@@ -1,13 +1,12 @@
 -- Transfers that contracts issue.
-use Rattle.std.proofs.Common.{◌≡◌, ◌≤◌, ℕ, ◌∷◌, [], Bool, true, false, List, length, length-append, None, Some, Result, refl, sym, ap, ◌∙◌, subst, is_some, arith, inl, inr}
+use Rattle.std.proofs.Common.{◌≡◌, ℕ, ◌∷◌, [], Bool, true, false, List, length, length-append, None, Some, Result, refl, sym, ap, ◌∙◌, subst, is_some, arith}
 use Rattle.std.specs.Prelude.{if◌then◌else◌}
 use Rattle.std.specs.Str.{bytes_eq}
 use Rattle.std.specs.declared.option.Option.{Option}
-use Rattle.std.proofs.lemmas.Bool.Decides.{nat_tests}
 use Rattle.std.proofs.lemmas.List.Elements.{All-head}
 use Rattle.rules_evaluation.specs.Contracts.{hash_in, takes}
 use Rattle.rules_evaluation.specs.Operations.{transfer}
-use Rattle.rules_forms.specs.Spelling.{IsPlace, IsKeyHash, IsEntrypoint, contract_place, default_name, implicit_place, spelled_address, place_of, entrypoint_of, is_implicit, is_key_hash, is_place}
+use Rattle.rules_forms.specs.Spelling.{IsPlace, IsEntrypoint, contract_place, default_name, implicit_place, spelled_address, place_of, entrypoint_of, is_implicit, is_place}
 use Rattle.rules_instructions.specs.Arguments.{found}
 use Rattle.rules_steps.specs.Changes.{amount_in}
 use Rattle.rules_steps.specs.Failure.{no_entrypoint}
@@ -22,20 +21,17 @@ use Rattle.rules_world.specs.Outcomes.{Setting, Waiting, issued, failed, Counts 
 use Rattle.rules_world.specs.Targets.{Target, Search, met, search, on_met}
 use Rattle.rules_world.specs.Transfers.{Transaction, as_ticket, delivered, to_account, with_argument, with_taken}
 use Rattle.rules_world.specs.World.{World as PlainWorld, contract_at as plain_contract_at}
-use Rattle.laws_runs.proofs.Scripts.{IsMet, Searched, searched, address_takes, met_takes}
-use Rattle.laws_runs.proofs.Steps.{orderly_of}
-use Rattle.laws_world.proofs.Calls.{called_call}
-use Rattle.laws_world.proofs.Taken.{taken_transfer}
+use Rattle.laws_runs.proofs.ForCallers.{IsMet, Searched, searched, address_takes, met_takes, orderly_of}
+use Rattle.laws_world.proofs.ForCallers.{called_call, taken_transfer}
 use Rattle.mich_bigmap.specs.Standing.{val_in}
-use Rattle.mich_conditions.proofs.Waiting.{transfers_may_run}
+use Rattle.mich_conditions.proofs.ForCallers.{transfers_may_run}
 use Rattle.mich_forms.specs.Spelled.{place_bytes}
-use Rattle.laws_forms.proofs.Places.{place_length}
+use Rattle.laws_forms.proofs.ForCallers.{place_length}
 use Rattle.mich_forms.specs.declared.places.Place.{Place}
 use Rattle.mich_forms.specs.declared.places.Place.TheVariants as place
 use Rattle.mich_interpreter.specs.declared.state.Counts.{Counts}
 use Rattle.mich_machine.specs.Calls.{counts_of}
-use Rattle.laws_forms.proofs.Places.{implicit_is}
-use Rattle.mich_standing.proofs.Owners.{hash_of, implicit_of}
+use Rattle.mich_standing.proofs.ForCallers.{hash_of, implicit_of}
 use Rattle.mich_term.specs.TicketView.{held}
 use Rattle.mich_term.specs.declared.ticket.Ticket.{Ticket}
 use Rattle.mich_term.specs.declared.value.Value.{Value}

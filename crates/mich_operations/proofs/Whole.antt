@@ -10,9 +10,7 @@ use Rattle.mich_bigmap.specs.Bases.{Bases, entries_in, seen}
 use Rattle.mich_bigmap.specs.Formed.{is_there}
 use Rattle.mich_bigmap.specs.Layers.{BasedLayer, HasBases}
 use Rattle.mich_bigmap.specs.Standing.{val_in, big_val_in, big_step_in}
-use Rattle.mich_bigmap.proofs.Meaning.{none_in}
-use Rattle.mich_bigmap.proofs.Plain.{big_val_is, alone_is}
-use Rattle.mich_bigmap.proofs.Staying.{each_both, each_more, agree, equals}
+use Rattle.mich_bigmap.proofs.ForCallers.{none_in, big_val_is, alone_is, each_both, each_more, agree, equals}
 use Rattle.mich_data.specs.Whole.{Layer, IsSimple, IsOption, IsEither, IsPair, IsListOf, IsSet, IsMapTo, IsLambda, IsBig, IsPut, LiesWhole, IsWhole}
 use Rattle.mich_term.specs.Layers.{FormedLayer, AreFormed}
 use Rattle.mich_term.specs.ValueView.{val, big_pairs, big_step}
@@ -20,8 +18,8 @@ use Rattle.mich_term.specs.declared.datum.Datum.{Datum}
 use Rattle.mich_term.specs.declared.value.Value.{Value, roll-Value, out-Value, roll-out-Value}
 use Rattle.mich_term.specs.declared.value.Value.TheOpen.{Value-F, BigMap-F}
 use Rattle.mich_term.specs.declared.value.BigMap.{BigMap, out-BigMap}
-use Rattle.mich_term.proofs.Each as e
-use Rattle.mich_term.proofs.Overlays.{big_is}
+use Rattle.mich_term.proofs.ForCallers.Each as e
+use Rattle.mich_term.proofs.ForCallers.{big_is}
 
 -- a big map without a base
 abbrev NoBase : BigMap-F Value BigMap → Type 0

@@ -1,40 +1,18 @@
 -- A node whose names have codes, and whose binary form is short, is encoded.
-use Rattle.std.proofs.Common.{◌≡◌, ℕ, ◌+◌, ◌<◌, ◌≤◌, ◌^◌, List, Bool, true, false, cond, length, None, Ok, Err, refl, sym, ap, ◌∙◌, arith, nat_lt, nat_eq}
+use Rattle.std.proofs.Common.{◌≡◌, ℕ, ◌+◌, ◌<◌, ◌≤◌, ◌^◌, List, false, length, None, Ok, Err, refl, sym, ap, ◌∙◌, arith, nat_lt}
 use Rattle.std.specs.List.{position}
 use Rattle.std.proofs.lemmas.Bool.Decides.{nat_tests}
 use Rattle.rules_base.specs.Limits.{encoded_limit, byte_limit}
 use Rattle.rules_base.specs.Tree.{Tree, int, str, bytes, prim, seq, Trees, none, more, size, sizes, preorder, preorders}
-use Rattle.rules_binary.specs.Spelling.{joined, count, spelling}
+use Rattle.rules_binary.specs.Spelling.{spelling}
 use Rattle.rules_binary.specs.Encoding.{Refusal, lacks_code, encoded_by, encoded}
 use Rattle.mich_binary.specs.Scanning.{scanned}
-use Rattle.mich_binary.proofs.Scans.{onward, scan_append, none_found}
-use Rattle.mich_pack.specs.Lengths.{node_length, nodes_length}
+use Rattle.mich_binary.proofs.ForCallers.{onward, scan_append, none_found}
+use Rattle.laws_binary.proofs.ForCallers.{half_as_many}
 use Rattle.laws_packing.specs.Names.{HasCodes, HaveCodes}
-use Rattle.mich_pack.proofs.Lengths.{node_length_is}
-
-own_by : (few bare : Bool) → 1 ≤ cond few (cond bare 2 6) 10
-own_by true true = omega arith
-own_by true false = omega arith
-own_by false bare = omega arith
-
-mutual
-  within : (t : Tree) → size t ≤ node_length t
-  within (int n) = omega arith
-  within (str s) = omega arith
-  within (bytes b) = omega arith
-  within (prim name annots args) = omega (arith, all_within args, own_by (nat_lt (count args) 3) (nat_eq (length (joined annots)) 0))
-  within (seq ts) = omega (arith, all_within ts)
-
-  all_within : (ts : Trees) → sizes ts ≤ nodes_length ts
-  all_within none = omega arith
-  all_within (more t ts) = omega (arith, within t, all_within ts)
-
--- a node has no more nodes than its binary form has bytes
-pub size_within : (t : Tree) → size t ≤ length (spelling t)
-size_within t = omega (arith, within t, node_length_is t)
 
 pub node_is_small : (t : Tree) → length (spelling t) + 1 ≤ byte_limit → size t < 2 ^ 32
-node_is_small t short = omega (arith, size_within t, short)
+node_is_small t short = omega (arith, half_as_many t, short)
 
 mutual
   scan_node : (t : Tree) → HasCodes t → (at : ℕ) → scanned at (preorder t) ≡ Ok (at + size t)

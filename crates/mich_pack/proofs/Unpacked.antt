@@ -1,21 +1,14 @@
 -- What bytes pack, with a test of what is still to be tried.
-use Rattle.std.proofs.Common.{◌≡◌, ℕ, ◌<◌, ◌^◌, List, [], ◌∷◌, Bool, true, false, cond, length, Option, Some, None, Result, Ok, Err, refl, ap, ◌∙◌, arith, nat_eq}
-use Rattle.rules_base.specs.Tree.{Tree, size}
+use Rattle.std.proofs.Common.{◌≡◌, ℕ, List, [], ◌∷◌, Bool, true, false, cond, Option, Some, None, Result, Ok, Err, refl, ◌∙◌, nat_eq}
+use Rattle.rules_base.specs.Tree.{Tree}
 use Rattle.rules_binary.specs.Reading.{Fault, decoded}
 use Rattle.rules_types.specs.Kind.{Kind}
 use Rattle.rules_values.specs.Val.{Val}
 use Rattle.rules_values.specs.Literals.{Literal, good, bad}
 use Rattle.rules_steps.specs.Packing.{Trial, tried, of_decoded, unpacked}
 use Rattle.mich_base.specs.declared.memory.Memory.{Memory}
-use Rattle.laws_binary.specs.Laws.{IsBytes}
-use Rattle.laws_binary.proofs.Nodes.{decoded_is_spelt}
 use Rattle.mich_data.specs.declared.pending.Read.{Read}
 use Rattle.mich_pack.specs.Answers.{literal_by, packed_literal, IsLiteral, IsUnpacked, passed, IsTried}
-use Rattle.mich_pack.proofs.Sizes.{size_within}
-
--- a node that is decoded has fewer nodes than there are bytes
-pub decoded_is_small : (b : List ℕ) (t : Tree) → IsBytes b → length b < 2 ^ 32 → decoded b ≡ Ok t → size t < 2 ^ 32
-decoded_is_small b t fits short e = omega (arith, size_within t, ap length (decoded_is_spelt b t fits e), short)
 
 decoded_tried : (passes : Trial) (a : Kind) (r : Result Tree Fault) → of_decoded passes a r ≡ tried passes (literal_by a r)
 decoded_tried passes a (Ok t) = refl

@@ -8,7 +8,7 @@ ghost use Rattle.mich_pack.specs.Lengths.{node_length, nodes_length, own_length}
 use mich_base::{App, Node, Nodes, Text};
 
 // Groups of seven bits.
-#[tactic(auto, using(laws_binary::proofs::Integers::more_groups, laws_binary::proofs::Integers::one_group))]
+#[tactic(auto, using(laws_binary::proofs::ForCallers::more_groups, laws_binary::proofs::ForCallers::one_group))]
 fn groups_len(n: u128) -> u64
     ensures { result ≡ capped (length (groups n)) }
 {

@@ -1,41 +1,45 @@
 // What instructions on strings and bytes weigh.
-ghost use Rattle.std.specs.Prelude.{◌≡◌, ◌+◌, pos, length, unsigned_abs, IfOk};
+ghost use Rattle.std.specs.Prelude.{◌≡◌, ◌+◌, ◌≤ℤ◌, pos, length, unsigned_abs};
 ghost use Rattle.rules_instructions.specs.Straight as i;
 ghost use Rattle.rules_steps.specs.Costs.{length_found, text_weight};
 ghost use Rattle.rules_steps.specs.Sets.{element_count};
 ghost use Rattle.rules_steps.specs.Texts.{joined, slice};
 ghost use Rattle.mich_collections.specs.Seen.{vals_by};
+ghost use Rattle.mich_collections.specs.Shapes.{IsListOnTop};
 ghost use Rattle.mich_overload.specs.View.{text_row};
 ghost use Rattle.mich_term.specs.Weights.{capped};
 ghost use Rattle.mich_stack.specs.Views.{Sight, values};
+ghost use Rattle.mich_prices.specs.Operands.{HasText};
 
-use mich_base::{Memory, Rows};
+use mich_base::Rows;
 use mich_collections::{bytes_of, cut};
 use mich_overload::TextRow;
 use mich_stack::{split_top, three_on_top, two_on_top};
 use mich_term::{Chain, Value, split_head};
 
 // Those of two strings.
-fn strings_weight(stack: &Rows<Value>) -> Result<u64, Memory>
-    ensures { IfOk result (λ w. (big : Sight) → w ≡ capped (text_weight i.concat_strings (values big stack.now))) }
+fn strings_weight(stack: &Rows<Value>) -> u64
+    requires { (big : Sight) × HasText i.concat_strings (values big stack.now) }
+    ensures { (big : Sight) → result ≡ capped (text_weight i.concat_strings (values big stack.now)) }
 {
     match two_on_top(stack.as_slice()) {
         Some((Value::Text(s), Value::Text(t), _)) => {
-            Ok((s.as_slice().len() as u64).saturating_add(t.as_slice().len() as u64))
+            (s.as_slice().len() as u64).saturating_add(t.as_slice().len() as u64)
         }
-        _ => Err(Memory),
+        _ => unreachable!(),
     }
 }
 
 // Those of two bytes.
-fn bytes_weight(stack: &Rows<Value>) -> Result<u64, Memory>
-    ensures { IfOk result (λ w. (big : Sight) → w ≡ capped (text_weight i.concat_bytes (values big stack.now))) }
+fn bytes_weight(stack: &Rows<Value>) -> u64
+    requires { (big : Sight) × HasText i.concat_bytes (values big stack.now) }
+    ensures { (big : Sight) → result ≡ capped (text_weight i.concat_bytes (values big stack.now)) }
 {
     match two_on_top(stack.as_slice()) {
         Some((Value::Bytes(s), Value::Bytes(t), _)) => {
-            Ok((s.as_slice().len() as u64).saturating_add(t.as_slice().len() as u64))
+            (s.as_slice().len() as u64).saturating_add(t.as_slice().len() as u64)
         }
-        _ => Err(Memory),
+        _ => unreachable!(),
     }
 }
 
@@ -55,75 +59,64 @@ fn list_weight(list: &Chain<Value>) -> u64
 }
 
 // Those of the list on top.
-fn joined_weight(stack: &Rows<Value>) -> Result<u64, Memory>
-    ensures strings { IfOk result (λ w. (big : Sight) → w ≡ capped (text_weight i.concat_string_list (values big stack.now))) }
-    ensures bytes { IfOk result (λ w. (big : Sight) → w ≡ capped (text_weight i.concat_bytes_list (values big stack.now))) }
+fn joined_weight(stack: &Rows<Value>) -> u64
+    requires { (big : Sight) × IsListOnTop (values big stack.now) }
+    ensures strings { (big : Sight) → result ≡ capped (text_weight i.concat_string_list (values big stack.now)) }
+    ensures bytes { (big : Sight) → result ≡ capped (text_weight i.concat_bytes_list (values big stack.now)) }
 {
     match split_top(stack.as_slice()) {
-        Some((Value::List(list), _)) => Ok(list_weight(list)),
-        _ => Err(Memory),
+        Some((Value::List(list), _)) => list_weight(list),
+        _ => unreachable!(),
     }
 }
 
 // Those that are cut.
-fn cut_weight(bytes: &[u8], offset: &i128, count: &i128) -> Result<u64, Memory>
-    ensures { IfOk result (λ w. (pos (unsigned_abs offset.now) ≡ offset.now) × (pos (unsigned_abs count.now) ≡ count.now) × (w ≡ capped (length_found (slice (unsigned_abs offset.now) (unsigned_abs count.now) bytes.now)))) }
+fn cut_weight(bytes: &[u8], offset: i128, count: i128) -> u64
+    requires offset { pos 0 ≤ℤ offset }
+    requires count { pos 0 ≤ℤ count }
+    ensures { result ≡ capped (length_found (slice (unsigned_abs offset) (unsigned_abs count) bytes.now)) }
 {
-    if *offset < 0 || *count < 0 {
-        return Err(Memory);
+    match cut(bytes, offset, count) {
+        Some(found) => found.len() as u64,
+        None => 0,
     }
-    match cut(bytes, *offset, *count) {
-        Some(found) => Ok(found.len() as u64),
-        None => Ok(0),
-    }
 }
 
-fn slice_weight(stack: &Rows<Value>) -> Result<u64, Memory>
-    ensures { IfOk result (λ w. (big : Sight) → w ≡ capped (text_weight i.slice_string (values big stack.now))) }
+fn slice_weight(stack: &Rows<Value>) -> u64
+    requires { (big : Sight) × HasText i.slice_string (values big stack.now) }
+    ensures { (big : Sight) → result ≡ capped (text_weight i.slice_string (values big stack.now)) }
 {
-    let Some((offset, count, s, _)) = three_on_top(stack.as_slice()) else {
-        return Err(Memory);
+    let Some((Value::Number(offset), Value::Number(count), Value::Text(s), _)) = three_on_top(
+        stack.as_slice(),
+    ) else {
+        unreachable!()
     };
-    let Value::Number(offset) = offset else {
-        return Err(Memory);
-    };
-    let Value::Number(count) = count else {
-        return Err(Memory);
-    };
-    let Value::Text(s) = s else {
-        return Err(Memory);
-    };
-    cut_weight(s.as_slice(), offset, count)
+    cut_weight(s.as_slice(), *offset, *count)
 }
 
-fn bytes_slice_weight(stack: &Rows<Value>) -> Result<u64, Memory>
-    ensures { IfOk result (λ w. (big : Sight) → w ≡ capped (text_weight i.slice_bytes (values big stack.now))) }
+fn bytes_slice_weight(stack: &Rows<Value>) -> u64
+    requires { (big : Sight) × HasText i.slice_bytes (values big stack.now) }
+    ensures { (big : Sight) → result ≡ capped (text_weight i.slice_bytes (values big stack.now)) }
 {
-    let Some((offset, count, s, _)) = three_on_top(stack.as_slice()) else {
-        return Err(Memory);
+    let Some((Value::Number(offset), Value::Number(count), Value::Bytes(s), _)) = three_on_top(
+        stack.as_slice(),
+    ) else {
+        unreachable!()
     };
-    let Value::Number(offset) = offset else {
-        return Err(Memory);
-    };
-    let Value::Number(count) = count else {
-        return Err(Memory);
-    };
-    let Value::Bytes(s) = s else {
-        return Err(Memory);
-    };
-    cut_weight(s.as_slice(), offset, count)
+    cut_weight(s.as_slice(), *offset, *count)
 }
 
-// What one weighs, up to 2^64-1. Memory where the stack doesn't fit it.
-pub(crate) fn text_weight(row: &TextRow, stack: &Rows<Value>) -> Result<u64, Memory>
-    ensures { IfOk result (λ w. (big : Sight) → w ≡ capped (text_weight (text_row row.now) (values big stack.now))) }
+// What one weighs, up to 2^64-1.
+pub(crate) fn text_weight(row: &TextRow, stack: &Rows<Value>) -> u64
+    requires { (big : Sight) × HasText (text_row row.now) (values big stack.now) }
+    ensures { (big : Sight) → result ≡ capped (text_weight (text_row row.now) (values big stack.now)) }
 {
     match row {
-        TextRow::SizeString | TextRow::SizeBytes => Ok(0),
-        TextRow::ConcatStrings => Ok(strings_weight(stack)?),
-        TextRow::ConcatBytes => Ok(bytes_weight(stack)?),
-        TextRow::ConcatStringList | TextRow::ConcatBytesList => Ok(joined_weight(stack)?),
-        TextRow::SliceString => Ok(slice_weight(stack)?),
-        TextRow::SliceBytes => Ok(bytes_slice_weight(stack)?),
+        TextRow::SizeString | TextRow::SizeBytes => 0,
+        TextRow::ConcatStrings => strings_weight(stack),
+        TextRow::ConcatBytes => bytes_weight(stack),
+        TextRow::ConcatStringList | TextRow::ConcatBytesList => joined_weight(stack),
+        TextRow::SliceString => slice_weight(stack),
+        TextRow::SliceBytes => bytes_slice_weight(stack),
     }
 }

@@ -8,6 +8,7 @@ ghost use Rattle.mich_overload.specs.View.{straight, stack_row, collection_row};
 ghost use Rattle.mich_overload.specs.Steps.{in_step, is_on_big_map};
 ghost use Rattle.mich_term.specs.Weights.{capped};
 ghost use Rattle.mich_stack.specs.Views.{Sight, seen, values};
+ghost use Rattle.mich_prices.specs.Operands.{HasKey, HasOperands};
 
 use crate::texts::text_weight;
 use mich_base::{Memory, Rows};
@@ -55,25 +56,24 @@ fn order_weight(row: &StackRow, stack: &Rows<Value>) -> u64
     }
 }
 
-// The weight of the value that GET finds in the map on top.
+// The weight of the value that GET finds in the map on top. Memory where there is no room for its key.
 fn map_weight(alloc: Global, stack: &Rows<Value>) -> Result<u64, Memory>
+    requires { (big : Sight) × HasKey i.get_map (values big stack.now) }
     ensures { IfOk result (λ w. (big : Sight) → w ≡ capped (collection_weight i.get_map (values big stack.now))) }
 {
-    let Some((key, table, _)) = two_on_top(stack.as_slice()) else {
-        return Err(Memory);
-    };
-    let Value::Map(table) = table else {
-        return Err(Memory);
+    let Some((key, Value::Map(table), _)) = two_on_top(stack.as_slice()) else {
+        unreachable!()
     };
     let Some(key) = key.datum(alloc)? else {
-        return Err(Memory);
+        unreachable!()
     };
     Ok(found_weight(value_in(table, &key)))
 }
 
 // What one on collections weighs.
 fn collection_weight(alloc: Global, row: &CollectionRow, stack: &Rows<Value>) -> Result<u64, Memory>
-    requires { is_on_big_map (collection_row row.now) ≡ false }
+    requires no_big_map { is_on_big_map (collection_row row.now) ≡ false }
+    requires operands { (big : Sight) × HasKey (collection_row row.now) (values big stack.now) }
     ensures { IfOk result (λ w. (big : Sight) → w ≡ capped (collection_weight (collection_row row.now) (values big stack.now))) }
 {
     match row {
@@ -83,16 +83,17 @@ fn collection_weight(alloc: Global, row: &CollectionRow, stack: &Rows<Value>) ->
     }
 }
 
-/// What an instruction weighs on a stack, up to 2^64-1. Memory where the stack doesn't fit it. Not for instructions that pack, hash,
-/// look up or issue, or work on big maps (this host's cost table).
+/// What an instruction weighs on a stack that has the operands it is weighed by, up to 2^64-1. Memory where there is no room for a
+/// key. Not for instructions that pack, hash, look up or issue, or work on big maps (this host's cost table).
 pub fn weigh(alloc: Global, instr: &Simple, stack: &Rows<Value>) -> Result<u64, Memory>
-    requires { in_step (straight instr.now) ≡ true }
+    requires in_step { in_step (straight instr.now) ≡ true }
+    requires operands { (big : Sight) × HasOperands (straight instr.now) (values big stack.now) }
     ensures { IfOk result (λ w. (big : Sight) → w ≡ capped (weight_of (straight instr.now) (values big stack.now))) }
 {
     match instr {
         Simple::Stack(row) => Ok(order_weight(row, stack)),
         Simple::Collections(row) => Ok(collection_weight(alloc, row, stack)?),
-        Simple::Texts(row) => Ok(text_weight(row, stack)?),
+        Simple::Texts(row) => Ok(text_weight(row, stack)),
         Simple::Hashes(_) => unreachable!(),
         _ => Ok(0),
     }

@@ -15,10 +15,9 @@ use Rattle.rules_replay.specs.Places.{Placed, IsNodeAt, IsFaultAt, IsEndAt, AreS
 use Rattle.rules_replay.specs.Replay.{Replay, IsReplay, Closes, Run, going, stopped, stuck_run, run_all, RefusedAt, TextFault, ending_of}
 use Rattle.rules_replay.specs.Scripts.{IsCheckAnswer, check_statements}
 use Rattle.rules_world.specs.Receipts.{Receipt}
-use Rattle.mich_answers.proofs.Shorter.{further}
+use Rattle.mich_answers.proofs.ForCallers.{further}
 use Rattle.mich_text.specs.declared.fault.LexError.TheVariants as errors
-use Rattle.mich_text.proofs.Limits.{limited_within}
-use Rattle.mich_text.proofs.Verdict.{stands_within}
+use Rattle.mich_text.proofs.ForCallers.{limited_within, stands_within}
 use Rattle.rules_summary.specs.Summary.{summary_line}
 use Rattle.mich_replay.specs.Laws.{HasAnAnswer}
 use Rattle.mich_replay.proofs.Conserved.{no_group_is_stuck}

@@ -1,5 +1,5 @@
 -- Statements at the front of a file give the first of its receipts.
-use Rattle.std.proofs.Common.{◌≡◌, inl, inr, ℕ, List, [], ◌∷◌, ◌++◌, Option, Some, None, refl, sym, ap, ◌∙◌, subst, append_assoc, append-nil}
+use Rattle.std.proofs.Common.{◌≡◌, inl, inr, ℕ, List, [], ◌∷◌, ◌++◌, Option, Some, None, sym, ap, ◌∙◌, subst, append_assoc, append-nil}
 use Rattle.rules_course.specs.Course.{Course, Step, goes_on, stops, stuck_step}
 use Rattle.rules_replay.specs.Places.{Placed, AreStatements}
 use Rattle.rules_replay.specs.Replay.{Replay, Closes, IsReplay, Run, going, stopped, stuck_run, step, continued, taken, run_one, run_all}

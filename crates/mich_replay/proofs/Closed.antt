@@ -4,9 +4,9 @@ use Rattle.std.proofs.lemmas.List.{drop-append-le, length-append}
 use Rattle.rules_base.specs.Tree.{Tree}
 use Rattle.rules_text.specs.Text.{IsNode, EndsAt}
 use Rattle.rules_replay.specs.Places.{Placed}
-use Rattle.mich_answers.proofs.Shorter.{further}
+use Rattle.mich_answers.proofs.ForCallers.{further}
 use Rattle.mich_reader.specs.Fronts.{IsClosed}
-use Rattle.mich_reader.proofs.Tried.{closed_cut}
+use Rattle.mich_reader.proofs.ForCallers.{closed_cut}
 use Rattle.mich_replay.specs.Pace.{IsClosedAt, NoneIsClosedAt}
 
 -- a statement behind which a byte is left has a `;`

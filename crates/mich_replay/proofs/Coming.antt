@@ -1,25 +1,23 @@
 -- How a file that comes in pieces is read, statement by statement.
-use Rattle.std.proofs.Common.{◌≡◌, ℕ, ◌+◌, ◌-◌, ◌≤◌, ◌<◌, Bool, true, false, ◌||◌, List, [], ◌∷◌, ◌++◌, length, take, drop, Option, Some, None, Result, Ok, Err, refl, sym, ap, ◌∙◌, subst, inl, inr, append_assoc, append-nil, arith}
+use Rattle.std.proofs.Common.{◌≡◌, ℕ, ◌+◌, ◌-◌, ◌≤◌, ◌<◌, Bool, true, false, ◌||◌, List, [], ◌∷◌, ◌++◌, length, take, drop, Option, None, Result, Ok, Err, refl, sym, ap, ◌∙◌, subst, inr, append_assoc, append-nil, arith}
 use Rattle.std.proofs.lemmas.List.{drop-append-le, drop-drop, length-append, length-drop, length-take-le, take-append-drop}
 use Rattle.rules_base.specs.Limits.{file_limit}
-use Rattle.rules_base.specs.Tree.{Tree, size}
+use Rattle.rules_base.specs.Tree.{size}
 use Rattle.rules_course.specs.Course.{Course as PlainCourse}
 use Rattle.rules_text.specs.declared.TextKind.{TextKind}
-use Rattle.rules_replay.specs.Places.{Placed, IsNodeAt, IsEndAt, IsFaultAt, AreStatements}
-use Rattle.rules_replay.specs.Replay.{Replay, IsReplay, Closes, FileFault, TextFault, RefusedAt, Run, going, stopped, taken, run_one, run_all}
+use Rattle.rules_replay.specs.Places.{Placed, IsNodeAt, IsEndAt, AreStatements}
+use Rattle.rules_replay.specs.Replay.{IsReplay, Closes, FileFault, TextFault, RefusedAt, Run, going, stopped, taken, run_one, run_all}
 use Rattle.rules_statements.specs.Statements.{form}
 use Rattle.rules_world.specs.Receipts.{Receipt}
-use Rattle.mich_answers.proofs.Shorter.{further}
-use Rattle.mich_answers.proofs.Stated.{statements-more}
+use Rattle.mich_answers.proofs.ForCallers.{further, statements-more}
 use Rattle.mich_base.specs.View.{tree}
 use Rattle.mich_text.specs.declared.fault.TextError.{TextError}
 use Rattle.mich_text.specs.declared.fault.TextError.TheVariants as texts
 use Rattle.mich_text.specs.declared.reader.Placed.{Placed as CodePlaced}
-use Rattle.mich_reader.proofs.Holding.{limit_le}
-use Rattle.mich_reader.proofs.Pieces.{pieces_tell}
+use Rattle.mich_reader.proofs.ForCallers.{limit_le, pieces_tell}
 use Rattle.mich_reader.specs.Fronts.{IsClosed}
 use Rattle.mich_reader.specs.Held.{Held, fresh, fed}
-use Rattle.mich_reader.specs.Reading.{IsNext, Tells, asked, taken as took}
+use Rattle.mich_reader.specs.Reading.{IsNext, Tells, asked}
 use Rattle.mich_reader.specs.declared.reader.Next.{Next}
 use Rattle.mich_reader.specs.declared.reader.Next.TheVariants as next
 use Rattle.mich_replay.specs.Coming.{Begun, IsRefused, Reads}

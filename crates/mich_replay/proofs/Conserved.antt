@@ -18,10 +18,9 @@ use Rattle.rules_world.specs.World.{World}
 use Rattle.laws_runs.specs.Worlds.{IsWhole}
 use Rattle.laws_course.specs.Laws as course
 use Rattle.laws_course.specs.Laws.{IsGoodCourse, StaysGood}
-use Rattle.laws_course.proofs.Fields.{statements_have_ranges}
-use Rattle.laws_course.proofs.Good.{courses_begin_good, courses_stay_good}
-use Rattle.mich_answers.proofs.Shorter.{further}
-use Rattle.mich_reader.proofs.Holding.{limit_le}
+use Rattle.laws_course.proofs.ForCallers.{statements_have_ranges, courses_begin_good, courses_stay_good}
+use Rattle.mich_answers.proofs.ForCallers.{further}
+use Rattle.mich_reader.proofs.ForCallers.{limit_le}
 use Rattle.mich_replay.specs.Laws.{granted_by, granted_in, ConservesMutez, ConservesTickets, NoGroupIsStuck}
 
 -- ---- runs

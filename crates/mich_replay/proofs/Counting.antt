@@ -1,6 +1,5 @@
 -- Groups that are counted.
-use Rattle.std.proofs.Common.{◌≡◌, ℕ, ◌+◌, ◌≤◌, ◌<◌, Bool, true, false, cond, List, [], ◌∷◌, ◌++◌, length, map, refl, sym, ap, ◌∙◌, subst, arith}
-use Rattle.std.proofs.lemmas.List.{length-append}
+use Rattle.std.proofs.Common.{◌≡◌, ◌+◌, ◌≤◌, Bool, true, false, cond, List, [], ◌∷◌, ◌++◌, length, refl, sym, ap, ◌∙◌, arith}
 use Rattle.rules_summary.specs.Summary.{was_applied, has_failed, count_of, calls_in}
 use Rattle.rules_world.specs.Receipts as rules
 use Rattle.rules_world.specs.Receipts.{Receipt}

@@ -2,14 +2,13 @@
 use Rattle.std.proofs.Common.{◌≡◌, ℕ, ◌≤◌, ◌<◌, inl, inr, List, ◌++◌, length, Option, Some, None, Result, Ok, Err, refl, sym, ap, subst, arith}
 use Rattle.std.proofs.lemmas.List.{append-nil}
 use Rattle.std.specs.Prelude.{IfOk, IsSome}
-use Rattle.std.specs.Io.KnownBytes.{Consumes, IsAtEnd}
 use Rattle.rules_base.specs.Limits.{file_limit}
-use Rattle.rules_replay.specs.Answers.{Answer, status_of, usage_answer}
+use Rattle.rules_replay.specs.Answers.{Answer, status_of}
 use Rattle.rules_replay.specs.Codec.{encode_node, decode_node}
 use Rattle.rules_replay.specs.Packs.{pack_node}
-use Rattle.rules_replay.specs.Commands.{Verb, Replaying, Checking, Encoding, Decoding, Packing, Command, OnFile, NoCommand, IsVerbAnswer, IsTold, IsAnswer}
+use Rattle.rules_replay.specs.Commands.{Verb, Replaying, Checking, Encoding, Decoding, Packing, Command, OnFile, IsVerbAnswer, IsTold, IsAnswer}
 use Rattle.rules_replay.specs.Replay.{Ending, State, RefusedAt}
-use Rattle.mich_text.proofs.Limited.{split}
+use Rattle.mich_text.proofs.ForCallers.{split}
 use Rattle.mich_base.specs.declared.memory.Memory.{Memory}
 use Rattle.mich_replay.specs.Fronts.{IsRest, IsReadOf}
 use Rattle.mich_answers.specs.View.{answer_seen}
@@ -17,16 +16,6 @@ use Rattle.mich_answers.specs.declared.answer.Answer.{Answer as Reply}
 use Rattle.mich_replay.proofs.Fronts.{replay_on, codec_on, check_on, replay_refused, codec_refused, check_refused}
 
 -- ---- what was read
-
-pub read_end : (content left : Option (List ℕ)) (read : List ℕ) → Consumes content left read → IsAtEnd left → IsReadOf content read
-read_end None left read p e = tt
-read_end (Some content) None read p e = absurd p
-read_end (Some content) (Some rest) read p e = (rest, p, λ h. e)
-
-pub read_past : (content left : Option (List ℕ)) (read : List ℕ) → Consumes content left read → file_limit < length read → IsReadOf content read
-read_past None left read p far = tt
-read_past (Some content) None read p far = absurd p
-read_past (Some content) (Some rest) read p far = (rest, p, λ h. absurd (omega (arith, h, far)))
 
 -- ---- what is answered
 
@@ -71,12 +60,6 @@ on_read _ verb path content read answer e r h = subst (λ (c : Command). IsTold 
     by : (o : Option (List ℕ)) → content path ≡ o → IsReadOf o read → IsSome o → IsAnswer (OnFile verb path) content answer
     by None f r t = absurd cc
     by (Some file) f (more, g, rest) t = (file, f, subst (λ (l : List ℕ). IsVerbAnswer verb l answer) (sym g) (h more rest))
-
-pub on_none : (command : Command) (content : List ℕ → Option (List ℕ)) (answer : Answer) → NoCommand ≡ command → answer ≡ usage_answer → IsTold command content → IsAnswer command content answer
-on_none _ content answer e h = subst (λ (c : Command). IsTold c content → IsAnswer c content answer) e (λ t. h)
-
-pub at_ok : (P : Reply → Type 0) (r : Result Reply Memory) (a : Reply) → r ≡ Ok a → IfOk r P → P a
-at_ok P r a e h = subst (λ (q : Result Reply Memory). IfOk q P) e h
 
 -- after status 0 no more was read than a file may have
 pub done_end : (verb : Verb) (read : List ℕ) (r : Result Reply Memory) → IfOk r (λ a. IsVerbAnswer verb read (answer_seen a)) → IfOk r (λ a. a.status ≡ 0 → length read ≤ file_limit)

@@ -1,13 +1,10 @@
 -- The values of few digits.
-use Rattle.std.proofs.Common.{◌≡◌, ℕ, zero, suc, ◌+◌, ◌*◌, ◌<◌, ◌≤◌, sym, ap, subst, arith}
+use Rattle.std.proofs.Common.{ℕ, zero, suc, ◌*◌, ◌<◌, arith}
 
 -- a power of ten
 abbrev pub power : ℕ → ℕ
 power zero = 1
 power (suc n) = 10 * power n
-
-pub power_more : (n : ℕ) → power (n + 1) ≡ 10 * power n
-power_more n = ap power (let e : n + 1 ≡ suc n = omega arith in e)
 
 -- fewer than six digits leave room for one more
 pub room_for_digit : (n v : ℕ) → n < 6 → v < power n → v < 100000

@@ -1,5 +1,5 @@
 -- A workload that was replayed, and its summary.
-use Rattle.std.proofs.Common.{◌≡◌, ◌<◌, ◌^◌, ℕ, ◌+◌, true, List, [], ◌∷◌, ◌++◌, length, Some, None, Result, Ok, Err, refl, sym, ap, ◌∙◌, subst, inl, append-nil, arith}
+use Rattle.std.proofs.Common.{◌≡◌, ◌<◌, ◌^◌, ℕ, true, List, [], length, Some, None, Result, Ok, Err, refl, sym, ap, ◌∙◌, subst, inl, append-nil, arith}
 use Rattle.std.specs.declared.option.Option.{Option}
 use Rattle.rules_course.specs.Course.{Course as PlainCourse}
 use Rattle.rules_generate.specs.Workload.{scenario}

@@ -1,5 +1,5 @@
 -- What comes next of a file that comes in pieces.
-use Rattle.std.proofs.Common.{◌≡◌, ℕ, ◌+◌, ◌≤◌, ◌<◌, ◌^◌, Bool, true, false, List, [], ◌∷◌, ◌++◌, length, Option, Some, None, Result, Ok, Err, refl, sym, ap, ◌∙◌, subst, append-nil, arith}
+use Rattle.std.proofs.Common.{◌≡◌, ℕ, ◌+◌, ◌<◌, ◌^◌, Bool, false, List, [], ◌∷◌, ◌++◌, length, Option, None, Result, Ok, Err, refl, sym, ap, ◌∙◌, subst, append-nil, arith}
 use Rattle.std.proofs.lemmas.List.{length-append}
 use Rattle.std.proofs.KnownBytes.{Appends-nil, Appends-trans, Consumes-trans}
 use Rattle.std.specs.Io.KnownBytes.{Appends, Consumes}
@@ -14,15 +14,14 @@ use Rattle.rules_world.specs.Receipts.{Receipt}
 use Rattle.mich_base.specs.View.{tree}
 use Rattle.mich_base.specs.declared.memory.Memory.{Memory}
 use Rattle.mich_course.specs.declared.course.Course.{Course}
-use Rattle.mich_io.proofs.Fronts.{AppendsFront-more}
-use Rattle.mich_ops.specs.declared.receipt.GroupReceipt.{GroupReceipt}
+use Rattle.mich_io.proofs.ForCallers.{AppendsFront-more}
 use Rattle.mich_reader.specs.Held.{Held, fresh, fed}
 use Rattle.mich_reader.specs.Reading.{IsNext}
 use Rattle.mich_reader.specs.declared.reader.Next.TheVariants as next
 use Rattle.mich_text.specs.declared.fault.TextError.TheVariants as texts
 use Rattle.mich_text.specs.declared.reader.Placed.{Placed}
 use Rattle.mich_replay.specs.Coming.{Came, Cut, Happens, IsRefused, Told}
-use Rattle.mich_replay.specs.Steps.{HasRoom, IsTaken, Tells, groups_of}
+use Rattle.mich_replay.specs.Steps.{HasRoom, IsTaken, groups_of}
 use Rattle.mich_replay.specs.View.{file_fault_seen}
 use Rattle.mich_replay.specs.declared.steps.Event.{Event}
 use Rattle.mich_replay.specs.declared.steps.Event.TheVariants as event

@@ -2,8 +2,7 @@
 use Rattle.std.proofs.Common.{◌≡◌, inl, inr, ℕ, List, [], ◌∷◌, length, drop, Option, Some, None, refl, sym, ap, ◌∙◌, subst, arith}
 use Rattle.rules_base.specs.Tree.{Tree}
 use Rattle.rules_text.specs.declared.TextKind.{TextKind}
-use Rattle.mich_text.proofs.Unique.{one_statement}
-use Rattle.mich_text.proofs.OneReading.{one_fault, no_fault_at_node, no_node_at_end, no_fault_at_end}
+use Rattle.mich_text.proofs.ForCallers.{one_statement, one_fault, no_fault_at_node, no_node_at_end, no_fault_at_end}
 use Rattle.rules_replay.specs.Places.{Placed, IsNodeAt, IsFaultAt, IsEndAt, AreStatements, EndsIn}
 use Rattle.rules_world.specs.Receipts.{Receipt}
 use Rattle.rules_generate.specs.Workload.{scenario}

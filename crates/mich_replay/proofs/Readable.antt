@@ -20,19 +20,12 @@ use Rattle.mich_base.specs.declared.node.Node as nodes
 use Rattle.mich_base.specs.declared.node.Node.TheVariants as node
 use Rattle.mich_text.specs.Limited.{IsOnly, IsUpTo}
 use Rattle.mich_text.specs.Machine.{Stack, Refusal, finish, has_statement, is_root, ready_for, refused, put, start, step}
-use Rattle.mich_text.specs.Plain.{IsFault, IsNode, IsEnd}
+use Rattle.mich_text.specs.Plain.{IsFaultWithoutLimits, IsNodeWithoutLimits, IsEndWithoutLimits}
 use Rattle.mich_text.specs.Results.{EndsClosed, IsRead, Refuses, first_flaw, kind_of}
 use Rattle.mich_text.specs.Shown.{IsOpenBytes}
 use Rattle.mich_text.specs.declared.fault.LexError.TheVariants as errors
 use Rattle.mich_text.specs.declared.plain.Found.{Found}
-use Rattle.mich_text.proofs.Fronts.{step_ok}
-use Rattle.mich_text.proofs.Limits.{long_end, long_open, long_file, kept_node, long_late, kept_fault, open_tells, unlimited, up_to}
-use Rattle.mich_text.proofs.Loop.{begun, refuses}
-use Rattle.mich_text.proofs.Places.{gap_le, token_shape_is, token_shorter}
-use Rattle.mich_text.proofs.Reading.{At}
-use Rattle.mich_text.proofs.Steps.{bad_char, own_flaw, refused_place}
-use Rattle.mich_text.proofs.Verdict.{at_next, closed_node, comment_behind, comment_first, nothing_here, open_at_end, unclosed_node}
-use Rattle.mich_text.proofs.Whole.{NoStatement, still_none}
+use Rattle.mich_text.proofs.ForCallers.{step_ok, long_end, long_open, long_file, kept_node, long_late, kept_fault, open_tells, unlimited, up_to, begun, refuses, gap_le, token_shape_is, token_shorter, At, bad_char, own_flaw, refused_place, at_next, closed_node, comment_behind, comment_first, nothing_here, open_at_end, unclosed_node, NoStatement, still_none}
 
 -- ---- the code's node of a tree
 
@@ -74,14 +67,14 @@ mutual
 -- what a text is
 data Plain (text : List ℕ) : Type 0 where
   found : (f : Found) → IsRead text (Ok (Some f)) → Plain text
-  fault : (kind : TextKind) (left : ℕ) → IsFault text kind left → Plain text
-  nothing : IsEnd text → Plain text
+  fault : (kind : TextKind) (left : ℕ) → IsFaultWithoutLimits text kind left → Plain text
+  nothing : IsEndWithoutLimits text → Plain text
 
-found_node : (text : List ℕ) (t : Tree) (start end : ℕ) (closed : Bool) → ((n : IsNode text t start end) × EndsClosed closed n.stands.rest) → Plain text
+found_node : (text : List ℕ) (t : Tree) (start end : ℕ) (closed : Bool) → ((n : IsNodeWithoutLimits text t start end) × EndsClosed closed n.stands.rest) → Plain text
 found_node text t start end closed p =
     let n = node_of t in
     let f : Found = record { node = n.0; start = start; end = end; closed = closed } in
-    found f (subst (λ (x : Tree). (m : IsNode text x start end) × EndsClosed closed m.stands.rest) (sym n.1) p)
+    found f (subst (λ (x : Tree). (m : IsNodeWithoutLimits text x start end) × EndsClosed closed m.stands.rest) (sym n.1) p)
 
 -- where all tokens were taken
 at_end : (text first : List ℕ) (s : Stack) → after_gap text ≡ Some first → (ts : List Token) × At text ts [] s → Plain text
@@ -259,21 +252,21 @@ module _ (before : ℕ) (text front : List ℕ) (behind : ℕ) (ends_file : Bool
     by false e = is_fault TooLong (1 + behind) (long_open before text front behind ends_file u f p e)
     by true e = at_file ends_file refl f.end refl e
 
-  by_fault : (kind : TextKind) (left : ℕ) → left ≤ length front → IsFault front kind left → Readable before text
+  by_fault : (kind : TextKind) (left : ℕ) → left ≤ length front → IsFaultWithoutLimits front kind left → Readable before text
   by_fault kind left fits p = by (ltb 1 left) refl where
-    by_short : (k : TextKind) (other : ℕ) → IsFault (take (length front - 1) front) k other → (far : 1 < left) → IsFault front BadBytes left →
+    by_short : (k : TextKind) (other : ℕ) → IsFaultWithoutLimits (take (length front - 1) front) k other → (far : 1 < left) → IsFaultWithoutLimits front BadBytes left →
         IsOpenBytes (drop (length front - left) front) BadBytes → Readable before text
     by_short k other q far b o =
         let tells = open_tells before text front behind ends_file u left far fits b o in
         here (eqb (other + 1) left) refl tells.0 tells.1
       where
         here : (x : Bool) → eqb (other + 1) left ≡ x →
-            ((j : TextKind) (m : ℕ) → IsFault (take (length front - 1) front) j m → m + 1 ≡ left → within.IsFault before text j (left + behind)) →
-            ((j : TextKind) (m : ℕ) → IsFault (take (length front - 1) front) j m → (m + 1 ≡ left → ⊥) → within.IsFault before text TooLong (1 + behind)) → Readable before text
+            ((j : TextKind) (m : ℕ) → IsFaultWithoutLimits (take (length front - 1) front) j m → m + 1 ≡ left → within.IsFault before text j (left + behind)) →
+            ((j : TextKind) (m : ℕ) → IsFaultWithoutLimits (take (length front - 1) front) j m → (m + 1 ≡ left → ⊥) → within.IsFault before text TooLong (1 + behind)) → Readable before text
         here true e at elsewhere = is_fault k (left + behind) (at k other q (eqb-true _ _ e))
         here false e at elsewhere = is_fault TooLong (1 + behind) (elsewhere k other q (eqb-false _ _ e))
 
-    by_digits : (far : 1 < left) → IsFault front BadBytes left → IsOpenBytes (drop (length front - left) front) BadBytes → Readable before text
+    by_digits : (far : 1 < left) → IsFaultWithoutLimits front BadBytes left → IsOpenBytes (drop (length front - left) front) BadBytes → Readable before text
     by_digits far b o = without (plain (take (length front - 1) front)) where
       without : Plain (take (length front - 1) front) → Readable before text
       without (found f q) = is_fault TooLong (1 + behind) ((open_tells before text front behind ends_file u left far fits b o).2 (Some f) q)
@@ -285,13 +278,13 @@ module _ (before : ℕ) (text front : List ℕ) (behind : ℕ) (ends_file : Bool
     by true e =
         let far : 1 < left = ltb-true 1 left e in
         elim (open_or_not (drop (length front - left) front) kind) [
-          | inl o ↦ by_digits far (subst (λ (k : TextKind). IsFault front k left) o.0 p) (refl, o.1)
+          | inl o ↦ by_digits far (subst (λ (k : TextKind). IsFaultWithoutLimits front k left) o.0 p) (refl, o.1)
           | inr closed ↦ is_fault kind (left + behind) (kept_fault before text front behind ends_file u kind left far p closed)
         ]
 
   by_front : Plain front → Readable before text
   by_front (found f p) = by_found f p
-  by_front (fault kind left p) = by_fault kind left (Rattle.mich_text.proofs.Verdict.holds_within front kind left p.holds) p
+  by_front (fault kind left p) = by_fault kind left (Rattle.mich_text.proofs.ForCallers.holds_within front kind left p.holds) p
   by_front (nothing p) = is_fault TooLong (1 + behind) (long_end before text front behind ends_file u p)
 
 pub readable : (before : ℕ) (text : List ℕ) → Readable before text

@@ -11,7 +11,7 @@ use Rattle.rules_replay.specs.Places.{AreStatements, IsEndAt}
 use Rattle.rules_replay.specs.Replay.{Replay, Closes as Ends, Ending, State, RefusedAt, FileFault, IsReplay, Run, ending_of}
 use Rattle.rules_world.specs.Receipts.{Receipt}
 use Rattle.mich_course.specs.declared.course.Course.{Course}
-use Rattle.mich_io.proofs.Fronts.{AppendsFront-more}
+use Rattle.mich_io.proofs.ForCallers.{AppendsFront-more}
 use Rattle.mich_reader.specs.Held.{Held}
 use Rattle.mich_replay.specs.Coming.{Closes, Comes, Cut, IsRefused, Told}
 use Rattle.mich_replay.specs.declared.stop.Stop.{Stop}

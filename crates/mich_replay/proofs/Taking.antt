@@ -1,13 +1,13 @@
 -- What a statement leads to, and what is told of it.
-use Rattle.std.proofs.Common.{◌≡◌, ◌+◌, ◌<◌, ◌≤◌, ◌^◌, ℕ, List, [], ◌∷◌, ◌++◌, length, map, append-nil, Option, Some, None, Ok, Err, refl, sym, ap, ◌∙◌, subst, arith}
+use Rattle.std.proofs.Common.{◌≡◌, ◌+◌, ◌<◌, ◌^◌, ℕ, List, [], ◌∷◌, length, map, Option, Some, None, Ok, Err, refl, sym, ap, ◌∙◌, subst}
 use Rattle.std.proofs.lemmas.List.{length-append}
 use Rattle.rules_course.specs.Course.{Course as PlainCourse, Step, goes_on, stops, stuck_step, BadOrder, BadCosts, RepeatedAccount, SupplyLimit, first_step, step_behind}
 use Rattle.rules_course.specs.Ranges.{IsStatement}
-use Rattle.rules_replay.specs.Replay.{step, continued, fault_of}
+use Rattle.rules_replay.specs.Replay.{step, continued}
 use Rattle.rules_statements.specs.Statements.{Statement}
 use Rattle.rules_world.specs.Receipts.{Receipt}
 use Rattle.laws_course.specs.Laws.{IsGoodCourse, StaysGood, granted_by}
-use Rattle.laws_course.proofs.Good.{courses_begin_good, courses_stay_good}
+use Rattle.laws_course.proofs.ForCallers.{courses_begin_good, courses_stay_good}
 use Rattle.mich_course.specs.Following.{Follows, Goes, Begins, told}
 use Rattle.mich_course.specs.declared.course.Course.{Course}
 use Rattle.mich_course.specs.declared.error.CourseError.TheVariants as error
@@ -15,39 +15,9 @@ use Rattle.mich_ops.specs.Told.{ToldReceipt, told_receipt}
 use Rattle.mich_ops.specs.View.{receipt}
 use Rattle.mich_ops.specs.declared.receipt.GroupReceipt.{GroupReceipt}
 use Rattle.mich_replay.specs.Steps.{FollowsIf, HasRoom, IsTaken, Leads, Stands, groups_of}
-use Rattle.mich_replay.specs.View.{file_fault_seen}
 use Rattle.mich_replay.specs.declared.steps.Event.TheVariants as event
-use Rattle.mich_replay.specs.declared.outcome.FileFault.{FileFault}
 
 -- ---- refusals
-
-pub out_of_order : (s : Step) (c : Option Course) → Leads s c (Err error.BadOrder) → s ≡ stops BadOrder
-out_of_order (goes_on p rs) (Some c) h = absurd h
-out_of_order (stops BadOrder) (Some c) h = refl
-out_of_order (stops BadCosts) (Some c) h = absurd h
-out_of_order (stops RepeatedAccount) (Some c) h = absurd h
-out_of_order (stops SupplyLimit) (Some c) h = absurd h
-out_of_order stuck_step (Some c) h = absurd h
-out_of_order (goes_on p rs) None h = absurd h
-out_of_order (stops BadOrder) None h = refl
-out_of_order (stops BadCosts) None h = absurd h
-out_of_order (stops RepeatedAccount) None h = absurd h
-out_of_order (stops SupplyLimit) None h = absurd h
-out_of_order stuck_step None h = absurd h
-
-pub ill_priced : (s : Step) (c : Option Course) → Leads s c (Err error.BadCosts) → s ≡ stops BadCosts
-ill_priced (goes_on p rs) (Some c) h = absurd h
-ill_priced (stops BadOrder) (Some c) h = absurd h
-ill_priced (stops BadCosts) (Some c) h = refl
-ill_priced (stops RepeatedAccount) (Some c) h = absurd h
-ill_priced (stops SupplyLimit) (Some c) h = absurd h
-ill_priced stuck_step (Some c) h = absurd h
-ill_priced (goes_on p rs) None h = absurd h
-ill_priced (stops BadOrder) None h = absurd h
-ill_priced (stops BadCosts) None h = absurd h
-ill_priced (stops RepeatedAccount) None h = absurd h
-ill_priced (stops SupplyLimit) None h = absurd h
-ill_priced stuck_step None h = absurd h
 
 pub repeated : (s : Step) (c : Option Course) → Leads s c (Err error.RepeatedAccount) → s ≡ stops RepeatedAccount
 repeated (goes_on p rs) (Some c) h = absurd h
@@ -131,31 +101,12 @@ groups_followed : (c : Option Course) (q : PlainCourse) → FollowsIf c (Some q)
 groups_followed (Some c) q f = f.groups
 groups_followed None q f = absurd f
 
-none_told : (rs : List Receipt) → [] ≡ map told_receipt rs → rs ≡ []
-none_told [] e = refl
-none_told (r ∷ rs) e = absurd cc
-
 one_told : (t : ToldReceipt) (rs : List Receipt) → t ∷ [] ≡ map told_receipt rs → (r : Receipt) × (rs ≡ r ∷ []) × (told_receipt r ≡ t)
 one_told t [] e = absurd cc
 one_told t (r ∷ []) e = let same : t ≡ told_receipt r = cc in (r, refl, sym same)
 one_told t (r ∷ s ∷ rs) e = absurd cc
 
 module _ (receipts : List Receipt) (p : Option PlainCourse) (old : Option Course) (s : Statement) (stands : Stands receipts p old) (room : HasRoom old) (ranges : IsStatement s) where
-  -- no group
-  pub took_none : (new : Option Course) (place : ℕ) → Leads (step p s) new (Ok None) → IsTaken receipts place (continued receipts place (step p s)) new (Ok event.Taken)
-  took_none new place h =
-      let l = led (step p s) new None h in
-      let none = none_told l.receipts l.told in
-      let is : step p s ≡ goes_on l.course [] = l.is ∙ ap (goes_on l.course) none in
-      let count = counted old p s l.course [] stands.follows room ranges is in
-      rw is (
-        append-nil receipts,
-        record {
-          follows = l.follows;
-          count = groups_followed new l.course l.follows ∙ count ∙ ap (λ (n : ℕ). n + 0) stands.count ∙ sym (length-append receipts []);
-        },
-      )
-
   -- a group
   pub took_group : (new : Option Course) (place : ℕ) (r : GroupReceipt) → Leads (step p s) new (Ok (Some r)) →
       IsTaken receipts place (continued receipts place (step p s)) new (Ok (event.Group r))
@@ -173,8 +124,3 @@ module _ (receipts : List Receipt) (p : Option PlainCourse) (old : Option Course
           count = groups_followed new l.course l.follows ∙ count ∙ ap (λ (n : ℕ). n + 1) stands.count ∙ sym (length-append receipts (one.0 ∷ []));
         },
       )
-
-  -- a refusal
-  pub took_refusal : (why : Rattle.rules_course.specs.Course.Refusal) (fault : FileFault) (new : Option Course) (place : ℕ) → step p s ≡ stops why →
-      fault_of why ≡ file_fault_seen fault → IsTaken receipts place (continued receipts place (step p s)) new (Ok (event.Refused fault place))
-  took_refusal why fault new place is same = rw is (refl, same, refl, refl)

@@ -23,15 +23,9 @@ use Rattle.rules_world.specs.Groups.{Settled, group}
 use Rattle.rules_world.specs.Receipts.{Receipt}
 use Rattle.rules_world.specs.World.{World}
 use Rattle.mich_text.specs.Machine.{Stack, elements, named, paren, Refusal, finish, has_statement, ended_tree, refused, put, run, step, start}
-use Rattle.mich_text.proofs.Fronts.{step_ok}
-use Rattle.mich_text.proofs.Places.{gap_le}
-use Rattle.mich_text.proofs.Reading.{At}
-use Rattle.mich_text.proofs.Signs.{no_inner}
-use Rattle.mich_text.proofs.Unlimited.{end_same, node_same}
-use Rattle.mich_text.proofs.Verdict.{closed_node, stands_within}
-use Rattle.mich_text.proofs.Whole.{NoStatement, statement_within}
+use Rattle.mich_text.proofs.ForCallers.{step_ok, gap_le, At, no_inner, end_same, node_same, closed_node, stands_within, NoStatement, statement_within}
 use Rattle.mich_reader.specs.Fronts.{IsClosed}
-use Rattle.mich_reader.proofs.Stays.{closed_stays}
+use Rattle.mich_reader.proofs.ForCallers.{closed_stays}
 use Rattle.mich_replay.proofs.Closed.{signed}
 use Rattle.mich_replay.proofs.Conserved.{no_group_is_stuck}
 

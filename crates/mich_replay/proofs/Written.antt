@@ -4,7 +4,7 @@ use Rattle.std.specs.declared.option.Option.{Option}
 use Rattle.std.specs.Io.KnownBytes.{Appends}
 use Rattle.std.proofs.lemmas.List.{drop_more}
 use Rattle.rules_io.specs.Known.{AppendsFront}
-use Rattle.mich_io.proofs.Fronts.{AppendsFront-more}
+use Rattle.mich_io.proofs.ForCallers.{AppendsFront-more}
 use Rattle.rules_lines.specs.Nodes.{line, group_node}
 use Rattle.rules_replay.specs.Lines.{group_lines, text_of}
 use Rattle.rules_world.specs.Receipts.{Receipt}

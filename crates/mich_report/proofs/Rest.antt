@@ -1,11 +1,9 @@
 -- The world that a world at rest stands for, and what is written of it.
-use Rattle.std.proofs.Common.{◌≡◌, Bool, true, false, cond, ℕ, ℤ, pos, List, [], ◌∷◌, ◌++◌, map, Some, None, refl, sym, ap, ◌∙◌, append_assoc, append-nil, drop, length, ◌≤◌, subst, arith}
+use Rattle.std.proofs.Common.{◌≡◌, true, cond, ℕ, ℤ, pos, List, [], ◌∷◌, ◌++◌, map, Some, None, refl, sym, ap, ◌∙◌, append_assoc, append-nil, drop, length, ◌≤◌, subst, arith}
 use Rattle.std.specs.Prelude.{◌||◌, ◌<ℤ◌, ◌≤ℤ◌, ◌-ℤ◌, ◌+ℤ◌, codes, option_map, unwrap_or}
 use Rattle.std.specs.declared.option.Option.{Option}
-use Rattle.std.specs.declared.cmp.Ordering.{Ordering}
-use Rattle.std.specs.declared.cmp.Ordering.TheVariants.{Less, Equal, Greater}
+use Rattle.std.specs.declared.cmp.Ordering.TheVariants.{Less, Greater}
 use Rattle.std.specs.Ordering.{nat_cmp, is_eq, ordering_reverse}
-use Rattle.std.specs.Cmp.{IsTotalOrder}
 use Rattle.std.specs.Cmp.Lexicographic.{slice_cmp}
 use Rattle.std.specs.BTreeMap.{is_at}
 use Rattle.std.specs.List.{All, AllByRecursion, flat_map}
@@ -25,32 +23,27 @@ use Rattle.rules_lines.specs.Nodes.{account_node, contract_node, line, number, o
 use Rattle.rules_values.specs.Tickets.{Identity}
 use Rattle.rules_world.specs.Balances.{supply}
 use Rattle.rules_world.specs.Forms.{IsWorld, IsAccount, IsHolding}
-use Rattle.rules_world.specs.Good.{IsGood}
 use Rattle.rules_world.specs.Holdings.{amount_held, held, held_by, held_by_account, held_by_contract, minted_ever, burnt_ever, identities}
-use Rattle.rules_world.specs.World.{World as PlainWorld, Account, account_at as plain_account_at, contract_at as plain_contract_at, account_or_none, identity_order}
-use Rattle.laws_accounts.proofs.Amounts.{minted_positive, burnt_positive}
-use Rattle.laws_accounts.proofs.Entries.{all_found}
-use Rattle.laws_accounts.proofs.Identities.{equal_of}
-use Rattle.laws_accounts.proofs.Holdings.{AreHoldings, held_positive}
+use Rattle.rules_world.specs.World.{World as PlainWorld, Account, account_at as plain_account_at, contract_at as plain_contract_at, account_or_none}
+use Rattle.laws_accounts.proofs.ForCallers.{minted_positive, burnt_positive, all_found, equal_of, AreHoldings, held_positive}
 use Rattle.laws_lines.specs.Laws.{AreInOrder, amount_told, told}
-use Rattle.laws_lines.proofs.Minted.{amount_is_told, told_in_order}
+use Rattle.laws_lines.proofs.ForCallers.{amount_is_told, told_in_order}
 use Rattle.mich_bigmap.specs.Bases.{Bases}
 use Rattle.mich_term.specs.TicketView.{identity}
 use Rattle.mich_term.specs.declared.ticket.TicketId.{TicketId}
 use Rattle.mich_tickets.specs.Books.{Books}
-use Rattle.mich_tickets.specs.Lines.{Lines, by_identity, line_of}
-use Rattle.mich_tickets.specs.Owned.{amount_at}
-use Rattle.mich_tickets.specs.Sums.{totals_of, totals_on, minted_of, burnt_of, held_of, held_on}
+use Rattle.mich_tickets.specs.Lines.{by_identity, line_of}
+use Rattle.mich_tickets.specs.Sums.{totals_on, minted_of, burnt_of, held_of, held_on}
 use Rattle.mich_tickets.specs.declared.line.Line.{Line}
-use Rattle.mich_world.proofs.Agreeing.{total_is}
+use Rattle.mich_world.proofs.ForCallers.{total_is}
 use Rattle.mich_world.specs.Holders.{Holders, account_at, contract_at, total}
 use Rattle.mich_world.specs.Standing.{purse, plain, contract_in, StandsFor}
 use Rattle.mich_world.specs.World.{World}
 use Rattle.mich_world.specs.declared.contract.Contract.{Contract}
 use Rattle.mich_report.specs.Amounts.{Amounts, Purses, amount_in, by_print, held_in, held_of_line, minted_of_line, seen, settled}
-use Rattle.mich_report.specs.State.{IsAtRest, Gathers, AreTotals, totals_node, ticket_of}
+use Rattle.mich_report.specs.State.{IsAtRest, Gathers, AreTotals, ticket_of}
 use Rattle.mich_report.proofs.Written.{one_list}
-use Rattle.mich_report.proofs.Walks.{lines_settled, written_line, written_on}
+use Rattle.mich_report.proofs.Walks.{lines_settled, written_line}
 
 -- all of a list is done
 pub ended : {X Y : Type 0} (f : List X → List Y) (done whole : List Y) (i : ℕ) (items : List X) → f [] ≡ []

@@ -1,8 +1,8 @@
 -- Sums over the tickets of a world at rest.
-use Rattle.std.proofs.Common.{◌≡◌, ℤ, pos, List, [], ◌∷◌, map, refl, sym, ap, ◌∙◌, arith}
+use Rattle.std.proofs.Common.{◌≡◌, ℤ, List, [], ◌∷◌, map, refl, sym, ap, ◌∙◌, arith}
 use Rattle.std.specs.Prelude.{◌+ℤ◌, ◌-ℤ◌, codes, ℕ}
 use Rattle.std.proofs.lemmas.Int.{ints}
-use Rattle.rules_base.specs.Tree.{Tree, int}
+use Rattle.rules_base.specs.Tree.{int}
 use Rattle.rules_lines.specs.Nodes.{number, over}
 use Rattle.rules_summary.specs.Summary.{over_tickets, in_all, summary_node}
 use Rattle.rules_values.specs.Tickets.{Identity}
@@ -10,11 +10,9 @@ use Rattle.rules_world.specs.Balances.{supply}
 use Rattle.rules_world.specs.Holdings.{held, minted_ever, burnt_ever, identities}
 use Rattle.rules_world.specs.World.{World as PlainWorld}
 use Rattle.laws_lines.specs.Laws.{told}
-use Rattle.mich_tickets.specs.Books.{Books}
 use Rattle.mich_tickets.specs.Sums.{minted_of, burnt_of}
 use Rattle.mich_world.specs.Holders.{total}
 use Rattle.mich_world.specs.World.{World}
-use Rattle.mich_report.specs.Amounts.{Amounts, seen}
 use Rattle.mich_report.specs.State.{IsAtRest}
 use Rattle.mich_report.specs.Summed.{AreSums, over_entries}
 use Rattle.mich_report.specs.declared.summary.Sums.{Sums}

@@ -3,27 +3,25 @@ use Rattle.std.proofs.Common.{◌≡◌, Bool, true, false, cond, ℕ, ℤ, pos,
 use Rattle.std.specs.Prelude.{◌&&◌, ◌≤ℤ◌, int_lt, if◌then◌else◌, unwrap_or}
 use Rattle.std.specs.declared.option.Option.{Option}
 use Rattle.std.specs.declared.cmp.Ordering.{Ordering}
-use Rattle.std.specs.declared.cmp.Ordering.TheVariants.{Less, Equal, Greater}
+use Rattle.std.specs.declared.cmp.Ordering.TheVariants.{Less}
 use Rattle.std.specs.Ordering.{nat_cmp, is_eq}
 use Rattle.std.specs.Cmp.{IsTotalOrder}
 use Rattle.std.specs.Cmp.Lexicographic.{slice_cmp}
-use Rattle.std.specs.BTreeMap.{is_at}
 use Rattle.std.specs.List.{AllByRecursion}
 use Rattle.std.specs.List.Sorted.{IsStrictlySortedBy}
 use Rattle.std.specs.Map.{lookup, keys_of}
 use Rattle.std.proofs.lemmas.Cmp.{nat_list_cmp_total}
-use Rattle.std.proofs.lemmas.Int.{ints}
 use Rattle.std.proofs.lemmas.Map.Keys.{sorted_head, sorted_tail}
 use Rattle.rules_forms.specs.Spelling.{implicit_place}
 use Rattle.rules_values.specs.Tickets.{Identity}
-use Rattle.laws_accounts.proofs.Identities.{alike_equal, equal_of}
+use Rattle.laws_accounts.proofs.ForCallers.{alike_equal, equal_of}
 use Rattle.mich_forms.specs.Spelled.{place_bytes}
 use Rattle.mich_forms.specs.declared.places.Place.{Place}
 use Rattle.mich_forms.specs.declared.places.Place.TheVariants as place
-use Rattle.mich_term.specs.IdentityOrder.{identity_order as code_order, identity_lawful}
+use Rattle.mich_term.specs.IdentityOrder.{identity_lawful}
 use Rattle.mich_term.specs.TicketView.{identity}
 use Rattle.mich_term.specs.declared.ticket.TicketId.{TicketId}
-use Rattle.mich_tickets.proofs.Alike.{alike}
+use Rattle.mich_tickets.proofs.ForCallers.{alike}
 use Rattle.mich_tickets.specs.Lines.{Lines, by_identity, line_of, is_of as is_of_line}
 use Rattle.mich_tickets.specs.Owned.{Owned, by_place, amount_at}
 use Rattle.mich_tickets.specs.declared.line.Line.{Line}

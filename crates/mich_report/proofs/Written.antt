@@ -1,10 +1,10 @@
 -- What is found in amounts after a write.
-use Rattle.std.proofs.Common.{◌≡◌, Bool, true, false, cond, ℤ, pos, List, [], ◌∷◌, map, Some, None, refl, sym, ap, ◌∙◌, subst, arith}
+use Rattle.std.proofs.Common.{◌≡◌, Bool, true, false, cond, ℤ, pos, List, [], ◌∷◌, map, Some, None, refl, sym, ap, ◌∙◌, arith}
 use Rattle.std.specs.Prelude.{◌&&◌, ◌<ℤ◌, ℕ, int_lt, if◌then◌else◌, is_some, option_map, unwrap_or}
 use Rattle.std.specs.declared.option.Option.{Option}
 use Rattle.std.specs.declared.cmp.Ordering.{Ordering}
 use Rattle.std.specs.declared.cmp.Ordering.TheVariants.{Less, Equal, Greater}
-use Rattle.std.specs.Ordering.{nat_cmp, is_eq, match_ordering}
+use Rattle.std.specs.Ordering.{nat_cmp, match_ordering}
 use Rattle.std.specs.Cmp.Lexicographic.{slice_cmp}
 use Rattle.std.specs.BTreeMap.{is_at, insert_entry}
 use Rattle.std.specs.List.{AllByRecursion}
@@ -14,17 +14,16 @@ use Rattle.std.proofs.lemmas.Cmp.{nat_list_cmp_total}
 use Rattle.rules_values.specs.Tickets.{Identity}
 use Rattle.rules_values.specs.Val.{is_comparable}
 use Rattle.rules_world.specs.World.{identity_order}
-use Rattle.laws_accounts.proofs.Identities.{identity_total}
+use Rattle.laws_accounts.proofs.ForCallers.{identity_total}
 use Rattle.laws_lines.specs.Laws.{AreInOrder, amount_told}
-use Rattle.laws_lines.proofs.Aligned.{are_alike}
-use Rattle.laws_lines.proofs.Exact.{all_exact}
-use Rattle.mich_data.proofs.Keys.{datum_comparable}
+use Rattle.laws_lines.proofs.ForCallers.{are_alike, all_exact}
+use Rattle.mich_data.proofs.ForCallers.{datum_comparable}
 use Rattle.mich_term.specs.TicketView.{identity}
 use Rattle.mich_term.specs.declared.ticket.TicketId.{TicketId}
-use Rattle.mich_tickets.proofs.Finding.{found_inserted, found_changed, found_close}
-use Rattle.mich_undo.proofs.Backs.{changed_none}
+use Rattle.mich_tickets.proofs.ForCallers.{found_inserted, found_changed, found_close}
+use Rattle.mich_undo.proofs.ForCallers.{changed_none}
 use Rattle.mich_undo.specs.Undone.{changed_at}
-use Rattle.mich_report.specs.Amounts.{by_print, Amounts, seen, is_of, amount_in, with_amount, Purses, amounts_on, amounts_of, held_in, written}
+use Rattle.mich_report.specs.Amounts.{by_print, Amounts, seen, is_of, amount_in, with_amount, Purses, amounts_on, held_in, written}
 
 -- ---- as they are printed
 

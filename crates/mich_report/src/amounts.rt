@@ -6,7 +6,7 @@ ghost use Rattle.std.specs.Map.{keys_of};
 ghost use Rattle.std.specs.Ordering.{is_eq};
 ghost use Rattle.std.specs.Cmp.{partial_order_from_agreeing_total, partial_equiv_from_equiv, eq_by_cmp_equiv};
 ghost use Rattle.std.proofs.lemmas.Cmp.{on_total};
-ghost use Rattle.laws_accounts.proofs.Identities.{identity_total};
+ghost use Rattle.laws_accounts.proofs.ForCallers.{identity_total};
 ghost use Rattle.rules_lines.specs.Nodes.{held_node};
 ghost use Rattle.rules_world.specs.World.{identity_order};
 ghost use Rattle.mich_base.specs.View.{tree};

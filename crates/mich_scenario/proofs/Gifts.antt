@@ -36,14 +36,3 @@ pub gift_read : (fields : List Node) (a b i k c n t e : Node) (o : Option Gift) 
     → MatchOption o (content_by (codes "Give") (nodes_of (trees fields)) ≡ None) (λ g. IsGift fields g)
 gift_read fields a b i k c n t e None is made = ap (λ (ns : List Node). content_by (codes "Give") (nodes_of (trees ns))) is ∙ sym (made (tree k) (tree c))
 gift_read fields a b i k c n t e (Some g) is made = is_gift fields a b i k c n t e g is made
-
--- of eight fields five stand before the amount, and four of them before the content
-pub five_stand : (fields kept : List Node) → length fields ≡ 8 → kept ≡ take 5 fields → kept ≡ [] → ⊥
-five_stand [] kept h t e = cc
-five_stand (f ∷ fs) kept h t e = cc
-
-pub four_stand : (fields kept front : List Node) (x : Node) → length fields ≡ 8 → kept ≡ take 5 fields → kept ≡ front ++ x ∷ [] → front ≡ [] → ⊥
-four_stand [] kept front x h t e n = cc
-four_stand (f ∷ []) kept front x h t e n = cc
-four_stand (f ∷ g ∷ fs) kept front x h t e n =
-    let two : f ∷ g ∷ take 3 fs ≡ [] ++ x ∷ [] = sym t ∙ e ∙ ap (λ (ns : List Node). ns ++ x ∷ []) n in cc

@@ -38,9 +38,6 @@ same_length : (ns : List Node) → length (nodes_of (trees ns)) ≡ length ns
 same_length [] = refl
 same_length (n ∷ ns) = grind (arith, same_length ns)
 
-pub none_counted : (ns : List Node) → ns ≡ [] → counted (nodes_of (trees ns)) ≡ None
-none_counted ns e = ap (λ (xs : List Node). counted (nodes_of (trees xs))) e
-
 pub many_counted : (ns : List Node) → 1000 < length ns → counted (nodes_of (trees ns)) ≡ None
 many_counted ns h =
     let over : nat_le (length (nodes_of (trees ns))) most_contents ≡ false = grind (arith, nat_tests, same_length ns) in

@@ -4,3 +4,4 @@ pub mod Moves
 pub mod Names
 pub mod Steps
 pub mod Within
+pub mod ForCallers

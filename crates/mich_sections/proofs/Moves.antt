@@ -19,7 +19,7 @@ use Rattle.rules_typing.specs.Bodies.{body_fault}
 use Rattle.rules_typing.specs.Sections.{Placed, Body, WrittenView, Content, parameter_section, storage_section, code_section, view_section, no_section, placed, a_body, view_content, content_of, content_at, Contents, no_contents, once, view_named, with_content, with_sections}
 use Rattle.rules_typing.specs.Scripts.{View, of_parameter, parameter_of, typed_as, TypedView, typed_view, typed_views, Outline, with_types, of_parts, of_contents, outline_of, unless_fault, is_small, fault_of_body, code_fault, view_fault, a_view, with_views, a_script, with_bodies}
 use Rattle.rules_typing.specs.Nodes.{found_at, body, bodies, inner_bodies, sections, script_at, trees_type}
-use Rattle.mich_stackrules.proofs.Shifts.{type_at_from, reading_from}
+use Rattle.mich_stackrules.proofs.ForCallers.{type_at_from, reading_from}
 use Rattle.mich_sections.specs.Outlines.{outline_at}
 
 -- a script's typing from its outline

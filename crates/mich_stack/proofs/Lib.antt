@@ -6,3 +6,4 @@ pub mod Depths
 pub mod Pairs
 pub mod Standing
 pub mod Tops
+pub mod ForCallers

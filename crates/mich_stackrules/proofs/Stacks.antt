@@ -10,7 +10,7 @@ use Rattle.rules_types.specs.Kind.{Kind, nodes}
 use Rattle.mich_base.specs.declared.ty.Ty.{Ty}
 use Rattle.mich_base.specs.TypeView.{kind}
 use Rattle.mich_overload.specs.View.{kinds}
-use Rattle.mich_overload.proofs.Tops.{kinds_below, length_kinds}
+use Rattle.mich_overload.proofs.ForCallers.{kinds_below, length_kinds}
 use Rattle.mich_stackrules.specs.Effects.{are_within_limit, fits, lowered, raised}
 
 pub appended : (ts us : List Ty) → kinds (ts ++ us) ≡ kinds us ++ kinds ts

@@ -20,8 +20,7 @@ use Rattle.rules_values.specs.Tickets.{Identity, Held}
 use Rattle.rules_world.specs.Forms.{IsWorld, IsAccount, IsHolding}
 use Rattle.rules_world.specs.Holdings.{amount_held, with_amount, credited_account, debited_account, held_by, held_by_account}
 use Rattle.rules_world.specs.World.{World as PlainWorld, Account, identity_order, account_at as plain_account_at, account_or_none, no_account, with_account}
-use Rattle.laws_accounts.proofs.Entries.{all_found}
-use Rattle.laws_accounts.proofs.Holdings.{AreHoldings, credited_held, debited_held}
+use Rattle.laws_accounts.proofs.ForCallers.{all_found, AreHoldings, credited_held, debited_held}
 use Rattle.mich_bigmap.specs.Bases.{Bases}
 use Rattle.mich_tickets.specs.Books.{Books}
 use Rattle.mich_tickets.specs.Effects.{Moves}
@@ -30,7 +29,7 @@ use Rattle.mich_tickets.specs.declared.totals.Totals.{Totals}
 use Rattle.mich_undo.specs.Undone.{changed_at}
 use Rattle.mich_world.specs.Holders.{Holders, by_bytes, account_at}
 use Rattle.mich_world.specs.Standing.{contract_in, AreThose}
-use Rattle.mich_world.proofs.Seen.{seen_lookup, seen_insert, written_over}
+use Rattle.mich_world.proofs.ForCallers.{seen_lookup, seen_insert, written_over}
 use Rattle.mich_standing.proofs.Owners.{account_holds}
 
 -- ---- entries that are written as they are

@@ -18,11 +18,11 @@ use Rattle.rules_world.specs.Balances as rules
 use Rattle.rules_world.specs.Forms.{IsWorld, IsChange}
 use Rattle.rules_world.specs.Holdings.{amount_held, held_by_account, held_by_contract, credited, debited}
 use Rattle.rules_world.specs.World.{World as PlainWorld, new_world, Account, account_at as plain_account_at, account_or_none, contract_at as plain_contract_at, with_contract, key_hash_in}
-use Rattle.laws_accounts.proofs.Amounts.{minted_append, burnt_append}
+use Rattle.laws_accounts.proofs.ForCallers.{minted_append, burnt_append}
 use Rattle.mich_bigmap.specs.Bases.{Bases}
 use Rattle.mich_bigmap.specs.Extended.{Extends}
 use Rattle.mich_bigmap.specs.Standing.{val_in}
-use Rattle.mich_bigmap.proofs.Settled.{based_later}
+use Rattle.mich_bigmap.proofs.ForCallers.{based_later}
 use Rattle.mich_forms.specs.Spelled.{place_bytes}
 use Rattle.mich_forms.specs.declared.places.Place.TheVariants as place
 use Rattle.mich_instr.specs.View.{script_node}
@@ -38,13 +38,11 @@ use Rattle.mich_world.specs.World.{World, with_funds, with_ledger}
 use Rattle.mich_world.specs.declared.contract.Contract.{Contract}
 use Rattle.mich_world.specs.declared.errors.GrantError.{GrantError}
 use Rattle.mich_world.specs.declared.errors.GrantError.TheVariants as grant
-use Rattle.mich_world.proofs.Agreeing.{less_is}
-use Rattle.mich_world.proofs.Marks.{undone_is}
-use Rattle.mich_world.proofs.Moves.{contracts_there}
+use Rattle.mich_world.proofs.ForCallers.{less_is, undone_is, contracts_there}
 use Rattle.mich_standing.specs.Laws.{NewWorldsAgree, ClocksAgree, ContractsAgree, AccountsAgree, ReceiversAgree, Grants, GrantsAgree, InstallsAgree, CommitsAgree, RunsAgree, RunsKeepStored, RunEndsAgree, CreditsAgree, DebitsAgree, SameWorldsAgree, MarksAgree, KeepingAgrees}
 use Rattle.mich_standing.proofs.Accounts.{keys_seen, account_is, account_held, credit_those, debit_those, balance_those, holder_there}
 use Rattle.mich_standing.proofs.Contracts.{contract_is, later, standing, balance_same, nobody, length_is, amounts, before_held, contract_those, made_held, replaced_held, made_contracts, replaced_contracts}
-use Rattle.laws_forms.proofs.Places.{contract_is as contract_place_is, implicit_is}
+use Rattle.laws_forms.proofs.ForCallers.{contract_is as contract_place_is, implicit_is}
 use Rattle.mich_standing.proofs.Owners.{place_length, implicit_of, hash_of}
 
 -- ---- new worlds and the clock

@@ -24,9 +24,7 @@ use Rattle.mich_bigmap.specs.Extended.{Extends}
 use Rattle.mich_bigmap.specs.Layers.{AreSettled, SettledLayer}
 use Rattle.mich_bigmap.specs.Standing.{val_in}
 use Rattle.mich_bigmap.specs.Ticketless.{HoldNoTickets}
-use Rattle.mich_bigmap.proofs.Plain.{tickets_in_store}
-use Rattle.mich_bigmap.proofs.Settled.{val_later}
-use Rattle.mich_bigmap.proofs.Staying.{each_more}
+use Rattle.mich_bigmap.proofs.ForCallers.{tickets_in_store, val_later, each_more}
 use Rattle.mich_forms.specs.declared.places.Place.{Place}
 use Rattle.mich_forms.specs.declared.places.Place.TheVariants as place
 use Rattle.mich_term.specs.Layers.{AreFormed, FormedLayer}
@@ -41,8 +39,8 @@ use Rattle.mich_world.specs.Holders.{Holders, by_bytes, contract_at, rebalanced,
 use Rattle.mich_world.specs.Standing.{plain, contract_in, AreThose}
 use Rattle.mich_world.specs.Storages.{IsStored, Stands, Replaces, owner_of, stored_tickets}
 use Rattle.mich_world.specs.declared.contract.Contract.{Contract}
-use Rattle.mich_world.proofs.Seen.{seen_lookup, seen_insert, seen_changed, written_over}
-use Rattle.laws_accounts.proofs.Entries.{all_found}
+use Rattle.mich_world.proofs.ForCallers.{seen_lookup, seen_insert, seen_changed, written_over}
+use Rattle.laws_accounts.proofs.ForCallers.{all_found}
 use Rattle.mich_standing.proofs.Owners.{found_same, hash_of, contract_holds}
 
 -- ---- contracts over more bases

@@ -5,3 +5,4 @@ pub mod Opening
 pub mod Owners
 pub mod Runs
 pub mod Storages
+pub mod ForCallers

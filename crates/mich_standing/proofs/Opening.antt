@@ -14,7 +14,7 @@ use Rattle.rules_world.specs.Balances.{with_less, with_more, with_balance, balan
 use Rattle.rules_world.specs.Forms.{IsWorld}
 use Rattle.rules_world.specs.Holdings.{credited, credited_account}
 use Rattle.rules_world.specs.World.{World, Account, account_at, account_or_none, no_account, with_account}
-use Rattle.laws_accounts.proofs.Entries.{lookup_insert}
+use Rattle.laws_accounts.proofs.ForCallers.{lookup_insert}
 use Rattle.mich_standing.specs.Laws.{CreditsMakeAccounts}
 use Rattle.mich_standing.proofs.Accounts.{written_same, implicit_is}
 use Rattle.mich_standing.proofs.Owners.{at_itself}

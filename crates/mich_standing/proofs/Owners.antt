@@ -18,10 +18,9 @@ use Rattle.rules_steps.specs.Changes.{amount_in}
 use Rattle.rules_values.specs.Tickets.{Identity}
 use Rattle.rules_world.specs.Holdings.{amount_held, held_by, held_by_account, held_by_contract}
 use Rattle.rules_world.specs.World.{World, Account, account_at, contract_at, with_account, with_contract, key_hash_in}
-use Rattle.laws_accounts.proofs.Entries.{lookup_insert}
-use Rattle.laws_accounts.proofs.Identities.{equal_of}
-use Rattle.laws_forms.proofs.Places as places
-use Rattle.laws_forms.proofs.Places.{contract_is, contract_parts}
+use Rattle.laws_accounts.proofs.ForCallers.{lookup_insert, equal_of}
+use Rattle.laws_forms.proofs.ForCallers.Places as places
+use Rattle.laws_forms.proofs.ForCallers.{contract_parts}
 
 -- ---- keys
 

@@ -5,9 +5,8 @@ use Rattle.std.proofs.lemmas.Int.{ints}
 use Rattle.std.specs.Ordering.{int_eq}
 use Rattle.rules_steps.specs.Changes.{Change, minted, burnt, identity_of, amount_of, minted_in, burnt_in}
 use Rattle.rules_values.specs.Tickets.{Identity}
-use Rattle.laws_accounts.proofs.Amounts.{minted_append, burnt_append}
-use Rattle.mich_bigmap.proofs.Extending.{extends_same}
-use Rattle.mich_bigmap.proofs.Settled.{extends_trans}
+use Rattle.laws_accounts.proofs.ForCallers.{minted_append, burnt_append}
+use Rattle.mich_bigmap.proofs.ForCallers.{extends_same, extends_trans}
 use Rattle.mich_tickets.specs.Books.{Books}
 use Rattle.mich_tickets.specs.Effects.{Adds, listed_after, listed_in}
 use Rattle.mich_tickets.specs.Sums.{minted_of, burnt_of}

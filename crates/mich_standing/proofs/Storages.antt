@@ -8,7 +8,7 @@ use Rattle.mich_forms.specs.declared.places.Place.{Place}
 use Rattle.mich_forms.specs.declared.places.Place.TheVariants as place
 use Rattle.mich_term.specs.declared.value.Value.{Value}
 use Rattle.mich_undo.specs.Undone.{changed_at}
-use Rattle.mich_world.specs.Holders.{Holders, by_bytes, rebalanced, restored, balance_or_none, with_balance, with_less, moved, fee_taken, endowed, founded, committed}
+use Rattle.mich_world.specs.Holders.{Holders, by_bytes, rebalanced, restored, balance_or_none, with_balance, with_less, moved, fee_taken, endowed}
 use Rattle.mich_world.specs.Storages.{IsStored}
 use Rattle.mich_world.specs.World.{World, with_funds}
 use Rattle.mich_world.specs.declared.contract.Contract.{Contract}
@@ -43,15 +43,6 @@ module _ (P : Contract → Type 0) (keep : (c : Contract) (n : ℕ) → P c → 
       (match_ordering o ((hash, c) ∷ d ∷ cs) ((d.0, c) ∷ cs) (d ∷ insert_entry by_bytes cs hash c)))
       [ Less ↦ (p, h) | Equal ↦ (p, h.1) | Greater ↦ (h.0, all_inserted cs hash c p h.1) ]
 
-  pub all_founded : (h : Holders) (from : Place) (hash : List ℕ) (c : Contract) → P c → All h → All (founded h from hash c)
-  all_founded h from hash c p a = all_inserted (with_less h from c.balance).contracts hash c p (all_balance h from (balance_or_none h from - c.balance) a)
-
-  pub all_fee : (h : Holders) (who : List ℕ) (n : ℕ) → All h → All (fee_taken h who n)
-  all_fee h who n a = a
-
-  pub all_endowed : (h : Holders) (who : List ℕ) (n : ℕ) → All h → All (endowed h who n)
-  all_endowed h who n a = a
-
 -- what is so of each contract, whatever its storage, stays so
 module _ (P : Contract → Type 0) (keep : (c : Contract) (v : Value) → P c → P (restored v c)) where
   all_restored : (t : List ℕ → Bool) (v : Value) (cs : List (List ℕ × Contract)) → AllByRecursion (λ (e : List ℕ × Contract). P e.1) cs
@@ -60,10 +51,6 @@ module _ (P : Contract → Type 0) (keep : (c : Contract) (v : Value) → P c �
   all_restored t v (c ∷ cs) h =
       elim (t c.0) as (λ b. AllByRecursion (λ (e : List ℕ × Contract). P e.1) (cond b ((c.0, restored v c.1) ∷ cs) (c ∷ changed_at t cs (restored v))))
       [ true ↦ (keep c.1 v h.0, h.1) | false ↦ (h.0, all_restored t v cs h.1) ]
-
-  pub all_committed : (h : Holders) (hash : List ℕ) (v : Value) → AllByRecursion (λ (e : List ℕ × Contract). P e.1) h.contracts
-      → AllByRecursion (λ (e : List ℕ × Contract). P e.1) (committed h hash v).contracts
-  all_committed h hash v a = all_restored (is_at (by_bytes hash)) v h.contracts a
 
 -- ---- settled storages
 

@@ -5,7 +5,7 @@ use Rattle.rules_steps.specs.Step.{Step}
 use Rattle.mich_stack.specs.Ends.{IsKept, IsEnd}
 use Rattle.mich_stack.specs.declared.error.StepError.{StepError}
 use Rattle.mich_stack.specs.declared.error.StepError.TheVariants.{Failed, Memory}
-use Rattle.mich_stack.proofs.Burnt.{given_ends}
+use Rattle.mich_stack.proofs.ForCallers.{given_ends}
 
 pub kept_ends : (s : Step) (V : List Val) (r : Result (Unit {0}) StepError) → IsKept s V r → IsEnd s V r
 kept_ends s V (Ok x) h = given_ends s V [] h

@@ -10,8 +10,7 @@ use Rattle.rules_steps.specs.Stack.{stack_step}
 use Rattle.mich_term.specs.declared.value.Value.{Value}
 use Rattle.mich_stack.specs.Ends.{Fits, IsFitting, gone}
 use Rattle.mich_stack.specs.Views.{Sight, values}
-use Rattle.mich_stack.proofs.Burnt.{burnt_among_burns, given_ends}
-use Rattle.mich_stack.proofs.Tops.{length_values}
+use Rattle.mich_stack.proofs.ForCallers.{burnt_among_burns, given_ends, length_values}
 
 -- of the values on top, the first and then the others
 pub taken_gone : (count others : ℕ) (V : List Val) (v : Val) (W : List Val) → count ≡ others + 1 → V ≡ v ∷ W

@@ -3,8 +3,8 @@ pub mod Ended
 pub mod Gone
 pub mod Ledgers
 pub mod Minting
-pub mod Rules
 pub mod Showing
 pub mod Splitting
 pub mod Suiting
 pub mod Taken
+pub mod ForCallers

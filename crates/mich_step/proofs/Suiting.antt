@@ -3,7 +3,7 @@ use Rattle.std.proofs.Common.{◌≡◌, ℕ, zero, suc, ◌&&◌, List, [], ◌
 use Rattle.std.specs.Prelude.{◌-◌, Option, Some, None, option_map, slice_get, IfSome}
 use Rattle.rules_values.specs.Val.{Val, number, some, left, right, both, ticket, is_comparable}
 use Rattle.rules_values.specs.Tickets.{tickets}
-use Rattle.rules_instructions.specs.Straight.{Straight, StackRow, CollectionRow, NumberRow, TicketRow, on_stack, on_pairs, on_unions, on_collections, on_numbers, on_truth, on_text, on_hashes, on_environment, on_operations, on_tickets}
+use Rattle.rules_instructions.specs.Straight.{Straight, StackRow, CollectionRow, NumberRow, TicketRow, on_stack, on_collections, on_numbers, on_tickets}
 use Rattle.rules_instructions.specs.Straight as i
 use Rattle.mich_stack.specs.Keys.{IsKeyOnTop}
 use Rattle.mich_collections.specs.Keys.{SuitsCollections}

@@ -19,7 +19,7 @@ use Rattle.rules_steps.specs.Sets.{element_count, entry_count}
 use Rattle.rules_steps.specs.Stack.{Part, Replaced, stack_step, pair_step, comb, parts, part_at, passing, replaced, behind}
 use Rattle.rules_steps.specs.Collections.{collection_step, on_option, updated, exchanged, map_with}
 use Rattle.mich_stack.specs.Ends.{gone}
-use Rattle.mich_stack.proofs.Burnt.{burnt_among_burns}
+use Rattle.mich_stack.proofs.ForCallers.{burnt_among_burns}
 use Rattle.mich_tickets.specs.Books.{Books}
 use Rattle.mich_tickets.specs.Limits.{IsPositive, IsReady}
 use Rattle.mich_tickets.specs.Prefixes.{among_least, among_append, first_positive, last_positive}

@@ -28,7 +28,7 @@ use std::alloc::Global;
 
 /// Burns tickets, the first before those behind it. After Memory the ledger is given up, and what was written to it can be taken back
 /// (Octez "Tickets").
-#[tactic(auto, using(mich_undo::proofs::Histories::keeps_same, mich_undo::proofs::Histories::keeps_trans, crate::proofs::Ledgers::tells_same))]
+#[tactic(auto, using(mich_undo::proofs::ForCallers::keeps_same, mich_undo::proofs::ForCallers::keeps_trans, crate::proofs::Ledgers::tells_same))]
 pub fn burn_all(alloc: Global, ledger: &mut Ledger, tickets: Rows<Ticket>) -> Result<(), Memory>
     requires { IsReady ledger.old.books.present (map held tickets) }
     ensures tells { IfOk result (λ _. Tells (burns (map held tickets)) ledger.old ledger.new) }
@@ -49,7 +49,7 @@ fn collector(alloc: Global) -> Collector
     }
 }
 
-#[tactic(auto, using(mich_undo::proofs::Histories::keeps_same))]
+#[tactic(auto, using(mich_undo::proofs::ForCallers::keeps_same))]
 pub(crate) fn order(
     alloc: Global,
     row: &StackRow,
@@ -73,7 +73,7 @@ pub(crate) fn order(
     }
 }
 
-#[tactic(auto, using(mich_undo::proofs::Histories::keeps_same))]
+#[tactic(auto, using(mich_undo::proofs::ForCallers::keeps_same))]
 pub(crate) fn pairs(
     alloc: Global,
     row: &PairRow,
@@ -96,7 +96,7 @@ pub(crate) fn pairs(
     }
 }
 
-#[tactic(auto, using(mich_undo::proofs::Histories::keeps_same))]
+#[tactic(auto, using(mich_undo::proofs::ForCallers::keeps_same))]
 pub(crate) fn collections(
     alloc: Global,
     row: &CollectionRow,

@@ -52,7 +52,7 @@ fn quiet(alloc: Global, instr: &Simple, stack: &mut Rows<Value>, env: &Env) -> R
 /// What an instruction without bodies makes of a stack and of a ledger of tickets, where and for whom code runs. Failed exactly
 /// where its rule fails; after that and after Memory stack and ledger are given up, and what was written to the ledger can be taken
 /// back. Not for instructions that pack, hash, look up or issue, or work on big maps (Michelson reference, "Instructions").
-#[tactic(auto, using(mich_undo::proofs::Histories::keeps_same, crate::proofs::Ledgers::tells_same))]
+#[tactic(auto, using(mich_undo::proofs::ForCallers::keeps_same, crate::proofs::Ledgers::tells_same))]
 pub fn step(
     alloc: Global,
     instr: &Simple,

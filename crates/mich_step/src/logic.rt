@@ -122,7 +122,7 @@ fn comparison(order: Ordering) -> i128
 }
 
 // The comparison of two values.
-#[tactic(auto, using(mich_stack::proofs::Compared::order_seen))]
+#[tactic(auto, using(mich_stack::proofs::ForCallers::order_seen))]
 fn compared(a: &Value, b: &Value) -> i128
     ensures { (big : Sight) → result ≡ comparison (order (seen big a.now) (seen big b.now)) }
 {

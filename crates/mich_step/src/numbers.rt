@@ -121,7 +121,7 @@ fn amount(n: u128) -> Result<u64, NumFault>
 }
 
 // The product of two numbers as an amount of mutez.
-#[tactic(auto, using(mich_num::proofs::Checked::over_mutez))]
+#[tactic(auto, using(mich_num::proofs::ForCallers::over_mutez))]
 fn amount_times(a: u128, n: u128) -> Result<u64, NumFault>
     ensures { limited result ≡ mutez_or_limit (a * n) }
 {

@@ -118,7 +118,7 @@ fn rename(stack: &mut Rows<Value>) -> Result<(), StepError>
     Ok(())
 }
 
-#[tactic(auto, using(mich_stack::proofs::Burnt::burnt_among_burns))]
+#[tactic(auto, using(mich_stack::proofs::ForCallers::burnt_among_burns))]
 fn drop_count<B: Burner>(
     alloc: Global,
     count: u32,
@@ -136,7 +136,7 @@ fn drop_count<B: Burner>(
 }
 
 /// What changing the order of the stack makes of it (Michelson reference, "Stack operations").
-#[tactic(auto, using(mich_stack::proofs::Burnt::burnt_among_burns))]
+#[tactic(auto, using(mich_stack::proofs::ForCallers::burnt_among_burns))]
 pub fn stack_step<B: Burner>(
     alloc: Global,
     row: &StackRow,

@@ -198,7 +198,7 @@ fn give_pairs(alloc: Global, row: &PairRow, stack: &mut Rows<Value>) -> Result<V
 }
 
 /// What making and taking apart pairs makes of a stack (Michelson reference, "Operations on pairs").
-#[tactic(auto, using(mich_stack::proofs::Burnt::given_gone, mich_stack::proofs::Burnt::given_ends))]
+#[tactic(auto, using(mich_stack::proofs::ForCallers::given_gone, mich_stack::proofs::ForCallers::given_ends))]
 pub fn pair_step<B: Burner>(
     alloc: Global,
     row: &PairRow,

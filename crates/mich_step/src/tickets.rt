@@ -48,7 +48,7 @@ fn optional_ticket(alloc: Global, ticket: Option<Ticket>) -> Result<Value, Memor
 }
 
 // Mints so many tickets. None where that is 0.
-#[tactic(auto, using(mich_undo::proofs::Histories::keeps_same, crate::proofs::Ledgers::tells_same, crate::proofs::Minting::minted_none, crate::proofs::Minting::minted_ok, crate::proofs::Minting::minted_failed))]
+#[tactic(auto, using(mich_undo::proofs::ForCallers::keeps_same, crate::proofs::Ledgers::tells_same, crate::proofs::Minting::minted_none, crate::proofs::Minting::minted_ok, crate::proofs::Minting::minted_failed))]
 fn mint_tickets(
     alloc: Global,
     ledger: &mut Ledger,
@@ -70,7 +70,7 @@ fn mint_tickets(
     }
 }
 
-#[tactic(auto, using(mich_undo::proofs::Histories::keeps_same, crate::proofs::Minting::mint_is))]
+#[tactic(auto, using(mich_undo::proofs::ForCallers::keeps_same, crate::proofs::Minting::mint_is))]
 fn mint(
     alloc: Global,
     env: &Env,
@@ -237,7 +237,7 @@ fn join_tickets(
 
 // What minting, reading, splitting and joining tickets makes of a stack and of a ledger. IntegerLimit exactly where so many
 // tickets of an identity would ever have been minted that the total is over 2^127-1 (Michelson reference, "Operations on tickets").
-#[tactic(auto, using(mich_undo::proofs::Histories::keeps_same, crate::proofs::Ledgers::tells_same))]
+#[tactic(auto, using(mich_undo::proofs::ForCallers::keeps_same, crate::proofs::Ledgers::tells_same))]
 pub(crate) fn ticket_step(
     alloc: Global,
     env: &Env,

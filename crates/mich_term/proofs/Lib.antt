@@ -4,3 +4,4 @@ pub mod Faithful
 pub mod OrderLaws
 pub mod Overlays
 pub mod Pairing
+pub mod ForCallers

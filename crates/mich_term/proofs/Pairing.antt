@@ -9,7 +9,7 @@ use Rattle.std.specs.List.{AllByRecursion}
 use Rattle.std.proofs.lemmas.Map.Keys.{sorted_head, sorted_tail}
 use Rattle.rules_values.specs.Val.{Val, Pairs, no_pair, more_pairs}
 use Rattle.rules_values.specs.Order.{order}
-use Rattle.laws_values.proofs.Lawful.{order_lawful}
+use Rattle.laws_values.proofs.ForCallers.{order_lawful}
 use Rattle.rules_values.specs.Tables.{value_at, with_value, without_key, AreKeysAbove, AreIncreasingKeys}
 use Rattle.mich_term.specs.Laws.{PutsIncreasing, TakesIncreasing}
 use Rattle.mich_term.specs.Keyed.{found, with, without, by, IsIncreasing}

@@ -15,7 +15,7 @@ use Rattle.rules_types.specs.declared.Simple.TheVariants as s
 use Rattle.rules_types.specs.Kind.{Kind, simple, operation, option, or, pair, list, set, map, big_map, lambda, contract, ticket}
 use Rattle.rules_values.specs.Order.{order}
 use Rattle.rules_values.specs.Tickets.{Identity}
-use Rattle.laws_values.proofs.Lawful.{order_lawful}
+use Rattle.laws_values.proofs.ForCallers.{order_lawful}
 
 abbrev pub simple_place : Simple → ℕ
 simple_place s.Unit = 0

@@ -60,7 +60,7 @@ fn same_place(a: &Place, b: &Place) -> bool
 }
 
 // Whether two types are equal.
-#[tactic(auto, using(mich_base::proofs::Faithful::kind_faithful))]
+#[tactic(auto, using(mich_base::proofs::ForCallers::kind_faithful))]
 fn same_kind(a: &Ty, b: &Ty) -> bool
     ensures { IsTrue result ↔ (kind a.now ≡ kind b.now) }
 {

@@ -5,7 +5,7 @@ use Rattle.rules_base.specs.Tree.{size}
 use Rattle.rules_text.specs.Token.{Token}
 use Rattle.mich_text.specs.Machine.{Stack, Refusal, unexpected, too_deep, finish, has_statement, ready_for, refused, put, step}
 use Rattle.rules_text.specs.Lexical.{token_at, first_shape}
-use Rattle.mich_text.specs.Plain.{IsFault, IsNode, IsEnd}
+use Rattle.mich_text.specs.Plain.{IsFaultWithoutLimits, IsNodeWithoutLimits, IsEndWithoutLimits}
 use Rattle.rules_text.specs.Text as within
 use Rattle.mich_base.specs.View.{tree}
 use Rattle.mich_text.specs.Gives.{flaw_view}
@@ -60,10 +60,10 @@ EndsClosed false rest = rest ≡ []
 
 -- what the text is, where no limit is looked at
 abbrev pub IsRead : List ℕ → Result (Option Found) LexError → Type 0
-IsRead text (Ok None) = IsEnd text
-IsRead text (Ok (Some found)) = (n : IsNode text (tree found.node) found.start found.end) × EndsClosed found.closed n.stands.rest
+IsRead text (Ok None) = IsEndWithoutLimits text
+IsRead text (Ok (Some found)) = (n : IsNodeWithoutLimits text (tree found.node) found.start found.end) × EndsClosed found.closed n.stands.rest
 IsRead text (Err errors.Memory) = Unit {0}
-IsRead text (Err (errors.Flaw f)) = IsFault text f.kind f.left
+IsRead text (Err (errors.Flaw f)) = IsFaultWithoutLimits text f.kind f.left
 
 -- its places lie in the text
 abbrev pub IsWithinText : ℕ → Result (Option Found) LexError → Type 0

@@ -35,7 +35,7 @@ fn is_white(c: u8) -> bool
 }
 
 // How many bytes of a word the text begins with.
-#[tactic(auto, using(crate::proofs::Strings::prefix_laws))]
+#[tactic(auto, using(crate::proofs::tokens::Strings::prefix_laws))]
 fn word_len(text: &[u8]) -> usize
     ensures is { result ≡ prefix_len is_word text.now }
     ensures within { result ≤ length text.now }
@@ -43,7 +43,7 @@ fn word_len(text: &[u8]) -> usize
     text.iter().take_while(|c| is_word(**c)).count()
 }
 
-#[tactic(auto, using(crate::proofs::Strings::prefix_laws))]
+#[tactic(auto, using(crate::proofs::tokens::Strings::prefix_laws))]
 fn noted_len(text: &[u8]) -> usize
     ensures is { result ≡ prefix_len is_noted text.now }
     ensures within { result ≤ length text.now }
@@ -61,7 +61,7 @@ fn flaw(kind: TextKind, text: &[u8]) -> LexError
     })
 }
 
-#[tactic(auto, unfolding(rules_text::specs::Lexical::name_at), using(crate::proofs::Strings::test_laws))]
+#[tactic(auto, unfolding(rules_text::specs::Lexical::name_at), using(crate::proofs::tokens::Strings::test_laws))]
 fn name_at(alloc: Global, text: &[u8]) -> Result<(Text, &[u8]), LexError>
     ensures { Gives (λ x. (x.0, x.1.now)) result (name_at text.now) }
 {
@@ -73,7 +73,7 @@ fn name_at(alloc: Global, text: &[u8]) -> Result<(Text, &[u8]), LexError>
     Ok((Text::from_slice(alloc, name)?, rest))
 }
 
-#[tactic(auto, unfolding(rules_text::specs::Lexical::annotation_at), using(crate::proofs::Strings::test_laws))]
+#[tactic(auto, unfolding(rules_text::specs::Lexical::annotation_at), using(crate::proofs::tokens::Strings::test_laws))]
 fn annotation_at(alloc: Global, text: &[u8]) -> Result<(Text, &[u8]), LexError>
     requires { 0 < length text.now }
     ensures { Gives (λ x. (x.0, x.1.now)) result (annotation_at text.now) }
@@ -279,7 +279,7 @@ fn begins_word(text: &[u8]) -> bool
     }
 }
 
-#[tactic(auto, using(crate::proofs::Strings::prefix_laws))]
+#[tactic(auto, using(crate::proofs::tokens::Strings::prefix_laws))]
 pub(crate) fn hex_len(text: &[u8]) -> usize
     ensures is { result ≡ prefix_len is_ascii_hexdigit text.now }
     ensures within { result ≤ length text.now }
@@ -287,7 +287,7 @@ pub(crate) fn hex_len(text: &[u8]) -> usize
     text.iter().take_while(|c| c.is_ascii_hexdigit()).count()
 }
 
-#[tactic(auto, unfolding(rules_text::specs::Lexical::bytes_at), using(crate::proofs::Strings::test_laws))]
+#[tactic(auto, unfolding(rules_text::specs::Lexical::bytes_at), using(crate::proofs::tokens::Strings::test_laws))]
 fn bytes_at(alloc: Global, text: &[u8]) -> Result<(Bytes, &[u8]), LexError>
     requires { 2 ≤ length text.now }
     ensures { Gives (λ x. (x.0, x.1.now)) result (bytes_at text.now) }
@@ -309,7 +309,7 @@ fn bytes_at(alloc: Global, text: &[u8]) -> Result<(Bytes, &[u8]), LexError>
 
 // ---- numbers
 
-#[tactic(auto, using(crate::proofs::Strings::prefix_laws))]
+#[tactic(auto, using(crate::proofs::tokens::Strings::prefix_laws))]
 fn digit_len(text: &[u8]) -> usize
     ensures is { result ≡ prefix_len is_ascii_digit text.now }
     ensures within { result ≤ length text.now }
@@ -357,7 +357,7 @@ fn signed(negative: bool, value: u128) -> i128
     }
 }
 
-#[tactic(auto, unfolding(rules_text::specs::Lexical::number_at), using(crate::proofs::Strings::test_laws))]
+#[tactic(auto, unfolding(rules_text::specs::Lexical::number_at), using(crate::proofs::tokens::Strings::test_laws))]
 fn number_at(text: &[u8]) -> Result<(i128, &[u8]), LexError>
     ensures { Gives (λ x. (x.0, x.1.now)) result (number_at text.now) }
 {

@@ -172,7 +172,7 @@ pub fn statement_at(alloc: Global, text: &[u8]) -> Result<Option<Found>, LexErro
 }
 
 /// The same, with its places in the text.
-#[tactic(auto, using(crate::proofs::Loop::read_within))]
+#[tactic(auto, using(crate::proofs::readings::Loop::read_within))]
 pub(crate) fn statement_within(alloc: Global, text: &[u8]) -> Result<Option<Found>, LexError>
     ensures read { IsRead text.now result }
     ensures within { IsWithinText (length text.now) result }

@@ -2,7 +2,7 @@
 ghost use Rattle.std.specs.Prelude.{◌≡◌, ℕ, ◌+◌, ◌-◌, ◌^◌, ◌<◌, ◌≤◌, Bool, List, length, take, drop, true, false, MatchBool, Ok, Some, Err};
 ghost use Rattle.rules_text.specs.Text.{IsStatementLimit, IsFileLimit};
 ghost use Rattle.rules_text.specs.declared.TextKind.{TextKind};
-ghost use Rattle.mich_text.specs.Plain.{IsFault};
+ghost use Rattle.mich_text.specs.Plain.{IsFaultWithoutLimits};
 ghost use Rattle.mich_text.specs.Shown.{IsOpenBytes};
 ghost use Rattle.mich_text.specs.Limited.{IsOnly};
 ghost use Rattle.mich_text.specs.Results.{IsRead, IsWithinText, IsLimitedRead, FrontTells, IsText, IsWithinBytes};
@@ -73,7 +73,7 @@ fn open_bytes(alloc: Global, front: &[u8], left: usize, behind: usize) -> LexErr
     requires long { 1 < left }
     requires within { left ≤ length front.now }
     requires fits { length front.now + behind < 2 ^ 64 }
-    ensures { IsFault front.now TextKind.BadBytes left → IsOpenBytes (drop (length front.now - left) front.now) TextKind.BadBytes → (ends_file : Bool) → FrontTells front.now behind ends_file (Err result) }
+    ensures { IsFaultWithoutLimits front.now TextKind.BadBytes left → IsOpenBytes (drop (length front.now - left) front.now) TextKind.BadBytes → (ends_file : Bool) → FrontTells front.now behind ends_file (Err result) }
 {
     match statement_within(alloc, &front[..front.len() - 1]) {
         Ok(_) => too_long(behind),
@@ -96,7 +96,7 @@ fn fault_of(alloc: Global, front: &[u8], flaw: Flaw, behind: usize) -> LexError
     requires within { flaw.left ≤ length front.now }
     requires fits { length front.now + behind < 2 ^ 64 }
     requires room { behind + 1 < 2 ^ 64 }
-    ensures { IsFault front.now flaw.kind flaw.left → (ends_file : Bool) → FrontTells front.now behind ends_file (Err result) }
+    ensures { IsFaultWithoutLimits front.now flaw.kind flaw.left → (ends_file : Bool) → FrontTells front.now behind ends_file (Err result) }
 {
     if flaw.left <= 1 {
         return too_long(behind);
@@ -206,7 +206,7 @@ fn part(alloc: Global, text: &[u8], before: u64) -> Result<Option<Placed>, TextE
 
 /// Reads the statement at the front of a text, before which so many bytes of its file stand, as `read_statement` does. Places are
 /// counted from the file's beginning.
-#[tactic(auto, using(crate::proofs::Sizes::part_fits))]
+#[tactic(auto, using(crate::proofs::grammar::Sizes::part_fits))]
 pub fn read_part(alloc: Global, text: &[u8], before: u64) -> Result<Option<Placed>, TextError>
     requires { before + length text.now < 2 ^ 64 }
     ensures text { IsPart before text.now result }
@@ -218,7 +218,7 @@ pub fn read_part(alloc: Global, text: &[u8], before: u64) -> Result<Option<Place
 /// Reads the statement that begins at a place, or none where only white space and comments follow it. The fault of the
 /// text with its place, or Memory, where no statement is there (Octez "Micheline"). A statement has at most 16,777,216
 /// bytes up to its `;`, and a file 1,073,741,824; the first byte past a limit is TooLong. It has at most as many nodes as bytes.
-#[tactic(auto, using(crate::proofs::Limits::part_is_text))]
+#[tactic(auto, using(crate::proofs::limits::Places::part_is_text))]
 pub fn read_statement(alloc: Global, bytes: &[u8], place: u64) -> Result<Option<Placed>, TextError>
     requires { place ≤ length bytes.now }
     ensures text { IsText bytes.now place result }

@@ -1,13 +1,13 @@
 -- Branches that are taken one list after another.
 use Rattle.std.proofs.Common.{◌≡◌, ℕ, ◌+◌, Bool, true, false, List, [], ◌∷◌, ◌++◌, map, Result, Err, refl, ap, ◌∙◌, sym, subst}
-use Rattle.rules_base.specs.Tree.{Tree, int, str, bytes, seq, prim, none, more, size}
+use Rattle.rules_base.specs.Tree.{Tree, prim, none, more, size}
 use Rattle.rules_types.specs.Kind.{Kind}
 use Rattle.rules_types.specs.Kind as k
 use Rattle.rules_types.specs.Entrypoints.{Entry, Branch, Entries, entries, bad_name, repeated, then_entries, with_branch, with_branches, in_order, branch, below}
 use Rattle.mich_types.specs.declared.parameter.Entry.{Entry as CodeEntry}
 use Rattle.mich_types.specs.declared.error.TypeError.{TypeError}
 use Rattle.mich_types.specs.declared.error.TypeError.TheVariants as error
-use Rattle.mich_types.specs.Entered.{IsEntered, IsEntryFault, IsNoOr, HasNoTwo, entry_of}
+use Rattle.mich_types.specs.Entered.{IsEntered, IsEntryFault, IsNoOr, entry_of}
 
 then_append : (r : Entries) (xs ys : List Branch) →
     ((es : List Entry) → with_branches es (xs ++ ys) ≡ then_entries (with_branches es xs) (λ more. with_branches more ys)) →
@@ -66,19 +66,6 @@ none_below (k.big_map a b) at t path h = refl
 none_below (k.lambda a b) at t path h = refl
 none_below (k.contract a) at t path h = refl
 none_below (k.ticket a) at t path h = refl
-
-no_two_below : (a b : Kind) (at : ℕ) (t : Tree) (path : List Bool) → HasNoTwo t → below (k.or a b) at t path ≡ []
-no_two_below a b at (int n) path h = refl
-no_two_below a b at (str s) path h = refl
-no_two_below a b at (bytes s) path h = refl
-no_two_below a b at (seq ts) path h = refl
-no_two_below a b at (prim name annots none) path h = refl
-no_two_below a b at (prim name annots (more l none)) path h = refl
-no_two_below a b at (prim name annots (more l (more r none))) path h = absurd h
-no_two_below a b at (prim name annots (more l (more r (more v vs)))) path h = refl
-
-pub none_below_or : (a b c : Kind) (at : ℕ) (t : Tree) (path : List Bool) → c ≡ k.or a b → HasNoTwo t → below c at t path ≡ []
-none_below_or a b c at t path e h = ap (λ x. below x at t path) e ∙ no_two_below a b at t path h
 
 pub entered_fault : {T : Type 0} (es : List Entry) (between after : List CodeEntry) (xs ys : List Branch) (first last : Result T TypeError) (fault : TypeError) →
     first ≡ Err fault → last ≡ Err fault → IsEntered (with_branches es xs) between first → IsEntered (with_branches es (in_order xs ys)) after last

@@ -4,12 +4,12 @@ use Rattle.std.specs.Prelude.{if◌then◌else◌}
 use Rattle.rules_base.specs.Tree.{Tree, int, str, bytes, prim, seq, Trees, none, more, size}
 use Rattle.rules_types.specs.Kind.{Kind}
 use Rattle.rules_types.specs.Kind as k
-use Rattle.rules_values.specs.Val.{Val, Vals, Pairs, more_vals, more_pairs}
+use Rattle.rules_values.specs.Val.{Val, Pairs, more_vals, more_pairs}
 use Rattle.rules_values.specs.Val as v
 use Rattle.rules_forms.specs.Spelling.{is_address}
 use Rattle.rules_values.specs.Literals.{Word, none_word, some_word, left_word, right_word, entry_word, recursive_word, word_of_name, Pending, body, claim, Literal, good, bad, with_pending, and_then, mapped, Reader, simple_value, on_value, option_named, read_option, or_named, read_or, read_parts, parts_of, read_elements, read_list, is_behind, read_increasing, read_set, read_binding, entry_named, read_entry, read_entries, read_table, read_body, recursive_named, read_lambda, read_contract, read, read_rest}
 use Rattle.laws_typing.specs.Laws.{AllAtMost}
-use Rattle.laws_typing.proofs.Sizes.{bodies_within}
+use Rattle.laws_typing.proofs.ForCallers.{bodies_within}
 use Rattle.mich_control.specs.Answers.{inside}
 use Rattle.mich_unpack.specs.Pending.{AreBodies}
 

@@ -18,7 +18,7 @@ use Rattle.rules_typing.specs.Literals.{fault_of_bodies}
 use Rattle.rules_typing.specs.Nodes.{tree_type}
 use Rattle.rules_steps.specs.Packing.{Trial, tried}
 use Rattle.laws_typing.specs.Laws.{AllClaimed}
-use Rattle.laws_literals.proofs.Claims.{pushed_claims}
+use Rattle.laws_literals.proofs.ForCallers.{pushed_claims}
 use Rattle.mich_term.specs.ValueView.{val}
 use Rattle.mich_term.specs.declared.value.Value.{Value}
 use Rattle.mich_unpack.specs.Pending.{unless}

@@ -22,7 +22,7 @@ use Rattle.mich_forms.specs.declared.places.Place.TheVariants as place
 use Rattle.mich_undo.specs.Undone.{changed_at}
 use Rattle.mich_bigmap.specs.Bases.{Bases}
 use Rattle.mich_tickets.specs.Books.{Books}
-use Rattle.mich_tickets.proofs.Finding.{found_close, found_inserted, found_changed}
+use Rattle.mich_tickets.proofs.ForCallers.{found_close, found_inserted, found_changed}
 use Rattle.mich_world.specs.Holders.{Holders, by_bytes, contract_at, balance_at, balance_or_none, may_receive, total, rebalanced, with_balance, with_less, moved, fee_taken}
 use Rattle.mich_world.specs.Laws.{MovesAgree, FeesAgree}
 use Rattle.mich_world.specs.Standing.{plain, AreThose, StandsFor}

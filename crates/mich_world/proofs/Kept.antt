@@ -10,8 +10,7 @@ use Rattle.mich_bigmap.specs.Notes.{Notes}
 use Rattle.mich_bigmap.specs.Standing.{val_in}
 use Rattle.mich_bigmap.specs.Stored.{Stored, with_kept}
 use Rattle.mich_bigmap.specs.Ticketless.{HoldNoTickets}
-use Rattle.mich_bigmap.proofs.Kept.{has_append}
-use Rattle.mich_bigmap.proofs.Named.{kept_based}
+use Rattle.mich_bigmap.proofs.ForCallers.{has_append, kept_based}
 use Rattle.mich_world.specs.Storages.{named_in, IsStored, Stands}
 use Rattle.mich_world.specs.declared.contract.Contract.{Contract}
 

@@ -8,3 +8,4 @@ pub mod Replacing
 pub mod Seen
 pub mod Stored
 pub mod Sums
+pub mod ForCallers

@@ -1,7 +1,7 @@
 -- Marks stay good.
 use Rattle.std.proofs.Common.{◌≡◌, ◌≤◌, ℕ, ℤ, refl, sym, ap, ◌∙◌, arith, subst}
 use Rattle.mich_undo.specs.History.{History, height_of, rewound, Keeps}
-use Rattle.mich_undo.proofs.Histories.{keeps_same, keeps_trans, keeps_equal, rewound_twice}
+use Rattle.mich_undo.proofs.ForCallers.{keeps_same, keeps_trans, keeps_equal, rewound_twice}
 use Rattle.mich_tickets.specs.Books.{State}
 use Rattle.mich_bigmap.specs.Stored.{Stored}
 use Rattle.mich_world.specs.Holders.{Holders, total}
@@ -11,9 +11,6 @@ use Rattle.mich_world.specs.declared.mark.Mark.{Mark}
 
 pub world_same : (w : World) → KeepsWorld w w
 world_same w = record { chain = refl; funds = keeps_same w.funds; books = keeps_same w.ledger.books; bases = keeps_same w.store.bases }
-
-pub world_equal : (v w : World) → w ≡ v → KeepsWorld v w
-world_equal v w e = subst (λ u. KeepsWorld v u) (sym e) (world_same v)
 
 pub world_trans : (u v w : World) → KeepsWorld u v → KeepsWorld v w → KeepsWorld u w
 world_trans u v w p q = record {

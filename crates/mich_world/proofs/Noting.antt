@@ -3,7 +3,7 @@ use Rattle.std.proofs.Common.{◌≡◌, ℕ, List, [], ◌∷◌, ◌++◌, map
 use Rattle.mich_bigmap.specs.Kept.{all_of}
 use Rattle.mich_bigmap.specs.Notes.{Notes}
 use Rattle.mich_bigmap.specs.Stored.{Stored}
-use Rattle.mich_bigmap.proofs.Kept.{notes_none, notes_append}
+use Rattle.mich_bigmap.proofs.ForCallers.{notes_append}
 use Rattle.mich_world.specs.Storages.{named_in}
 use Rattle.mich_world.specs.declared.contract.Contract.{Contract}
 
@@ -12,9 +12,6 @@ pub record NotedSoFar (left whole : List ℕ) (old new : Stored) : Type 0 where
   pub front : List ℕ
   pub parts : front ++ left ≡ whole
   pub notes : Notes front old new
-
-pub noted_none : (whole : List ℕ) (s : Stored) → NotedSoFar whole whole s s
-noted_none whole s = record { front = []; parts = refl; notes = notes_none s }
 
 assoc : (x y z : List ℕ) → (x ++ y) ++ z ≡ x ++ (y ++ z)
 assoc [] y z = refl
@@ -31,6 +28,3 @@ noted_next cs rest c ns whole a b d first is so_far notes = record {
   parts = assoc so_far.front (named_in c) (all_of (map named_in rest)) ∙ ap (λ t. so_far.front ++ all_of (map named_in t)) (sym first) ∙ so_far.parts;
   notes = notes_append so_far.front (named_in c) a b d so_far.notes (subst (λ x. Notes x b d) is notes);
 }
-
-pub noted_all : (whole : List ℕ) (a b : Stored) → NotedSoFar [] whole a b → Notes whole a b
-noted_all whole a b so_far = subst (λ (x : List ℕ). Notes x a b) (sym (nil so_far.front) ∙ so_far.parts) so_far.notes

@@ -1,5 +1,5 @@
 -- Storages that stay settled.
-use Rattle.std.proofs.Common.{◌≡◌, ℕ, List, [], ◌∷◌, Bool, true, false, cond, sym, subst}
+use Rattle.std.proofs.Common.{ℕ, List, [], ◌∷◌, Bool, true, false, cond, sym, subst}
 use Rattle.std.specs.declared.cmp.Ordering.{Ordering}
 use Rattle.std.specs.declared.cmp.Ordering.TheVariants.{Less, Equal, Greater}
 use Rattle.std.specs.Ordering.{match_ordering}
@@ -11,7 +11,7 @@ use Rattle.mich_term.specs.declared.value.Value.{Value}
 use Rattle.mich_undo.specs.Undone.{changed_at}
 use Rattle.mich_bigmap.specs.Bases.{Bases}
 use Rattle.mich_bigmap.specs.Extended.{Extends}
-use Rattle.mich_bigmap.proofs.Settled.{based_later}
+use Rattle.mich_bigmap.proofs.ForCallers.{based_later}
 use Rattle.mich_world.specs.Holders.{Holders, by_bytes, rebalanced, restored, with_balance}
 use Rattle.mich_world.specs.Storages.{IsStored, AreStored, Installs, Commits}
 use Rattle.mich_world.specs.Marks.{IsSame}
@@ -43,9 +43,6 @@ all_balance : (bs : Bases) (h : Holders) (p : Place) (n : ℕ) → All bs h → 
 all_balance bs h (place.Implicit who) n a = a
 all_balance bs h (place.Contract hash) n a =
     all_changed (IsStored bs) (is_at (by_bytes hash)) (rebalanced n) (λ x s. record { settled = s.settled; based = s.based }) h.contracts a
-
-pub stored_funds : (v w : World) → w.store ≡ v.store → AllByRecursion (λ (e : List ℕ × Contract). IsStored v.store.bases.present e.1) w.funds.present.contracts → AreStored w
-stored_funds v w e a = subst (λ s. AllByRecursion (λ (c : List ℕ × Contract). IsStored s.bases.present c.1) w.funds.present.contracts) (sym e) a
 
 pub stored_same : (v w : World) → IsSame v w → AreStored v → AreStored w
 stored_same v w s a =

@@ -276,7 +276,7 @@ impl Funds {
     }
 
     // Takes all writes past a height back, last first; takes no memory.
-    #[tactic(auto, using(mich_undo::proofs::Histories::rewound_here, mich_undo::proofs::Histories::rewound_step))]
+    #[tactic(auto, using(mich_undo::proofs::ForCallers::rewound_here, mich_undo::proofs::ForCallers::rewound_step))]
     pub(crate) fn undo_to(&mut self, height: u64)
         requires { height ≤ height_of self.old }
         ensures { self.new ≡ rewound self.old height }

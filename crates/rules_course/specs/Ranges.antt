@@ -6,7 +6,7 @@ use Rattle.rules_base.specs.Tree.{size}
 use Rattle.rules_gas.specs.Tables.{is_table}
 use Rattle.rules_forms.specs.Spelling.{is_chain_id, is_key_hash}
 use Rattle.rules_world.specs.Forms.{is_moment, IsContent}
-use Rattle.rules_statements.specs.Statements.{Statement, Chain, Costs, Account, Block, Group, form}
+use Rattle.rules_statements.specs.Statements.{Statement, Chain, Costs, Account, Block, Group}
 
 abbrev pub IsStatement : Statement → Type 0
 IsStatement (Chain id level moment) = (is_chain_id id ≡ true) × (level < 2 ^ 32) × (is_moment moment ≡ true)

@@ -6,7 +6,7 @@ use Rattle.rules_lines.specs.Nodes.{line, number, over}
 use Rattle.rules_values.specs.Tickets.{Identity}
 use Rattle.rules_world.specs.Balances.{supply}
 use Rattle.rules_world.specs.Holdings.{held, minted_ever, burnt_ever, identities}
-use Rattle.rules_world.specs.Receipts.{Receipt, Refused, Done, Applied, Failed}
+use Rattle.rules_world.specs.Receipts.{Receipt, Done, Applied, Failed}
 use Rattle.rules_world.specs.World.{World}
 
 -- ---- calls: each is a group of one content

@@ -1,9 +1,8 @@
 -- What a text is, from the beginning of a statement on. Places are told by how many bytes are left there.
 -- `before` is the number of bytes of the file that stand before the text. (Octez "Micheline"; the limits are this host's.)
-use Rattle.std.specs.Prelude.{◌≡◌, ℕ, ◌+◌, ◌-◌, ◌≤◌, ◌<◌, ◌⊎◌, List, [], ◌∷◌, ◌++◌, length, take, Option, Some, None, Result, Ok, Err}
+use Rattle.std.specs.Prelude.{◌≡◌, ℕ, ◌+◌, ◌-◌, ◌≤◌, ◌<◌, ◌⊎◌, List, [], ◌∷◌, ◌++◌, length, take, Option, Some, None, Ok, Err}
 use Rattle.rules_base.specs.Limits.{depth_limit, statement_limit, file_limit}
 use Rattle.rules_base.specs.Tree.{Tree}
-use Rattle.rules_text.specs.Fault.{Flaw}
 use Rattle.rules_text.specs.Token.{Token, token_shape}
 use Rattle.rules_text.specs.Syntax.{Element, element_tokens, IsFront, IsFrontWithin, IsWhole, IsStatement}
 use Rattle.rules_text.specs.Lexical.{after_gap, token_at, first_shape}

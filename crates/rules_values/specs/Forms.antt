@@ -1,7 +1,7 @@
 -- The form that a value of a type has. It says all of what fits a type but what the world and a checker must say: that
 -- a lambda's body goes from the argument's type to the result's, that an address is one of a contract of its type, and
 -- that an operation was issued.
-use Rattle.std.specs.Prelude.{◌≡◌, ◌<◌, ◌^◌, ◌-◌, ◌&&◌, Bool, true, false, ℤ, pos, int_le}
+use Rattle.std.specs.Prelude.{◌≡◌, ◌<◌, ◌^◌, ◌&&◌, Bool, true, false, ℤ, pos, int_le}
 use Rattle.rules_base.specs.Limits.{most_tickets}
 use Rattle.rules_base.specs.Tree.{Tree, seq, size}
 use Rattle.rules_numbers.specs.Limits.{is_int}

@@ -1,6 +1,6 @@
 -- What values weigh where gas is charged for them (this host's cost table).
 use Rattle.std.specs.Prelude.{ℕ, ◌+◌}
-use Rattle.rules_values.specs.Val.{Val, unit, truth, number, text, bytes, nothing, some, left, right, both, list, set, table, big_table, lambda, operation, ticket, Vals, no_val, more_vals, Pairs, no_pair, more_pairs}
+use Rattle.rules_values.specs.Val.{Val, some, left, right, both, list, set, table, Vals, no_val, more_vals, Pairs, no_pair, more_pairs}
 
 abbrev mutual
   -- 1 and the weights of the parts, keys included; a big map, a lambda, an operation, a ticket, text and bytes weigh 1

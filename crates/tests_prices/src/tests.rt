@@ -6,6 +6,7 @@ use mich_overload::{
     StackRow, TextRow, TicketRow, UnionRow,
 };
 use mich_prices::{collection_price, hash_price, price, weigh};
+use mich_stack::{split_top, three_on_top, two_on_top};
 use mich_term::{Chain, Datum, Table, Value};
 use std::alloc::Global;
 use std::test::Fail;
@@ -35,14 +36,6 @@ fn each_instruction_has_a_kind(rt: HostRuntime) {
     assert!(rt; hash_price(&HashRow::Unpack(Ty::Int)) == Kind::Unpack);
 }
 
-// What an instruction weighs that neither packs, hashes, looks up or issues, nor works on big maps.
-fn weight(alloc: Global, instr: Simple, stack: &Rows<Value>) -> Result<u64, Memory> {
-    if !instr.in_step() {
-        return Err(Memory);
-    }
-    weigh(alloc, &instr, stack)
-}
-
 fn text(alloc: Global, s: &str) -> Result<Value, Memory> {
     Ok(Value::Text(Text::from_slice(alloc, s.as_bytes())?))
 }
@@ -60,6 +53,11 @@ fn stack(alloc: Global, third: Value, second: Value, first: Value) -> Result<Row
     Ok(values)
 }
 
+// What one on the order of a stack weighs.
+fn order_weight(alloc: Global, row: StackRow, stack: &Rows<Value>) -> Result<u64, Memory> {
+    weigh(alloc, &Simple::Stack(row), stack)
+}
+
 #[test]
 fn values_are_weighed(rt: HostRuntime) -> Result<(), Fail> {
     let alloc = rt.alloc();
@@ -69,20 +67,12 @@ fn values_are_weighed(rt: HostRuntime) -> Result<(), Fail> {
         list(alloc, "ab", "c")?,
         Value::Number(5),
     )?;
-    assert_eq!(rt;
-        weight(alloc, Simple::Stack(StackRow::Drop(2)), &values)?,
-        4
-    );
-    assert_eq!(rt;
-        weight(alloc, Simple::Stack(StackRow::Drop(3)), &values)?,
-        5
-    );
-    assert_eq!(rt; weight(alloc, Simple::Stack(StackRow::Dup(2)), &values)?, 3);
-    assert_eq!(rt; weight(alloc, Simple::Stack(StackRow::Swap), &values)?, 0);
-    assert_eq!(rt;
-        weight(alloc, Simple::Numbers(NumberRow::AddNumbers), &values)?,
-        0
-    );
+    assert_eq!(rt; order_weight(alloc, StackRow::Drop(2), &values)?, 4);
+    assert_eq!(rt; order_weight(alloc, StackRow::Drop(3), &values)?, 5);
+    assert_eq!(rt; order_weight(alloc, StackRow::Dup(2), &values)?, 3);
+    assert_eq!(rt; order_weight(alloc, StackRow::Swap, &values)?, 0);
+    let add = Simple::Numbers(NumberRow::AddNumbers);
+    assert_eq!(rt; weigh(alloc, &add, &values)?, 0);
     Ok(())
 }
 
@@ -102,58 +92,100 @@ fn map(alloc: Global) -> Result<Value, Memory> {
     Ok(Value::Map(table))
 }
 
+// What GET weighs, where a number and a map stand.
+fn get_weight(alloc: Global, stack: &Rows<Value>) -> Result<u64, Memory> {
+    let Some((Value::Number(_), Value::Map(_), _)) = two_on_top(stack.as_slice()) else {
+        return Err(Memory);
+    };
+    weigh(alloc, &Simple::Collections(CollectionRow::GetMap), stack)
+}
+
 #[test]
 fn what_get_finds_is_weighed(rt: HostRuntime) -> Result<(), Fail> {
     let alloc = rt.alloc();
     let there = stack(alloc, Value::Unit, map(alloc)?, Value::Number(7))?;
     let absent = stack(alloc, Value::Unit, map(alloc)?, Value::Number(8))?;
-    let get = Simple::Collections(CollectionRow::GetMap);
-    assert_eq!(rt; weight(alloc, get, &there)?, 3);
-    let get = Simple::Collections(CollectionRow::GetMap);
-    assert_eq!(rt; weight(alloc, get, &absent)?, 0);
+    assert_eq!(rt; get_weight(alloc, &there)?, 3);
+    assert_eq!(rt; get_weight(alloc, &absent)?, 0);
     let size = Simple::Collections(CollectionRow::SizeMap);
-    assert_eq!(rt; weight(alloc, size, &there)?, 0);
+    assert_eq!(rt; weigh(alloc, &size, &there)?, 0);
     Ok(())
 }
 
-// What one on strings and bytes weighs where these are on top.
-fn text_weight(alloc: Global, row: TextRow, second: Value, first: Value) -> Result<u64, Memory> {
-    let values = stack(alloc, Value::Unit, second, first)?;
-    weight(alloc, Simple::Texts(row), &values)
-}
-
-fn strings_weight(alloc: Global, row: TextRow) -> Result<u64, Memory> {
-    let second = text(alloc, "abc")?;
-    let first = text(alloc, "de")?;
-    text_weight(alloc, row, second, first)
+// What CONCAT weighs, where two strings stand.
+fn strings_weight(alloc: Global, stack: &Rows<Value>) -> Result<u64, Memory> {
+    let Some((Value::Text(_), Value::Text(_), _)) = two_on_top(stack.as_slice()) else {
+        return Err(Memory);
+    };
+    weigh(alloc, &Simple::Texts(TextRow::ConcatStrings), stack)
 }
 
 #[test]
 fn lengths_of_strings_are_weighed(rt: HostRuntime) -> Result<(), Fail> {
     let alloc = rt.alloc();
-    assert_eq!(rt; strings_weight(alloc, TextRow::ConcatStrings)?, 5);
-    assert_eq!(rt; strings_weight(alloc, TextRow::SizeString)?, 0);
+    let values = stack(alloc, Value::Unit, text(alloc, "abc")?, text(alloc, "de")?)?;
+    assert_eq!(rt; strings_weight(alloc, &values)?, 5);
+    let size = Simple::Texts(TextRow::SizeString);
+    assert_eq!(rt; weigh(alloc, &size, &values)?, 0);
     Ok(())
+}
+
+// What CONCAT weighs, where two bytes stand.
+fn bytes_weight(alloc: Global, stack: &Rows<Value>) -> Result<u64, Memory> {
+    let Some((Value::Bytes(_), Value::Bytes(_), _)) = two_on_top(stack.as_slice()) else {
+        return Err(Memory);
+    };
+    weigh(alloc, &Simple::Texts(TextRow::ConcatBytes), stack)
 }
 
 #[test]
 fn lengths_of_bytes_are_weighed(rt: HostRuntime) -> Result<(), Fail> {
     let alloc = rt.alloc();
-    let second = bytes(alloc, "abc")?;
-    let first = bytes(alloc, "d")?;
-    assert_eq!(rt; text_weight(alloc, TextRow::ConcatBytes, second, first)?, 4);
+    let values = stack(alloc, Value::Unit, bytes(alloc, "abc")?, bytes(alloc, "d")?)?;
+    assert_eq!(rt; bytes_weight(alloc, &values)?, 4);
     Ok(())
+}
+
+// What CONCAT weighs, where a list stands.
+fn joined_weight(alloc: Global, stack: &Rows<Value>) -> Result<u64, Memory> {
+    let Some((Value::List(_), _)) = split_top(stack.as_slice()) else {
+        return Err(Memory);
+    };
+    weigh(alloc, &Simple::Texts(TextRow::ConcatStringList), stack)
 }
 
 #[test]
 fn lengths_in_lists_are_weighed(rt: HostRuntime) -> Result<(), Fail> {
     let alloc = rt.alloc();
-    let first = list(alloc, "abc", "de")?;
-    assert_eq!(rt;
-        text_weight(alloc, TextRow::ConcatStringList, Value::Unit, first)?,
-        7
-    );
+    let values = stack(alloc, Value::Unit, Value::Unit, list(alloc, "abc", "de")?)?;
+    assert_eq!(rt; joined_weight(alloc, &values)?, 7);
     Ok(())
+}
+
+// What SLICE weighs, where two numbers that aren't negative and a string stand.
+fn cut_weight(alloc: Global, stack: &Rows<Value>) -> Result<u64, Memory> {
+    let Some((Value::Number(offset), Value::Number(count), Value::Text(_), _)) = three_on_top(
+        stack.as_slice(),
+    ) else {
+        return Err(Memory);
+    };
+    if *offset < 0 || *count < 0 {
+        return Err(Memory);
+    }
+    weigh(alloc, &Simple::Texts(TextRow::SliceString), stack)
+}
+
+// The same with bytes.
+fn bytes_cut_weight(alloc: Global, stack: &Rows<Value>) -> Result<u64, Memory> {
+    let Some((Value::Number(offset), Value::Number(count), Value::Bytes(_), _)) = three_on_top(
+        stack.as_slice(),
+    ) else {
+        return Err(Memory);
+    };
+    if *offset < 0 || *count < 0 {
+        return Err(Memory);
+    }
+    weigh(alloc, &Simple::Texts(TextRow::SliceBytes), stack)
 }
 
 #[test]
@@ -165,26 +197,20 @@ fn what_is_cut_is_weighed(rt: HostRuntime) -> Result<(), Fail> {
         Value::Number(3),
         Value::Number(1),
     )?;
-    assert_eq!(rt;
-        weight(alloc, Simple::Texts(TextRow::SliceString), &cut)?,
-        3
-    );
+    assert_eq!(rt; cut_weight(alloc, &cut)?, 3);
     let past = stack(
         alloc,
         text(alloc, "abcde")?,
         Value::Number(3),
         Value::Number(4),
     )?;
-    assert_eq!(rt;
-        weight(alloc, Simple::Texts(TextRow::SliceString), &past)?,
-        0
-    );
+    assert_eq!(rt; cut_weight(alloc, &past)?, 0);
     let cut = stack(
         alloc,
         bytes(alloc, "abcde")?,
         Value::Number(4),
         Value::Number(0),
     )?;
-    assert_eq!(rt; weight(alloc, Simple::Texts(TextRow::SliceBytes), &cut)?, 4);
+    assert_eq!(rt; bytes_cut_weight(alloc, &cut)?, 4);
     Ok(())
 }

@@ -236,7 +236,7 @@ enum Write {
 }
 
 // So many tickets.
-#[tactic(auto, using(mich_world::proofs::Marks::world_same, mich_world::proofs::Marks::world_trans, mich_world::proofs::Marks::ledger_lent, mich_world::proofs::Marks::store_lent))]
+#[tactic(auto, using(mich_world::proofs::ForCallers::world_same, mich_world::proofs::ForCallers::world_trans, mich_world::proofs::ForCallers::ledger_lent, mich_world::proofs::ForCallers::store_lent))]
 fn minted(alloc: Global, world: &mut World, n: i128) -> Result<Option<Ticket>, Memory>
     requires { pos 0 ≤ℤ n }
     ensures { KeepsWorld world.old world.new }
@@ -248,7 +248,7 @@ fn minted(alloc: Global, world: &mut World, n: i128) -> Result<Option<Ticket>, M
 }
 
 // A ticket is burnt, where no more would be burnt than was minted.
-#[tactic(auto, using(mich_world::proofs::Marks::world_same, mich_world::proofs::Marks::world_trans, mich_world::proofs::Marks::ledger_lent, mich_world::proofs::Marks::store_lent))]
+#[tactic(auto, using(mich_world::proofs::ForCallers::world_same, mich_world::proofs::ForCallers::world_trans, mich_world::proofs::ForCallers::ledger_lent, mich_world::proofs::ForCallers::store_lent))]
 fn burn(alloc: Global, world: &mut World, ticket: Ticket) -> Result<(), Memory>
     ensures { KeepsWorld world.old world.new }
 {
@@ -263,7 +263,7 @@ fn burn(alloc: Global, world: &mut World, ticket: Ticket) -> Result<(), Memory>
 }
 
 // A ticket comes to an owner, where there is room for it.
-#[tactic(auto, using(mich_world::proofs::Marks::world_same, mich_world::proofs::Marks::world_trans, mich_world::proofs::Marks::ledger_lent, mich_world::proofs::Marks::store_lent))]
+#[tactic(auto, using(mich_world::proofs::ForCallers::world_same, mich_world::proofs::ForCallers::world_trans, mich_world::proofs::ForCallers::ledger_lent, mich_world::proofs::ForCallers::store_lent))]
 fn credit(alloc: Global, world: &mut World, owner: &Place, ticket: Ticket) -> Result<(), Memory>
     ensures { KeepsWorld world.old world.new }
 {
@@ -287,7 +287,7 @@ fn empty(alloc: Global) -> BigMap
 }
 
 // It is settled: it gets a base.
-#[tactic(auto, using(mich_world::proofs::Marks::world_same, mich_world::proofs::Marks::world_trans, mich_world::proofs::Marks::ledger_lent, mich_world::proofs::Marks::store_lent))]
+#[tactic(auto, using(mich_world::proofs::ForCallers::world_same, mich_world::proofs::ForCallers::world_trans, mich_world::proofs::ForCallers::ledger_lent, mich_world::proofs::ForCallers::store_lent))]
 fn settle_one(alloc: Global, world: &mut World) -> Result<(), Memory>
     ensures { KeepsWorld world.old world.new }
 {
@@ -297,7 +297,7 @@ fn settle_one(alloc: Global, world: &mut World) -> Result<(), Memory>
     Ok(())
 }
 
-#[tactic(auto, using(mich_world::proofs::Marks::world_same, mich_world::proofs::Marks::world_trans, mich_world::proofs::Marks::ledger_lent, mich_world::proofs::Marks::store_lent))]
+#[tactic(auto, using(mich_world::proofs::ForCallers::world_same, mich_world::proofs::ForCallers::world_trans, mich_world::proofs::ForCallers::ledger_lent, mich_world::proofs::ForCallers::store_lent))]
 fn apply(alloc: Global, world: &mut World, write: Write) -> Result<(), Fail>
     ensures { KeepsWorld world.old world.new }
 {

@@ -1,5 +1,5 @@
 use Rattle.rules_world.specs.World.{identity_order}
-use Rattle.laws_accounts.proofs.Identities.{identity_total}
+use Rattle.laws_accounts.proofs.ForCallers.{identity_total}
 use Rattle.laws_lines.proofs.Aligned.{are_alike}
 use Rattle.laws_lines.proofs.Exact.{all_exact}
 use Rattle.laws_lines.proofs.one_telling.Goals as goal

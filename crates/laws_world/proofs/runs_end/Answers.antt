@@ -1,4 +1,4 @@
-use Rattle.laws_runs.proofs.Runs.{runs_end}
+use Rattle.laws_runs.proofs.ForCallers.{runs_end}
 use Rattle.laws_world.proofs.runs_end.Goals as goal
 
 pub returns : goal.returns

@@ -1,4 +1,4 @@
-use Rattle.laws_runs.proofs.Runs.{runs_end_well}
+use Rattle.laws_runs.proofs.ForCallers.{runs_end_well}
 use Rattle.laws_world.proofs.runs_end_well.Goals as goal
 
 pub returns : goal.returns

@@ -1,4 +1,4 @@
-use Rattle.laws_accounts.proofs.KindTexts.{texts_tell_types}
+use Rattle.laws_accounts.proofs.ForCallers.{texts_tell_types}
 use Rattle.laws_world.proofs.texts_tell_types.Goals as goal
 
 pub returns : goal.returns

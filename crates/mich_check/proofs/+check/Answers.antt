@@ -1,11 +1,11 @@
-use Rattle.std.proofs.Common.{rules, arith, ◌≡◌, ◌+◌, subst, ap, sym, ◌∙◌}
+use Rattle.std.proofs.Common.{rules, arith, ◌+◌, subst, ap, sym, ◌∙◌}
 use Rattle.std.specs.Prelude.{Err}
 use Rattle.rules_base.specs.Tree.{prim, size, sizes}
 use Rattle.rules_typing.specs.Typing.{shift}
 use Rattle.rules_typing.specs.Nodes.{tree_type, trees_type}
 use Rattle.mich_base.specs.TypeView.{kind}
 use Rattle.mich_base.specs.View.{tree, trees}
-use Rattle.mich_data.proofs.Places.{sizes_at}
+use Rattle.mich_data.proofs.ForCallers.{sizes_at}
 use Rattle.mich_overload.specs.View.{kinds}
 use Rattle.mich_control.specs.View.{context}
 use Rattle.rules_typing.specs.Literals.{fault_of_bodies}
@@ -13,15 +13,9 @@ use Rattle.mich_data.specs.View.{pending, all_pending}
 use Rattle.mich_data.specs.declared.pending.Pending.{Pending as Item}
 use Rattle.mich_check.specs.Pending.{IsFaulty, item_fault, moved}
 use Rattle.mich_control.specs.Answers.{IsFault}
-use Rattle.mich_control.proofs.Shifts.{fault_is, seq_at}
+use Rattle.mich_control.proofs.ForCallers.{fault_is, seq_at, branch_one, branch_other, branch_join, branch_made, loop_body, loop_other, loop_behind, dip_read, dip_body, dip_made, map_body, map_made, lambda_types, lambda_begun, lambda_body, lambda_is, tree_seq, code_seq, code_create, storage_kind}
 use Rattle.mich_check.proofs.Blocks.{left_size, block_fault, block_step, block_code, block_end, block_whole, seq_made}
-use Rattle.mich_control.proofs.Branches.{branch_one, branch_other, branch_join, branch_made}
-use Rattle.mich_control.proofs.Loops.{loop_arguments, loop_stack, loop_body, loop_other, loop_behind}
-use Rattle.mich_control.proofs.DipTyping.{dip_read, dip_few, dip_body, dip_made}
-use Rattle.mich_control.proofs.MapTyping.{map_arguments, map_stack, map_body, map_made}
-use Rattle.mich_control.proofs.LambdaTyping.{lambda_arguments, lambda_types, lambda_begun, lambda_body, lambda_is}
-use Rattle.mich_check.proofs.PushTyping.{push_arguments, push_type, push_literal, push_body, push_made, items_room, items_size, items_fault, items_step, items_end, called_item, called_bad, called_other, called_well}
-use Rattle.mich_control.proofs.Views.{tree_seq, code_seq}
+use Rattle.mich_check.proofs.PushTyping.{push_type, push_literal, push_body, push_made, items_room, items_size, items_fault, items_step, items_end, called_item}
 use Rattle.std.specs.Prelude.{map}
 use Rattle.std.proofs.Common.{◌<◌, ◌≤◌, refl, subst}
 use Rattle.rules_typing.specs.Scripts.{with_views}
@@ -31,7 +25,6 @@ use Rattle.mich_instr.specs.declared.instr.Script.{Script, out-Script}
 use Rattle.mich_check.specs.Scripts.{AreTypedViews, largest_of}
 use Rattle.mich_check.proofs.CreateTyping.{created, create_script, shared_typed, storage_other}
 use Rattle.mich_check.proofs.ScriptTyping.{Reached, code_size, reached_none, script_typed, views_end, views_fault, views_largest, views_size, views_step, whole_good}
-use Rattle.mich_control.proofs.Views.{code_create, storage_kind}
 use Rattle.mich_check.proofs.+check.Goals as goal
 
 pub nodes::check_block-check_node-requires : goal.nodes::check_block-check_node-requires

@@ -1,9 +1,7 @@
-use Rattle.std.proofs.Common.{rules, ◌≡◌, List, [], ◌∷◌, ◌++◌, sym, ap, ◌∙◌, subst, append_assoc}
+use Rattle.std.proofs.Common.{rules, ◌≡◌, [], ◌∷◌, ◌++◌, sym, ap, ◌∙◌, subst, append_assoc}
 use Rattle.std.specs.Map.{keys_of}
 use Rattle.std.specs.Vec.Iter.{into_iter_items}
 use Rattle.mich_term.specs.Keyed.{IsIncreasing}
-use Rattle.mich_term.specs.declared.datum.Datum.{Datum}
-use Rattle.mich_term.specs.declared.value.Value.{Value}
 use Rattle.mich_bigmap.specs.Bases.{Changes}
 use Rattle.mich_bigmap.specs.Merged.{all_with}
 use Rattle.mich_bigmap.proofs.Weaving.{rest_increases}

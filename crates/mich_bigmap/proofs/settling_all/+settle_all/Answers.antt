@@ -1,4 +1,4 @@
-use Rattle.std.proofs.Common.{◌≡◌, List, [], ◌∷◌, ◌++◌, sym, ap, ◌∙◌, subst, refl, rules, append_assoc}
+use Rattle.std.proofs.Common.{◌≡◌, List, [], ◌∷◌, ◌++◌, sym, ap, ◌∙◌, subst, rules, append_assoc}
 use Rattle.std.specs.Vec.Iter.{into_iter_items}
 use Rattle.std.specs.List.{AllByRecursion}
 use Rattle.mich_term.specs.declared.datum.Datum.{Datum}
@@ -6,7 +6,7 @@ use Rattle.mich_bigmap.specs.Settling.{SettlesAll, SettlesEntries}
 use Rattle.mich_term.specs.declared.value.Value.{Value, the_lemmas}
 use Rattle.mich_term.specs.Layers.{AreFormed, FormedLayer}
 use Rattle.mich_bigmap.specs.Layers.{HasBases, BasedLayer}
-use Rattle.mich_term.proofs.Each as e
+use Rattle.mich_term.proofs.ForCallers.Each as e
 use Rattle.mich_bigmap.proofs.Settled as s
 use Rattle.mich_bigmap.proofs.settling_all.+settle_all.Goals as goal
 

@@ -2,7 +2,7 @@ use Rattle.rules_steps.specs.Collections.{collection_step}
 use Rattle.rules_values.specs.Tickets.{tickets}
 use Rattle.mich_overload.specs.View.{collection_row}
 use Rattle.mich_stack.specs.Views.{seen, values}
-use Rattle.mich_stack.proofs.Burnt.{given_ends, given_failed}
+use Rattle.mich_stack.proofs.ForCallers.{given_ends, given_failed}
 use Rattle.mich_collections.proofs.collections.collection_step.Goals as goal
 
 pub returns-in_ok-discard-in-Ok-clause-ends : goal.returns-in_ok-discard-in-Ok-clause-ends

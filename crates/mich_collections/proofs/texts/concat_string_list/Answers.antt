@@ -1,6 +1,5 @@
-use Rattle.std.proofs.Common.{ℕ, ◌∷◌, Vec, Global, ap, sym, subst, ◌∙◌}
+use Rattle.std.proofs.Common.{ℕ, ◌∷◌, Vec, Global, ap, subst, ◌∙◌}
 use Rattle.std.specs.Prelude.{option_map}
-use Rattle.rules_values.specs.Val.{list}
 use Rattle.rules_steps.specs.Texts.{joined}
 use Rattle.mich_stack.specs.Views.{values}
 use Rattle.mich_collections.specs.Seen.{vals_by}

@@ -1,4 +1,4 @@
-use Rattle.std.proofs.Common.{◌≡◌, ◌≤◌, take, length}
+use Rattle.std.proofs.Common.{◌≡◌, take, length}
 use Rattle.mich_control.proofs.joining.same_lists.Given as goal
 
 abbrev pub invariant-loop-i : goal.invariant-loop-i

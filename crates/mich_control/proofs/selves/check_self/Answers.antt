@@ -1,4 +1,4 @@
-use Rattle.std.proofs.Common.{rules, ◌≡◌, ap, sym, ◌∙◌}
+use Rattle.std.proofs.Common.{rules}
 use Rattle.rules_base.specs.Tree.{prim}
 use Rattle.rules_typing.specs.Typing.{shift}
 use Rattle.rules_typing.specs.Nodes.{tree_type}
@@ -6,7 +6,7 @@ use Rattle.mich_base.specs.View.{trees}
 use Rattle.mich_overload.specs.View.{kinds}
 use Rattle.mich_control.specs.View.{context}
 use Rattle.mich_control.specs.Answers.{IsFault}
-use Rattle.mich_control.proofs.SelfTyping.{self_unnamed, self_absent, self_large, self_made}
+use Rattle.mich_control.proofs.SelfTyping.{self_unnamed, self_made}
 use Rattle.mich_control.proofs.Views.{code_self}
 use Rattle.mich_control.proofs.selves.check_self.Goals as goal
 

@@ -1,6 +1,6 @@
 use Rattle.std.proofs.Common.{ap, sym, ◌∙◌}
 use Rattle.mich_overload.specs.View.{kinds}
-use Rattle.mich_control.proofs.Loops.{loop_none, loop_stands}
+use Rattle.mich_control.proofs.Loops.{loop_stands}
 use Rattle.mich_control.proofs.shapes.loop_stacks.Goals as goal
 
 pub returns : goal.returns

@@ -1,6 +1,6 @@
 use Rattle.std.proofs.Common.{◌++◌, ap, sym, ◌∙◌}
 use Rattle.mich_overload.specs.View.{kinds}
-use Rattle.mich_overload.proofs.Tops.{length_kinds}
+use Rattle.mich_overload.proofs.ForCallers.{length_kinds}
 use Rattle.mich_control.proofs.Loops.{turning_whole}
 use Rattle.mich_control.proofs.shapes.turning_over.Goals as goal
 

@@ -1,6 +1,6 @@
 use Rattle.std.proofs.Common.{rules, ◌<◌, ◌^◌}
 use Rattle.rules_base.specs.Tree.{size}
-use Rattle.laws_course.proofs.Fields.{statements_have_ranges}
+use Rattle.laws_course.proofs.ForCallers.{statements_have_ranges}
 use Rattle.mich_base.specs.View.{tree}
 use Rattle.mich_scenario.specs.View.{said}
 use Rattle.mich_course.proofs.tests.statement.Goals as goal

@@ -1,5 +1,4 @@
-use Rattle.std.proofs.Common.{◌≡◌, sym, ap, ◌∙◌}
-use Rattle.std.specs.Prelude.{option_map}
+use Rattle.std.proofs.Common.{sym, ap, ◌∙◌}
 use Rattle.rules_values.specs.Tables.{value_at}
 use Rattle.mich_term.specs.View.{datum}
 use Rattle.mich_entries.specs.Given.{entries_seen}

@@ -4,7 +4,7 @@ use Rattle.rules_steps.specs.Step.{optional}
 use Rattle.mich_term.specs.View.{datum}
 use Rattle.laws_sights.specs.Sights.{sight}
 use Rattle.mich_entries.specs.Given.{IsExchange, entries_seen, seen_in, values_in}
-use Rattle.mich_entries.specs.Operands.{IsBigMapThird, IsBigMapOnTop}
+use Rattle.mich_entries.specs.Operands.{IsBigMapOnTop}
 use Rattle.mich_entries.proofs.Stepped.{exchange_is, third_option, third_big, option_plain}
 use Rattle.mich_entries.proofs.rows.exchange.Goals as goal
 

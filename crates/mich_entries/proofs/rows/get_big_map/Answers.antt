@@ -2,7 +2,6 @@ use Rattle.std.proofs.Common.{◌∷◌, ap, subst, ◌∙◌}
 use Rattle.std.specs.Prelude.{option_map}
 use Rattle.rules_instructions.specs.Straight as i
 use Rattle.rules_steps.specs.Collections.{collection_step}
-use Rattle.rules_steps.specs.Step.{optional}
 use Rattle.mich_term.specs.View.{datum}
 use Rattle.laws_sights.specs.Sights.{sight}
 use Rattle.mich_entries.specs.Given.{entries_seen, seen_in, values_in}

@@ -1,13 +1,11 @@
 use Rattle.std.proofs.Common.{◌≡◌, true, sym, ap, ◌∙◌, subst}
 use Rattle.std.specs.Prelude.{IfSome, is_some, option_map}
 use Rattle.std.specs.declared.option.Option.{Option}
-use Rattle.rules_steps.specs.Costs.{weight_found}
-use Rattle.rules_values.specs.Val.{Val, is_comparable}
+use Rattle.rules_values.specs.Val.{is_comparable}
 use Rattle.mich_term.specs.View.{datum}
 use Rattle.mich_term.specs.ValueView.{val}
 use Rattle.mich_term.specs.Weights.{capped}
 use Rattle.mich_term.specs.declared.datum.Datum.{Datum}
-use Rattle.mich_stack.specs.Views.{values}
 use Rattle.laws_sights.specs.Sights.{sight}
 use Rattle.rules_values.specs.Tables.{value_at}
 use Rattle.mich_entries.specs.Given.{entries_seen, values_in}

@@ -9,7 +9,7 @@ use Rattle.mich_gas.specs.View.{listed}
 use Rattle.mich_machine.specs.Calls.{counts_of, IsHosting}
 use Rattle.mich_ops.specs.View.{content as content_of}
 use Rattle.mich_ops.specs.declared.receipt.Status.{Status as Said}
-use Rattle.mich_world.proofs.Marks.{world_same, world_trans}
+use Rattle.mich_world.proofs.ForCallers.{world_same, world_trans}
 use Rattle.mich_group.specs.Trees.{Goes}
 use Rattle.mich_group.specs.Turns.{AreBroken, OnEnded}
 use Rattle.mich_group.specs.declared.content.Ended.{Ended}

@@ -5,8 +5,8 @@ use Rattle.mich_base.specs.declared.memory.Memory.{Memory}
 use Rattle.mich_gas.specs.View.{listed}
 use Rattle.mich_ops.specs.View.{content, contents as contents_of}
 use Rattle.mich_ops.specs.declared.group.Content.{Content}
-use Rattle.mich_operations.proofs.Hosting.{stands_same}
-use Rattle.mich_world.proofs.Marks.{same_keeps, undone_is}
+use Rattle.mich_operations.proofs.ForCallers.{stands_same}
+use Rattle.mich_world.proofs.ForCallers.{same_keeps, undone_is}
 use Rattle.mich_world.specs.Marks.{KeepsWorld}
 use Rattle.mich_world.specs.World.{World}
 use Rattle.mich_group.specs.Trees.{Goes}

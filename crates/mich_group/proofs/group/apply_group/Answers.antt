@@ -1,7 +1,7 @@
 use Rattle.rules_world.specs.Groups.{fees_taken}
 use Rattle.mich_gas.specs.View.{listed}
 use Rattle.mich_ops.specs.View.{contents as contents_of}
-use Rattle.mich_world.proofs.Marks.{world_same}
+use Rattle.mich_world.proofs.ForCallers.{world_same}
 use Rattle.mich_group.proofs.Fees.{is_there, settled_ended}
 use Rattle.mich_group.proofs.group.apply_group.Goals as goal
 

@@ -1,5 +1,5 @@
 use Rattle.mich_ops.specs.View.{contents as contents_of}
-use Rattle.mich_operations.proofs.Hosting.{hosting_fee}
+use Rattle.mich_operations.proofs.ForCallers.{hosting_fee}
 use Rattle.mich_group.proofs.Fees.{fees_went}
 use Rattle.mich_group.proofs.group.take_fees.Goals as goal
 

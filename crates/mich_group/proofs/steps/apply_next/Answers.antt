@@ -3,7 +3,7 @@ use Rattle.std.proofs.lemmas.Result.{err_from_is_err_and}
 use Rattle.rules_world.specs.Groups.{setting_of}
 use Rattle.mich_gas.specs.View.{listed}
 use Rattle.mich_machine.specs.Calls.{counts_of}
-use Rattle.mich_world.proofs.Marks.{world_same}
+use Rattle.mich_world.proofs.ForCallers.{world_same}
 use Rattle.mich_group.specs.Waiting.{AreHanded, all_sent, sent}
 use Rattle.mich_group.proofs.Sending.{all_sent_last, are_handed_later, handed_each, handed_front}
 use Rattle.mich_group.proofs.Stepping.{begins_with, failed_to, goes_last, sent_now, stepped}

@@ -1,5 +1,5 @@
-use Rattle.std.proofs.Common.{refl, subst, sym, arith}
-use Rattle.laws_course.proofs.Charged.{nothing_charged}
+use Rattle.std.proofs.Common.{subst, sym, arith}
+use Rattle.laws_course.proofs.ForCallers.{nothing_charged}
 use Rattle.laws_evaluation.specs.Laws.{IsCharged}
 use Rattle.mich_group.proofs.tests.applied.Goals as goal
 

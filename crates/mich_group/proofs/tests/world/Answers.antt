@@ -1,8 +1,8 @@
-use Rattle.std.proofs.Common.{◌≡◌, ◌<◌, ◌^◌, ℕ, ℤ, true, List, [], ◌∷◌, Ok, Err, refl, sym, ap, subst, arith}
+use Rattle.std.proofs.Common.{◌≡◌, ◌<◌, ◌^◌, ℕ, ℤ, true, List, [], ◌∷◌, Ok, refl, sym, ap, subst, arith}
 use Rattle.std.specs.Prelude.{Result}
 use Rattle.std.specs.List.{AllByRecursion}
 use Rattle.laws_runs.specs.Worlds.{IsWhole}
-use Rattle.laws_world.proofs.Chains.{grants_keep_good, new_worlds_are_good}
+use Rattle.laws_world.proofs.ForCallers.{grants_keep_good, new_worlds_are_good}
 use Rattle.rules_forms.specs.Spelling.{is_chain_id, is_key_hash}
 use Rattle.rules_world.specs.Balances.{Grant, Granted, Repeated, TooMuch, granted_to}
 use Rattle.rules_world.specs.Forms.{is_moment}
@@ -11,7 +11,7 @@ use Rattle.rules_world.specs.World.{World as PlainWorld, new_world}
 use Rattle.mich_instr.specs.Scripts.{IsTypedScript}
 use Rattle.mich_machine.specs.Calls.{IsHosting}
 use Rattle.mich_standing.specs.Laws.{Grants}
-use Rattle.mich_standing.proofs.Agreement.{new_worlds_agree, grants_agree}
+use Rattle.mich_standing.proofs.ForCallers.{new_worlds_agree, grants_agree}
 use Rattle.mich_world.specs.Answers.{IsGrant}
 use Rattle.mich_world.specs.Standing.{StandsFor}
 use Rattle.mich_world.specs.Storages.{IsStored}

@@ -7,7 +7,7 @@ use Rattle.mich_machine.specs.Calls.{counts_of}
 use Rattle.mich_operations.specs.declared.applied.ApplyError.{ApplyError}
 use Rattle.mich_ops.specs.declared.failure.Failure.{Failure as Failed}
 use Rattle.mich_ops.specs.View.{action as action_of, effect}
-use Rattle.mich_world.proofs.Marks.{world_same}
+use Rattle.mich_world.proofs.ForCallers.{world_same}
 use Rattle.mich_group.specs.Trees.{IsFailed, IsStep, StepsAs, WalksAs, behind_all}
 use Rattle.mich_group.specs.Waiting.{all_sent}
 use Rattle.mich_group.specs.declared.tree.TreeError.TheVariants as errors

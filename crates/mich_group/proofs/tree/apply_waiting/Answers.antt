@@ -16,7 +16,7 @@ use Rattle.mich_ops.specs.declared.failure.Failure.{Failure as Failed}
 use Rattle.mich_ops.specs.declared.receipt.Effect.{Effect as Done}
 use Rattle.mich_ops.specs.View.{effect}
 use Rattle.mich_world.specs.World.{World}
-use Rattle.mich_world.proofs.Marks.{world_same, world_trans}
+use Rattle.mich_world.proofs.ForCallers.{world_same, world_trans}
 use Rattle.mich_group.specs.Trees.{StepsTo, IsFailed, IsWalked, WalksAs, behind_all}
 use Rattle.mich_group.specs.Waiting.{all_sent}
 use Rattle.mich_group.specs.declared.tree.TreeError.TheVariants as tree

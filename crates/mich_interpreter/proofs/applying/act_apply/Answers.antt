@@ -13,8 +13,8 @@ use Rattle.mich_base.specs.declared.node.Node.{Node}
 use Rattle.mich_gas.specs.View.{listed}
 use Rattle.mich_term.specs.ValueView.{val}
 use Rattle.mich_stack.specs.Views.{seen}
-use Rattle.mich_frames.proofs.Calls.{apply_top}
-use Rattle.mich_prices.proofs.Weighed.{found_weighs}
+use Rattle.mich_frames.proofs.ForCallers.{apply_top}
+use Rattle.mich_prices.proofs.ForCallers.{found_weighs}
 use Rattle.mich_interpreter.specs.View.{tops}
 use Rattle.mich_interpreter.proofs.Executed.{call_top, call_below}
 use Rattle.mich_interpreter.proofs.Captured.{captured_seen, apply_any_broke, apply_any_acts, apply_any_large, apply_any_deep}

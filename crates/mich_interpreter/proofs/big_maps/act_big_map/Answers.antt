@@ -15,11 +15,11 @@ use Rattle.mich_entries.specs.Operands.{HasBigMap}
 use Rattle.mich_world.specs.World.{World}
 use Rattle.mich_bigmap.specs.Stored.{Stored}
 use Rattle.mich_interpreter.specs.Sees.{Sees}
-use Rattle.mich_interpreter.specs.View.{Beyond, tops}
+use Rattle.mich_interpreter.specs.View.{Beyond}
 use Rattle.mich_interpreter.proofs.Capped.{paid_is, broke_is}
 use Rattle.mich_interpreter.proofs.Keeping.{same_keeps, past_of}
 use Rattle.mich_interpreter.proofs.BigMapRows as rows
-use Rattle.mich_frames.proofs.Straights.{row_broke}
+use Rattle.mich_frames.proofs.ForCallers.{row_broke}
 use Rattle.mich_interpreter.proofs.big_maps.act_big_map.Goals as goal
 
 -- the sight of a run is that of the store which was read

@@ -1,7 +1,7 @@
 use Rattle.std.proofs.Common.{◌∙◌}
 use Rattle.rules_gas.specs.declared.Kind.TheVariants as g
 use Rattle.mich_gas.specs.View.{listed}
-use Rattle.mich_frames.proofs.Branches.{if_left_top}
+use Rattle.mich_frames.proofs.ForCallers.{if_left_top}
 use Rattle.mich_interpreter.proofs.Any.{union_broke, left_opens, right_opens}
 use Rattle.mich_interpreter.proofs.Paid.{opens_paid, paid_less}
 use Rattle.mich_interpreter.proofs.branches.act_if_left.Goals as goal

@@ -1,7 +1,7 @@
 use Rattle.std.proofs.Common.{◌∙◌}
 use Rattle.rules_gas.specs.declared.Kind.TheVariants as g
 use Rattle.mich_gas.specs.View.{listed}
-use Rattle.mich_frames.proofs.Branches.{if_none_top}
+use Rattle.mich_frames.proofs.ForCallers.{if_none_top}
 use Rattle.mich_interpreter.proofs.Any.{option_broke, none_opens, some_opens}
 use Rattle.mich_interpreter.proofs.Paid.{opens_paid, paid_less}
 use Rattle.mich_interpreter.proofs.branches.act_if_none.Goals as goal

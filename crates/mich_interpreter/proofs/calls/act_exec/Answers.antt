@@ -1,13 +1,8 @@
-use Rattle.std.proofs.Common.{◌≡◌, ◌<◌, ◌^◌, None, sym, subst}
-use Rattle.rules_base.specs.Tree.{Tree, seq, size}
 use Rattle.rules_gas.specs.declared.Kind.TheVariants as g
-use Rattle.rules_typing.specs.Literals.{lambda_fault}
-use Rattle.mich_base.specs.TypeView.{kind}
 use Rattle.mich_base.specs.View.{tree}
-use Rattle.mich_control.specs.Answers.{inside}
 use Rattle.mich_gas.specs.View.{listed}
 use Rattle.mich_stack.specs.Views.{seen}
-use Rattle.mich_frames.proofs.Calls.{exec_top}
+use Rattle.mich_frames.proofs.ForCallers.{exec_top}
 use Rattle.mich_interpreter.specs.View.{tops}
 use Rattle.mich_interpreter.proofs.Executed.{call_top, call_below, call_seq, exec_any_broke, exec_fits, exec_faultless, exec_any_opens}
 use Rattle.mich_interpreter.proofs.Paid.{opens_paid, paid_less}

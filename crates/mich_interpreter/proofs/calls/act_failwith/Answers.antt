@@ -3,7 +3,7 @@ use Rattle.rules_steps.specs.Failure as f
 use Rattle.rules_evaluation.specs.Outcome.{failed}
 use Rattle.mich_base.specs.TypeView.{kind}
 use Rattle.rules_values.specs.Val.{Val}
-use Rattle.mich_frames.proofs.Calls.{fail_top, fail_acts}
+use Rattle.mich_frames.proofs.ForCallers.{fail_top, fail_acts}
 use Rattle.mich_interpreter.proofs.Any.{fail_any_broke}
 use Rattle.mich_interpreter.proofs.Failing.{fail_seen}
 use Rattle.mich_interpreter.proofs.calls.act_failwith.Goals as goal

@@ -1,4 +1,4 @@
-use Rattle.mich_frames.proofs.Calls.{never_meets}
+use Rattle.mich_frames.proofs.ForCallers.{never_meets}
 use Rattle.mich_interpreter.proofs.calls.act_never.Goals as goal
 
 pub unreachable-requires : goal.unreachable-requires

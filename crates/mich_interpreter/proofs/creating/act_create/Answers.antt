@@ -1,15 +1,17 @@
-use Rattle.std.proofs.Common.{◌≡◌, ◌+◌, ◌≤◌, ◌<◌, suc, refl, sym, ap, ◌∙◌, arith}
+use Rattle.std.proofs.Common.{◌≡◌, ◌+◌, ◌≤◌, suc, List, drop, refl, ◌∙◌, subst, arith}
 use Rattle.std.specs.Prelude.{pos}
 use Rattle.rules_gas.specs.declared.Kind.TheVariants as g
-use Rattle.rules_values.specs.Val.{number}
+use Rattle.rules_base.specs.Limits.{most_contents}
+use Rattle.rules_values.specs.Val.{Val, number}
 use Rattle.rules_evaluation.specs.Operations.{origination, new_contract}
 use Rattle.mich_gas.specs.View.{listed}
 use Rattle.mich_instr.specs.View.{script_code, script_node}
 use Rattle.mich_instr.specs.declared.issued.Issued.TheVariants as i
-use Rattle.mich_frames.specs.Shapes.{delegate_value}
 use Rattle.mich_stack.specs.Views.{seen}
 use Rattle.mich_interpreter.specs.View.{tops}
-use Rattle.mich_interpreter.proofs.Founded.{delegate_first, amount_second, storage_third, create_typed, create_any_top, create_any_broke, create_any_acts, create_any_over}
+use Rattle.mich_interpreter.proofs.Founded.{storage_third, create_typed, create_any_top, create_any_broke, create_any_acts, create_any_over}
+use Rattle.mich_interpreter.specs.Parts.{HasAmount}
+use Rattle.mich_interpreter.proofs.Spelled.{create_takes}
 use Rattle.mich_interpreter.proofs.Issued.{stands_counted, seen_operation, over_limit}
 use Rattle.mich_interpreter.proofs.Keeping.{scripts_more}
 use Rattle.mich_interpreter.proofs.Paid.{paid_less}
@@ -20,53 +22,60 @@ returns-then-not-pay-clause-acts c = λ x fs d Z o h.
     let s = script_code c.args.script.now in
     create_any_broke s _ (rw c.if-not-pay.true at c.pay.ensures) h (create_any_top s h)
 
-pub pop_delegate-requires : goal.pop_delegate-requires
-pop_delegate-requires c = (c.requires.0.sight, delegate_first _ (create_any_top (script_code c.args.script.now) c.requires.5))
+pub pop_delegate-delegate-requires : goal.pop_delegate-delegate-requires
+pop_delegate-delegate-requires c = (c.requires.0.sight, (create_takes (script_code c.args.script.now) c.requires.5).0)
 
-pub pop_amount-requires : goal.pop_amount-requires
-pop_amount-requires c =
+pub pop_amount-amount-requires : goal.pop_amount-amount-requires
+pop_amount-amount-requires c =
     let x = c.requires.0 in
-    (x.sight, amount_second c.in_ok-delegate.delegate _ (rw (c.in_ok-delegate.ensures x.sight) at (create_any_top (script_code c.args.script.now) c.requires.5)))
+    (x.sight, subst (λ (V : List Val). HasAmount (drop 1 V)) (c.pop_delegate-delegate.ensures x.sight) (create_takes (script_code c.args.script.now) c.requires.5).1)
+
+pub count_origination-hash-requires : goal.count_origination-hash-requires
+count_origination-hash-requires c =
+    let old = c.args.m.now.counts in
+    let n = c.in-Some.ensures.number in
+    let others = c.in-Some.ensures.others in
+    let within : old.originated ≤ old.issued + most_contents = old.originated_within in
+    omega (arith, n.0, n.2, others.0, within)
 
 pub pop-storage-requires : goal.pop-storage-requires
 pop-storage-requires c =
     let x = c.requires.0 in
-    (x.sight, storage_third c.in_ok-delegate.delegate (number (pos c.in-Some.amount)) _ (rw (c.in_ok-delegate.ensures x.sight, c.in-Some.ensures x.sight) at (create_any_top (script_code c.args.script.now) c.requires.5)))
+    (x.sight, storage_third c.pop_delegate-delegate.result (number (pos c.pop_amount-amount.result)) _ (rw (c.pop_delegate-delegate.ensures x.sight, c.pop_amount-amount.ensures x.sight) at (create_any_top (script_code c.args.script.now) c.requires.5)))
 
 pub returns-clause-less : goal.returns-clause-less
 returns-clause-less c =
     let p = rw c.if-not-pay.false at c.pay.ensures in
     paid_less (listed c.args.costs.now) g.CreateContract 0 _ _ c.requires.5.runs.charged p.0 p.1
 
-pub returns-in_default-count_operation-clause-acts : goal.returns-in_default-count_operation-clause-acts
-returns-in_default-count_operation-clause-acts c = λ x fs d Z o h.
+pub returns-in_default-clause-acts : goal.returns-in_default-clause-acts
+returns-in_default-clause-acts c = λ x fs d Z o h.
     let p = rw c.if-not-pay.false at c.pay.ensures in
-    create_any_over (script_code c.args.script.now) c.in_ok-delegate.delegate c.in-Some.amount (seen x.sight c.pop-storage.result) (tops x.sight c.pop-storage.new.stack) p.0
-    (over_limit c.count_operation.result c.args.m.now.counts.issued c.count_operation.new.counts.issued c.in_default-count_operation.not-Some c.count_operation.ensures.number)
-    (rw (c.in_ok-delegate.ensures x.sight, c.in-Some.ensures x.sight, c.pop-storage.ensures x.sight) at h)
+    create_any_over (script_code c.args.script.now) c.pop_delegate-delegate.result c.pop_amount-amount.result (seen x.sight c.pop-storage.result) (tops x.sight c.pop-storage.new.stack) p.0
+    (over_limit c.count_operation.result c.args.m.now.counts.issued c.count_operation.new.counts.issued c.in_default.not-Some c.count_operation.ensures.number)
+    (rw (c.pop_delegate-delegate.ensures x.sight, c.pop_amount-amount.ensures x.sight, c.pop-storage.ensures x.sight) at h)
 
 pub returns-clause-acts : goal.returns-clause-acts
 returns-clause-acts c = λ x fs d Z o h.
     let p = rw c.if-not-pay.false at c.pay.ensures in
     let old = c.args.m.now.counts in
-    let number = c.in-Some-count_operation.number in
-    let n = c.in-Some-count_operation.ensures.number in
-    let others = c.in-Some-count_operation.ensures.others in
-    let hash = c.in-Some-count_origination.ensures.hash in
-    let kept = c.in-Some-count_origination.ensures.others in
-    let delegate = c.in_ok-delegate.delegate in
-    let amount = c.in-Some.amount in
+    let number = c.in-Some.number in
+    let n = c.in-Some.ensures.number in
+    let others = c.in-Some.ensures.others in
+    let kept = c.count_origination-hash.ensures.others in
+    let delegate = c.pop_delegate-delegate.result in
+    let amount = c.pop_amount-amount.result in
     let y = seen x.sight c.pop-storage.result in
     let script = c.args.script.now in
     let address = new_contract old.group old.originated in
-    let counted : c.count_origination.new.counts.issued ≡ number + 1 = kept.0 ∙ n.2 in
-    let originated : c.count_origination.new.counts.originated ≡ suc old.originated = omega (arith, hash.1, others.0) in
-    let group : c.count_origination.new.counts.group ≡ old.group = kept.1 ∙ others.1 in
-    let same : c.in-Some-count_origination.hash ≡ address = rw (others.0, others.1) at hash.0 in
-    let meets = rw (c.in_ok-delegate.ensures x.sight, c.in-Some.ensures x.sight, c.pop-storage.ensures x.sight) at h in
-    stands_counted x c.args.costs.now c.args.m.now c.push-3.new.stack c.pay.new.meter c.count_origination.new.counts c.push.new.self fs d Z o g.CreateContract 0 (suc old.originated)
+    let counted : c.count_origination-hash.new.counts.issued ≡ number + 1 = kept.0 ∙ n.2 in
+    let originated : c.count_origination-hash.new.counts.originated ≡ suc old.originated = omega (arith, c.count_origination-hash.ensures.more, others.0) in
+    let group : c.count_origination-hash.new.counts.group ≡ old.group = kept.1 ∙ others.1 in
+    let same : c.count_origination-hash.result ≡ address = rw (others.0, others.1) at c.count_origination-hash.ensures.hash in
+    let meets = rw (c.pop_delegate-delegate.ensures x.sight, c.pop_amount-amount.ensures x.sight, c.pop-storage.ensures x.sight) at h in
+    stands_counted x c.args.costs.now c.args.m.now c.push-3.new.stack c.pay.new.meter c.count_origination-hash.new.counts c.push.new.self fs d Z o g.CreateContract 0 (suc old.originated)
     (origination delegate amount (script_node script) y address)
-    (i.Origination number delegate amount c.in_ok-script.script c.pop-storage.result c.in-Some-count_origination.hash) number p.1 n.0 counted originated group c.in_ok-push.ensures.pushed
+    (i.Origination number delegate amount c.in_ok-script.script c.pop-storage.result c.count_origination-hash.result) number p.1 n.0 counted originated group c.in_ok-push.ensures.pushed
     (rw (n.0, c.in_ok-script.ensures, same) refl)
     (rw (c.in_ok-push-3.ensures x.sight, c.in_ok-push-2.ensures x.sight, c.in_ok-address.ensures x.sight, seen_operation x.sight number, same, n.0)
     (create_any_acts (script_code script) delegate amount y (tops x.sight c.pop-storage.new.stack) p.0 (rw n.0 at n.1) meets))

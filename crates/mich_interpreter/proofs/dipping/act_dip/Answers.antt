@@ -1,6 +1,6 @@
 use Rattle.rules_gas.specs.declared.Kind.TheVariants as g
 use Rattle.mich_gas.specs.View.{listed}
-use Rattle.mich_frames.proofs.Branches.{dip_top, dip_opens, dip_broke}
+use Rattle.mich_frames.proofs.ForCallers.{dip_top, dip_opens, dip_broke}
 use Rattle.mich_interpreter.proofs.Listed.{length_tops}
 use Rattle.mich_interpreter.proofs.Paid.{opens_paid, paid_less}
 use Rattle.mich_interpreter.proofs.dipping.act_dip.Goals as goal

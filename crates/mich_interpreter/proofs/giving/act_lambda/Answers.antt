@@ -1,7 +1,7 @@
 use Rattle.mich_gas.specs.View.{listed}
 use Rattle.mich_base.specs.View.{tree}
 use Rattle.mich_frames.specs.Shapes.{lambda_price}
-use Rattle.mich_frames.proofs.Given.{lambda_acts, lambda_broke}
+use Rattle.mich_frames.proofs.ForCallers.{lambda_acts, lambda_broke}
 use Rattle.mich_interpreter.proofs.Mapped.{seen_lambda}
 use Rattle.mich_interpreter.proofs.Paid.{stands_paid, paid_less}
 use Rattle.mich_interpreter.proofs.giving.act_lambda.Goals as goal

@@ -6,14 +6,21 @@ use Rattle.mich_base.specs.TypeView.{kind}
 use Rattle.mich_base.specs.View.{tree}
 use Rattle.mich_gas.specs.View.{listed}
 use Rattle.mich_stack.specs.Views.{seen}
-use Rattle.mich_frames.proofs.Given.{push_pushable, push_acts, push_broke}
-use Rattle.mich_prices.proofs.Weighed.{found_weighs}
+use Rattle.mich_frames.proofs.ForCallers.{push_pushable, push_acts, push_broke}
+use Rattle.mich_prices.proofs.ForCallers.{found_weighs}
 use Rattle.mich_interpreter.proofs.Capped.{paid_is, broke_is}
+use Rattle.mich_interpreter.proofs.Spelled.{push_small, push_literal}
 use Rattle.mich_interpreter.proofs.Paid.{stands_paid, paid_less}
 use Rattle.mich_interpreter.proofs.giving.act_push.Goals as goal
 
-pub literal_value-requires : goal.literal_value-requires
-literal_value-requires c = push_pushable (kind c.args.ty.now) c.requires.0 (tree c.args.literal.now) c.requires.1.5
+pub literal_value-requires-clause-pushed : goal.literal_value-requires-clause-pushed
+literal_value-requires-clause-pushed c = push_pushable (kind c.args.ty.now) c.requires.0 (tree c.args.literal.now) c.requires.1.5
+
+pub literal_value-requires-clause-small : goal.literal_value-requires-clause-small
+literal_value-requires-clause-small c = push_small (kind c.args.ty.now) c.requires.0 (tree c.args.literal.now) c.requires.1.5
+
+pub literal_value-requires-clause-literal : goal.literal_value-requires-clause-literal
+literal_value-requires-clause-literal c = push_literal (kind c.args.ty.now) c.requires.0 (tree c.args.literal.now) c.requires.1.5
 
 pub returns-then-not-pay_capped-clause-acts : goal.returns-then-not-pay_capped-clause-acts
 returns-then-not-pay_capped-clause-acts c = λ written x fs d Z o h.

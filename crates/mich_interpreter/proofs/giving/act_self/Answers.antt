@@ -1,6 +1,6 @@
 use Rattle.rules_gas.specs.declared.Kind.TheVariants as g
 use Rattle.mich_gas.specs.View.{listed}
-use Rattle.mich_frames.proofs.Given.{self_acts, self_broke}
+use Rattle.mich_frames.proofs.ForCallers.{self_acts, self_broke}
 use Rattle.mich_interpreter.proofs.Paid.{stands_paid, paid_less}
 use Rattle.mich_interpreter.proofs.giving.act_self.Goals as goal
 

@@ -10,7 +10,7 @@ use Rattle.mich_interpreter.proofs.Capped.{paid_is, broke_is}
 use Rattle.mich_interpreter.proofs.Keeping.{same_keeps, past_of}
 use Rattle.mich_interpreter.proofs.Operands.{some_operand}
 use Rattle.mich_interpreter.proofs.Hashed.{heavy, hash_stands, hash_failed}
-use Rattle.mich_frames.proofs.Straights.{row_broke}
+use Rattle.mich_frames.proofs.ForCallers.{row_broke}
 use Rattle.mich_interpreter.proofs.hashing.act_hash.Goals as goal
 
 pub hash_weight-weight-requires : goal.hash_weight-weight-requires

@@ -1,26 +1,19 @@
-use Rattle.std.proofs.Common.{Option, List, ℕ, ap, ◌∙◌}
-use Rattle.std.specs.Prelude.{option_map}
 use Rattle.rules_gas.specs.declared.Kind.TheVariants as g
 use Rattle.rules_instructions.specs.Straight as i
-use Rattle.rules_steps.specs.Step.{optional}
-use Rattle.rules_values.specs.Val.{Val, bytes}
 use Rattle.mich_base.specs.TypeView.{kind}
 use Rattle.mich_forms.specs.Spelled.{address_bytes}
 use Rattle.mich_gas.specs.View.{listed}
 use Rattle.mich_interpreter.specs.View.{tops}
-use Rattle.mich_frames.proofs.Operations.{place_acts, place_top}
-use Rattle.mich_frames.proofs.Straights.{row_broke}
-use Rattle.mich_interpreter.proofs.Issued.{address_first}
+use Rattle.mich_frames.proofs.ForCallers.{place_acts, row_broke}
+use Rattle.mich_interpreter.proofs.Spelled.{contract_takes}
 use Rattle.mich_interpreter.proofs.Paid.{paid_less, stands_paid}
 use Rattle.mich_interpreter.proofs.issuing.act_contract.Goals as goal
 
 pub returns-then-not-pay-clause-acts : goal.returns-then-not-pay-clause-acts
 returns-then-not-pay-clause-acts c = λ app x fs d Z o h w. row_broke _ h (rw c.if-not-pay.true at c.pay.ensures)
 
-pub pop_address-requires : goal.pop_address-requires
-pop_address-requires c =
-    let p = rw c.if-not-pay.false at c.pay.ensures in
-    (c.requires.1.0.sight, address_first _ (place_top (i.contract c.args.annotation (kind c.args.ty.now)) tt p.0 c.requires.1.5))
+pub pop_address-address-requires : goal.pop_address-address-requires
+pop_address-address-requires c = (c.requires.1.0.sight, contract_takes c.args.annotation (kind c.args.ty.now) c.requires.1.5)
 
 pub contract_of-found-requires : goal.contract_of-found-requires
 contract_of-found-requires c = c.requires.1.6.typed
@@ -33,7 +26,7 @@ returns-clause-less c =
 pub returns-clause-acts : goal.returns-clause-acts
 returns-clause-acts c = λ app x fs d Z o h w.
     let p = rw c.if-not-pay.false at c.pay.ensures in
-    let b = address_bytes c.in-Some.address in
-    let W = tops x.sight c.pop_address.new.stack in
+    let b = address_bytes c.pop_address-address.result in
+    let W = tops x.sight c.pop_address-address.new.stack in
     rw (c.in_ok-push.ensures x.sight, c.in_ok-value.ensures x.sight, c.contract_of-found.ensures x.contract_at w.contracts)
-    (stands_paid g.Contract 0 _ c.pay.new.meter p.1 (place_acts (i.contract c.args.annotation (kind c.args.ty.now)) tt b W p.0 (rw (c.in-Some.ensures x.sight) at h)))
+    (stands_paid g.Contract 0 _ c.pay.new.meter p.1 (place_acts (i.contract c.args.annotation (kind c.args.ty.now)) tt b W p.0 (rw (c.pop_address-address.ensures x.sight) at h)))

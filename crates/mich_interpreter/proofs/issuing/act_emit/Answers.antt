@@ -5,8 +5,7 @@ use Rattle.mich_gas.specs.View.{listed}
 use Rattle.mich_instr.specs.declared.issued.Issued.TheVariants as i
 use Rattle.mich_stack.specs.Views.{seen}
 use Rattle.mich_interpreter.specs.View.{tops}
-use Rattle.mich_frames.proofs.Operations.{emit_top, emit_acts, emit_over}
-use Rattle.mich_frames.proofs.Straights.{row_broke}
+use Rattle.mich_frames.proofs.ForCallers.{emit_top, emit_acts, emit_over, row_broke}
 use Rattle.mich_interpreter.proofs.Issued.{stands_issued, seen_operation, over_limit}
 use Rattle.mich_interpreter.proofs.Keeping.{scripts_more}
 use Rattle.mich_interpreter.proofs.Paid.{paid_less}

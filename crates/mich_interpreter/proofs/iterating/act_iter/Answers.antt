@@ -1,6 +1,6 @@
 use Rattle.rules_gas.specs.declared.Kind.TheVariants as g
 use Rattle.mich_gas.specs.View.{listed}
-use Rattle.mich_frames.proofs.Items.{iter_top, iter_acts}
+use Rattle.mich_frames.proofs.ForCallers.{iter_top, iter_acts}
 use Rattle.mich_interpreter.proofs.Any.{iter_any_broke, items_top, items_alone}
 use Rattle.mich_interpreter.proofs.Paid.{stands_paid, paid_less, turns_spend}
 use Rattle.mich_interpreter.proofs.iterating.act_iter.Goals as goal

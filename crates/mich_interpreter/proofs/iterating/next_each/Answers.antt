@@ -1,6 +1,6 @@
 use Rattle.rules_gas.specs.declared.Kind.TheVariants as g
 use Rattle.mich_gas.specs.View.{listed}
-use Rattle.mich_frames.proofs.Items.{each_end, each_opens}
+use Rattle.mich_frames.proofs.ForCallers.{each_end, each_opens}
 use Rattle.mich_interpreter.proofs.Any.{each_any_broke}
 use Rattle.mich_interpreter.proofs.Paid.{opens_paid, paid_less}
 use Rattle.mich_interpreter.proofs.iterating.next_each.Goals as goal

@@ -1,8 +1,8 @@
 use Rattle.std.proofs.Common.{rules, ◌≡◌, true, false, sym, ◌∙◌}
 use Rattle.rules_forms.specs.Spelling.{implicit_place, is_entrypoint, is_key_hash}
 use Rattle.mich_base.specs.TypeView.{kind}
-use Rattle.mich_arguments.proofs.Claims.{account_place}
-use Rattle.mich_interpreter.proofs.Looked.{named_so, unnamed, unnamed_by}
+use Rattle.mich_arguments.proofs.ForCallers.{account_place}
+use Rattle.mich_interpreter.proofs.Looked.{named_so, unnamed_by}
 use Rattle.mich_interpreter.proofs.lookups.account_entrypoint.Goals as goal
 
 pub returns-in_default : goal.returns-in_default

@@ -3,7 +3,7 @@ use Rattle.std.specs.Prelude.{◌&&◌}
 use Rattle.rules_forms.specs.Spelling.{is_key_hash}
 use Rattle.rules_evaluation.specs.Contracts.{is_taken_by_account}
 use Rattle.mich_base.specs.TypeView.{kind}
-use Rattle.mich_arguments.proofs.Claims.{account_takes, default_so, other_so}
+use Rattle.mich_arguments.proofs.ForCallers.{account_takes, default_so, other_so}
 use Rattle.mich_interpreter.proofs.lookups.account_takes.Goals as goal
 
 pub returns-then-is_default : goal.returns-then-is_default

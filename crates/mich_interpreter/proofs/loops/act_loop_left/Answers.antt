@@ -1,6 +1,6 @@
 use Rattle.rules_gas.specs.declared.Kind.TheVariants as g
 use Rattle.mich_gas.specs.View.{listed}
-use Rattle.mich_frames.proofs.Loops.{loop_left_top}
+use Rattle.mich_frames.proofs.ForCallers.{loop_left_top}
 use Rattle.mich_interpreter.proofs.Any.{loop_left_any, loop_left_any_broke}
 use Rattle.mich_interpreter.proofs.Paid.{stands_paid, paid_less, turns_spend}
 use Rattle.mich_interpreter.proofs.loops.act_loop_left.Goals as goal

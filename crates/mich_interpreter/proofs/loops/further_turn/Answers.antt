@@ -1,7 +1,7 @@
 use Rattle.std.proofs.Common.{◌∙◌}
 use Rattle.rules_gas.specs.declared.Kind.TheVariants as g
 use Rattle.mich_gas.specs.View.{listed}
-use Rattle.mich_frames.proofs.Loops.{turns_top}
+use Rattle.mich_frames.proofs.ForCallers.{turns_top}
 use Rattle.mich_interpreter.proofs.Any.{turn_broken, turn_open}
 use Rattle.mich_interpreter.proofs.Paid.{opens_paid, paid_less}
 use Rattle.mich_interpreter.proofs.loops.further_turn.Goals as goal

@@ -1,7 +1,7 @@
 use Rattle.rules_gas.specs.declared.Kind.TheVariants as g
 use Rattle.std.proofs.Common.{◌∙◌}
 use Rattle.mich_gas.specs.View.{listed}
-use Rattle.mich_frames.proofs.Loops.{left_turns_top}
+use Rattle.mich_frames.proofs.ForCallers.{left_turns_top}
 use Rattle.mich_interpreter.proofs.Any.{left_turns_over, left_turns_broken, left_turns_open}
 use Rattle.mich_interpreter.proofs.Paid.{opens_paid, paid_less}
 use Rattle.mich_interpreter.proofs.loops.next_left_turn.Goals as goal

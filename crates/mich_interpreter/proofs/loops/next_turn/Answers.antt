@@ -1,5 +1,5 @@
 use Rattle.std.proofs.Common.{ap, sym, subst}
-use Rattle.mich_frames.proofs.Loops.{turns_top}
+use Rattle.mich_frames.proofs.ForCallers.{turns_top}
 use Rattle.mich_interpreter.specs.Ends.{Stands}
 use Rattle.mich_interpreter.specs.declared.frame.Frame.TheVariants as f
 use Rattle.mich_interpreter.specs.declared.state.State.{State}

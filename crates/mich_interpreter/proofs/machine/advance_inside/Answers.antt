@@ -3,7 +3,7 @@ use Rattle.std.specs.List.{slice_get}
 use Rattle.mich_instr.specs.Code as made
 use Rattle.mich_instr.specs.View.{code, codes}
 use Rattle.mich_frames.specs.Frames as fr
-use Rattle.mich_frames.proofs.Branches.{seq_opens}
+use Rattle.mich_frames.proofs.ForCallers.{seq_opens}
 use Rattle.mich_interpreter.specs.View.{frames}
 use Rattle.mich_interpreter.specs.Runs.{HasActedIn}
 use Rattle.mich_interpreter.specs.declared.act.Act.TheVariants as a

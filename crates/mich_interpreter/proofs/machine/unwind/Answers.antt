@@ -1,5 +1,5 @@
 use Rattle.std.proofs.Common.{refl, subst}
-use Rattle.mich_frames.proofs.Ends.{under_ends, call_ends}
+use Rattle.mich_frames.proofs.ForCallers.{under_ends, call_ends}
 use Rattle.mich_interpreter.specs.Ends.{Waits, Stands}
 use Rattle.mich_interpreter.specs.declared.frame.Frame.{Frame}
 use Rattle.mich_interpreter.proofs.Keeping.{same_keeps}

@@ -1,6 +1,6 @@
 use Rattle.rules_gas.specs.declared.Kind.TheVariants as g
 use Rattle.mich_gas.specs.View.{listed}
-use Rattle.mich_frames.proofs.Mapping.{map_top, map_acts}
+use Rattle.mich_frames.proofs.ForCallers.{map_top, map_acts}
 use Rattle.mich_interpreter.proofs.Any.{map_any_broke, mapped_top, mapped_alone}
 use Rattle.mich_interpreter.proofs.Paid.{stands_paid, paid_less, turns_spend}
 use Rattle.mich_interpreter.proofs.mapping.act_map.Goals as goal

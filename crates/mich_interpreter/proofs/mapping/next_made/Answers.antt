@@ -1,6 +1,7 @@
 use Rattle.std.proofs.Common.{refl}
 use Rattle.mich_instr.specs.View.{codes}
 use Rattle.mich_interpreter.proofs.Results.{made_top, value_made, entry_made, part_made}
+use Rattle.mich_interpreter.proofs.Rising.{made_below}
 use Rattle.mich_interpreter.proofs.mapping.next_made.Goals as goal
 
 pub pop-result-requires : goal.pop-result-requires
@@ -22,6 +23,9 @@ pub returns-in_ok-next_value-in-Value-clause-acts : goal.returns-in_ok-next_valu
 returns-in_ok-next_value-in-Value-clause-acts c = λ x fs d Z o h.
     c.in_ok-next_value-in-Value.ensures.acts x fs d Z o
     (value_made x.sight c.in-Value.work (record c.in-Value.work { made = c.push.new.self }) c.pop-result.result refl c.in_ok-push-in-Value.ensures.pushed (rw (c.pop-result.ensures x.sight, c.in-Value.is) at h))
+
+pub put_last-requires : goal.put_last-requires
+put_last-requires c = made_below c.requires.0.sight c.in-Entry.work c.in-Entry.key (rw c.in-Entry.is at c.requires.5)
 
 pub next_entry-requires : goal.next_entry-requires
 next_entry-requires c =

@@ -2,7 +2,7 @@ use Rattle.std.proofs.Common.{[]}
 use Rattle.rules_gas.specs.declared.Kind.TheVariants as g
 use Rattle.mich_gas.specs.View.{listed}
 use Rattle.mich_stack.specs.Views.{seen}
-use Rattle.mich_frames.proofs.Mapping.{mapping_broke, mapping_opens}
+use Rattle.mich_frames.proofs.ForCallers.{mapping_broke, mapping_opens}
 use Rattle.mich_interpreter.proofs.Paid.{opens_paid, paid_less}
 use Rattle.mich_interpreter.proofs.mapping.next_part.Goals as goal
 

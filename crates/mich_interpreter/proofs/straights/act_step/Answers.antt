@@ -8,8 +8,14 @@ use Rattle.mich_interpreter.proofs.Capped.{paid_is, broke_is}
 use Rattle.mich_interpreter.proofs.Keeping.{same_keeps, past_of}
 use Rattle.mich_interpreter.proofs.Suited.{suits_plain, ready_plain}
 use Rattle.mich_interpreter.proofs.Straightened.{heavy, ends, step_fits, step_stands, step_failed}
-use Rattle.mich_frames.proofs.Straights.{row_broke}
+use Rattle.mich_interpreter.proofs.Weighed.{some_operands}
+use Rattle.mich_frames.proofs.ForCallers.{row_broke}
 use Rattle.mich_interpreter.proofs.straights.act_step.Goals as goal
+
+pub weigh-requires-clause-operands : goal.weigh-requires-clause-operands
+weigh-requires-clause-operands c =
+    let t = c.requires.comes in
+    some_operands t.1.0 c.args.costs.now c.args.m.now (straight c.args.instr.now) t.1.5
 
 pub step-requires : goal.step-requires
 step-requires c =

@@ -1,19 +1,20 @@
-use Rattle.std.proofs.Common.{◌∷◌, ◌∙◌, Option, ap, refl, subst}
+use Rattle.std.proofs.Common.{List, ◌∷◌, ◌∙◌, drop, Option, ap, refl, subst}
 use Rattle.rules_evaluation.specs.Contracts.{viewed}
 use Rattle.mich_interpreter.specs.Visits.{IsVisit}
 use Rattle.mich_interpreter.specs.declared.visits.Visit.{Visit}
 use Rattle.mich_interpreter.proofs.Keeping.{past_of, same_keeps}
 use Rattle.rules_gas.specs.declared.Kind.TheVariants as g
-use Rattle.rules_values.specs.Val.{bytes}
+use Rattle.rules_values.specs.Val.{Val}
 use Rattle.mich_base.specs.TypeView.{kind}
 use Rattle.mich_forms.specs.Spelled.{address_bytes}
-use Rattle.mich_frames.proofs.Operations.{viewing_top}
-use Rattle.mich_frames.proofs.Straights.{row_broke}
+use Rattle.mich_frames.proofs.ForCallers.{viewing_top, row_broke}
 use Rattle.mich_gas.specs.View.{listed}
 use Rattle.mich_stack.specs.Views.{seen}
 use Rattle.mich_interpreter.specs.View.{tops}
-use Rattle.mich_interpreter.proofs.Opened.{given_ready, none_acts, view_acts, view_first, view_second}
+use Rattle.mich_interpreter.proofs.Opened.{given_ready, none_acts, view_acts, view_first}
 use Rattle.mich_interpreter.proofs.Paid.{paid_less}
+use Rattle.mich_interpreter.proofs.Spelled.{view_takes}
+use Rattle.mich_interpreter.specs.Parts.{HasAddress}
 use Rattle.mich_interpreter.proofs.Rebuilt.{seen_none}
 use Rattle.mich_interpreter.proofs.viewing.act_view.Goals as goal
 
@@ -25,42 +26,41 @@ pop-given-requires c =
     let p = rw c.if-not-pay.false at c.pay.ensures in
     (c.requires.1.0.sight, view_first _ (viewing_top c.args.name.now (kind c.args.input.now) (kind c.args.output.now) p.0 c.requires.1.5))
 
-pub pop_address-requires : goal.pop_address-requires
-pop_address-requires c =
-    let p = rw c.if-not-pay.false at c.pay.ensures in
+pub pop_address-address-requires : goal.pop_address-address-requires
+pop_address-address-requires c =
     let x = c.requires.1.0 in
-    (x.sight, view_second (seen x.sight c.pop-given.result) _ (rw (c.pop-given.ensures x.sight) at (viewing_top c.args.name.now (kind c.args.input.now) (kind c.args.output.now) p.0 c.requires.1.5)))
+    (x.sight, subst (λ (V : List Val). HasAddress (drop 1 V)) (c.pop-given.ensures x.sight) (view_takes c.args.name.now (kind c.args.input.now) (kind c.args.output.now) c.requires.1.5))
 
 pub burn_value-requires : goal.burn_value-requires
 burn_value-requires c =
     let p = rw c.if-not-pay.false at c.pay.ensures in
     let r = c.requires.1 in
     let x = r.0 in
-    given_ready x c.args.costs.now c.args.m.now c.args.name.now (kind c.args.input.now) (kind c.args.output.now) c.pop-given.result (address_bytes c.in-Some.address) c.pop_address.new.stack c.pay.new.meter
-    (c.pop-given.ensures x.sight ∙ ap (λ V. seen x.sight c.pop-given.result ∷ V) (c.in-Some.ensures x.sight)) p.0 p.1 r.5
+    given_ready x c.args.costs.now c.args.m.now c.args.name.now (kind c.args.input.now) (kind c.args.output.now) c.pop-given.result (address_bytes c.pop_address-address.result) c.pop_address-address.new.stack c.pay.new.meter
+    (c.pop-given.ensures x.sight ∙ ap (λ V. seen x.sight c.pop-given.result ∷ V) (c.pop_address-address.ensures x.sight)) p.0 p.1 r.5
 
-pub returns-in_ok-view-in-Some-2-clause-acts : goal.returns-in_ok-view-in-Some-2-clause-acts
-returns-in_ok-view-in-Some-2-clause-acts c = λ app x fs d Z o h w.
+pub returns-in_ok-view-in-Some-clause-acts : goal.returns-in_ok-view-in-Some-clause-acts
+returns-in_ok-view-in-Some-clause-acts c = λ app x fs d Z o h w.
     let p = rw c.if-not-pay.false at c.pay.ensures in
-    let v = c.in_ok-view-in-Some-2.ensures in
+    let v = c.in_ok-view-in-Some.ensures in
     let a = kind c.args.input.now in
     let b = kind c.args.output.now in
-    view_acts x c.args.costs.now c.args.m.now c.args.name.now (kind c.args.input.now) (kind c.args.output.now) c.pop-given.result (address_bytes c.in-Some.address) c.pop_address.new.stack c.pay.new.meter
-    (c.pop-given.ensures x.sight ∙ ap (λ V. seen x.sight c.pop-given.result ∷ V) (c.in-Some.ensures x.sight)) p.0 p.1 h
-    c.in-Some-2.found c.in_ok-view-in-Some-2.view v.code (v.value x.sight) v.env
-    (subst (λ (r : Option Visit). IsVisit x a b (viewed x.contract_at c.args.name.now a b (address_bytes c.in-Some.address)) r) c.in-Some-2.is (c.in_ok-found.ensures x w))
+    view_acts x c.args.costs.now c.args.m.now c.args.name.now (kind c.args.input.now) (kind c.args.output.now) c.pop-given.result (address_bytes c.pop_address-address.result) c.pop_address-address.new.stack c.pay.new.meter
+    (c.pop-given.ensures x.sight ∙ ap (λ V. seen x.sight c.pop-given.result ∷ V) (c.pop_address-address.ensures x.sight)) p.0 p.1 h
+    c.in-Some.found c.in_ok-view-in-Some.view v.code (v.value x.sight) v.env
+    (subst (λ (r : Option Visit). IsVisit x a b (viewed x.contract_at c.args.name.now a b (address_bytes c.pop_address-address.result)) r) c.in-Some.is (c.in_ok-found.ensures x w))
 
 pub returns-in_ok-push-in-None-clause-acts : goal.returns-in_ok-push-in-None-clause-acts
 returns-in_ok-push-in-None-clause-acts c = λ app x fs d Z o h w.
     let p = rw c.if-not-pay.false at c.pay.ensures in
-    none_acts x c.args.costs.now c.args.m.now c.args.name.now (kind c.args.input.now) (kind c.args.output.now) c.pop-given.result (address_bytes c.in-Some.address) c.pop_address.new.stack c.pay.new.meter
-    (c.pop-given.ensures x.sight ∙ ap (λ V. seen x.sight c.pop-given.result ∷ V) (c.in-Some.ensures x.sight)) p.0 p.1 h
+    none_acts x c.args.costs.now c.args.m.now c.args.name.now (kind c.args.input.now) (kind c.args.output.now) c.pop-given.result (address_bytes c.pop_address-address.result) c.pop_address-address.new.stack c.pay.new.meter
+    (c.pop-given.ensures x.sight ∙ ap (λ V. seen x.sight c.pop-given.result ∷ V) (c.pop_address-address.ensures x.sight)) p.0 p.1 h
     c.burn_value.new.ledger c.push.new.stack
-    (subst (λ (r : Option Visit). IsVisit x (kind c.args.input.now) (kind c.args.output.now) (viewed x.contract_at c.args.name.now (kind c.args.input.now) (kind c.args.output.now) (address_bytes c.in-Some.address)) r) c.in-None.is (c.in_ok-found.ensures x w))
-    c.in_ok-burn_value-in-None.ensures.tells (c.in_ok-push-in-None.ensures x.sight ∙ ap (λ y. y ∷ tops x.sight c.pop_address.new.stack) (seen_none x.sight))
+    (subst (λ (r : Option Visit). IsVisit x (kind c.args.input.now) (kind c.args.output.now) (viewed x.contract_at c.args.name.now (kind c.args.input.now) (kind c.args.output.now) (address_bytes c.pop_address-address.result)) r) c.in-None.is (c.in_ok-found.ensures x w))
+    c.in_ok-burn_value-in-None.ensures.tells (c.in_ok-push-in-None.ensures x.sight ∙ ap (λ y. y ∷ tops x.sight c.pop_address-address.new.stack) (seen_none x.sight))
 
-pub returns-in_ok-view-in-Some-2-clause-less : goal.returns-in_ok-view-in-Some-2-clause-less
-returns-in_ok-view-in-Some-2-clause-less c =
+pub returns-in_ok-view-in-Some-clause-less : goal.returns-in_ok-view-in-Some-clause-less
+returns-in_ok-view-in-Some-clause-less c =
     let p = rw c.if-not-pay.false at c.pay.ensures in
     paid_less (listed c.args.costs.now) g.View 0 _ _ c.requires.1.5.runs.charged p.0 p.1
 
@@ -72,8 +72,8 @@ returns-in_ok-push-in-None-clause-less c =
 pub returns-then-not-pay-clause-keeps : goal.returns-then-not-pay-clause-keeps
 returns-then-not-pay-clause-keeps c = past_of _ _ (same_keeps _ _ refl refl refl)
 
-pub returns-in_ok-view-in-Some-2-clause-keeps : goal.returns-in_ok-view-in-Some-2-clause-keeps
-returns-in_ok-view-in-Some-2-clause-keeps c = same_keeps _ _ refl refl refl
+pub returns-in_ok-view-in-Some-clause-keeps : goal.returns-in_ok-view-in-Some-clause-keeps
+returns-in_ok-view-in-Some-clause-keeps c = same_keeps _ _ refl refl refl
 
 pub returns-in_ok-push-in-None-clause-keeps : goal.returns-in_ok-push-in-None-clause-keeps
 returns-in_ok-push-in-None-clause-keeps c = record {

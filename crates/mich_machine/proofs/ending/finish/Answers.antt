@@ -7,8 +7,8 @@ use Rattle.laws_sights.specs.Sights.{sight}
 use Rattle.mich_instr.specs.declared.issued.Issued.{Issued}
 use Rattle.mich_tickets.specs.Effects.{Tells}
 use Rattle.mich_tickets.specs.Limits.{IsReady}
-use Rattle.mich_world.proofs.Marks.{world_same, world_trans, ledger_lent}
-use Rattle.mich_undo.proofs.Histories.{keeps_same}
+use Rattle.mich_world.proofs.ForCallers.{world_same, world_trans, ledger_lent}
+use Rattle.mich_undo.proofs.ForCallers.{keeps_same}
 use Rattle.mich_world.specs.Marks.{KeepsWorld}
 use Rattle.mich_world.specs.World.{World}
 use Rattle.mich_machine.specs.Calls.{IsHosting}

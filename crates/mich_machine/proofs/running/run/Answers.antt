@@ -5,12 +5,12 @@ use Rattle.mich_interpreter.specs.Runs.{IsEnd, KeepsEnd}
 use Rattle.mich_interpreter.specs.declared.machine.Ended.{Ended}
 use Rattle.mich_interpreter.specs.declared.state.State.{State}
 use Rattle.mich_tickets.specs.Books.{fresh, no_books}
-use Rattle.mich_world.proofs.Marks.{world_trans, ledger_lent}
+use Rattle.mich_world.proofs.ForCallers.{world_trans, ledger_lent}
 use Rattle.mich_world.specs.Holders.{contract_at}
 use Rattle.mich_world.specs.Marks.{KeepsWorld}
 use Rattle.mich_world.specs.World.{World, with_ledger}
 use Rattle.mich_machine.specs.Endings.{IsEnding}
-use Rattle.mich_machine.proofs.Begun.{Asked, called_there, entry_some, sees_so, x, Z, o, begun, ending_so, state_is, opens_at, as_said, kept_as_said, with_memory, finished_so, fails_as}
+use Rattle.mich_machine.proofs.Begun.{Asked, called_there, entry_some, sees_so, x, Z, o, begun, ending_so, state_is, opens_at, with_memory, finished_so, fails_as}
 use Rattle.mich_machine.proofs.running.run.Goals as goal
 
 pub unreachable-requires : goal.unreachable-requires

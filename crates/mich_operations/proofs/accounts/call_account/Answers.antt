@@ -5,7 +5,7 @@ use Rattle.rules_values.specs.Literals.{simple_value}
 use Rattle.rules_values.specs.Val.{unit}
 use Rattle.rules_world.specs.Arguments.{node}
 use Rattle.mich_base.specs.View.{tree}
-use Rattle.mich_world.proofs.Marks.{world_same}
+use Rattle.mich_world.proofs.ForCallers.{world_same}
 use Rattle.mich_operations.proofs.Paying.{to_default}
 use Rattle.mich_operations.proofs.accounts.call_account.Goals as goal
 

@@ -4,7 +4,7 @@ use Rattle.mich_bigmap.specs.Standing.{val_in}
 use Rattle.mich_bigmap.specs.Stored.{Stored}
 use Rattle.mich_forms.specs.declared.places.Place.TheVariants as place
 use Rattle.mich_ops.specs.declared.failure.Failure.TheVariants as failures
-use Rattle.mich_world.proofs.Marks.{world_same}
+use Rattle.mich_world.proofs.ForCallers.{world_same}
 use Rattle.mich_world.specs.World.{World}
 use Rattle.mich_operations.proofs.Hosting.{hosting_moved, contracts_moved}
 use Rattle.mich_operations.proofs.Paying.{pays, pays_too_much}

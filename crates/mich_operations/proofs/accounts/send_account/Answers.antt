@@ -5,7 +5,7 @@ use Rattle.rules_values.specs.Val.{Val}
 use Rattle.rules_world.specs.Arguments.{value}
 use Rattle.mich_bigmap.specs.Standing.{val_in}
 use Rattle.mich_bigmap.specs.Stored.{Stored}
-use Rattle.mich_world.proofs.Marks.{world_same}
+use Rattle.mich_world.proofs.ForCallers.{world_same}
 use Rattle.mich_operations.specs.Transfers.{IsSent}
 use Rattle.mich_operations.proofs.Sent.{account_takes, no_ticket, takes_ticket}
 use Rattle.mich_operations.proofs.accounts.send_account.Goals as goal

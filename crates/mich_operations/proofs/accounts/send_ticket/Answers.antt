@@ -1,7 +1,7 @@
 use Rattle.std.proofs.Common.{refl}
 use Rattle.mich_forms.specs.declared.places.Place.TheVariants as place
 use Rattle.mich_ops.specs.declared.failure.Failure.TheVariants as failures
-use Rattle.mich_world.proofs.Marks.{world_trans}
+use Rattle.mich_world.proofs.ForCallers.{world_trans}
 use Rattle.mich_operations.proofs.Credited.{contracts_ledger, hosting_ledger, keeps_ledger, room, sends_ticket, sends_too_much, ticket_amount}
 use Rattle.mich_operations.proofs.Hosting.{contracts_moved, hosting_moved}
 use Rattle.mich_operations.proofs.accounts.send_ticket.Goals as goal

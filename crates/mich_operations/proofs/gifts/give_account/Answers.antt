@@ -8,7 +8,7 @@ use Rattle.rules_world.specs.Groups.{setting_of}
 use Rattle.mich_forms.specs.declared.places.Place.TheVariants as place
 use Rattle.mich_ops.specs.View.{change}
 use Rattle.mich_term.specs.declared.ticket.Change.{Change}
-use Rattle.mich_world.proofs.Marks.{world_same, world_trans}
+use Rattle.mich_world.proofs.ForCallers.{world_same, world_trans}
 use Rattle.mich_operations.specs.Gifts.{IsTakenFrom, gift, tickets_of}
 use Rattle.mich_operations.proofs.Credited.{contracts_ledger, hosting_ledger, keeps_ledger}
 use Rattle.mich_operations.proofs.Given.{gift_room, gives_account, positive, taken_comes, taken_positive, taken_room, untaken_account}

@@ -9,7 +9,7 @@ use Rattle.mich_forms.specs.declared.places.Place.TheVariants as place
 use Rattle.mich_gas.specs.View.{listed}
 use Rattle.mich_machine.specs.Calls.{counts_of}
 use Rattle.mich_term.specs.declared.ticket.TicketId.{TicketId}
-use Rattle.mich_world.proofs.Marks.{world_same}
+use Rattle.mich_world.proofs.ForCallers.{world_same}
 use Rattle.mich_operations.specs.Gifts.{tickets_of}
 use Rattle.mich_operations.proofs.Bestowals.{ends_account, ends_contract, given_to, handed_over, small}
 use Rattle.mich_operations.proofs.giving.give.Goals as goal

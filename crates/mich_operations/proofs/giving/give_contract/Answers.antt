@@ -7,8 +7,8 @@ use Rattle.mich_bigmap.specs.Layers.{BasedLayer}
 use Rattle.mich_gas.specs.View.{listed}
 use Rattle.mich_machine.specs.Calls.{counts_of}
 use Rattle.mich_term.specs.Layers.{FormedLayer}
-use Rattle.mich_term.proofs.Each.{of_ticket}
-use Rattle.mich_world.proofs.Marks.{world_trans}
+use Rattle.mich_term.proofs.ForCallers.{of_ticket}
+use Rattle.mich_world.proofs.ForCallers.{world_trans}
 use Rattle.mich_operations.specs.Gifts.{IsTakenFrom, tickets_of}
 use Rattle.mich_operations.proofs.Bestowals.{contract_there, gift_ready, gives_contract, not_wanted, untaken_contract}
 use Rattle.mich_operations.proofs.Credited.{contracts_ledger, extends_ledger, hosting_ledger, kept_either}

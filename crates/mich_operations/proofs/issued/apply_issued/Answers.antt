@@ -4,7 +4,7 @@ use Rattle.rules_world.specs.Groups.{setting_of}
 use Rattle.mich_gas.specs.View.{listed}
 use Rattle.mich_instr.specs.declared.issued.Issued.{Issued}
 use Rattle.mich_machine.specs.Calls.{counts_of, IsHanded}
-use Rattle.mich_world.proofs.Marks.{world_same}
+use Rattle.mich_world.proofs.ForCallers.{world_same}
 use Rattle.mich_operations.specs.Going.{Begins, EndsAs, issued_by}
 use Rattle.mich_operations.proofs.Issuing.{absent_yet, keeps_either, makes, may_enter, none_of, pays_for, tells}
 use Rattle.mich_operations.proofs.issued.apply_issued.Goals as goal

@@ -7,7 +7,7 @@ use Rattle.rules_values.specs.Tickets.{tickets}
 use Rattle.rules_world.specs.Groups.{setting_of}
 use Rattle.mich_base.specs.TypeView.{kind}
 use Rattle.mich_base.specs.View.{tree}
-use Rattle.mich_arguments.proofs.Entries.{storage_read}
+use Rattle.mich_arguments.proofs.ForCallers.{storage_read}
 use Rattle.mich_instr.specs.View.{script_node}
 use Rattle.mich_instr.specs.declared.instr.Script.{out-Script}
 use Rattle.mich_machine.specs.Calls.{counts_of}
@@ -16,9 +16,15 @@ use Rattle.mich_tickets.specs.Carrying.{MayEnter}
 use Rattle.mich_world.specs.Holders.{contract_at}
 use Rattle.mich_world.specs.Storages.{owner_of}
 use Rattle.mich_operations.proofs.Issuing.{keeps_either}
-use Rattle.mich_operations.proofs.Orders.{absent_there, ends_founded, ends_unstored, source_pays, storage_enters, storage_formed}
+use Rattle.mich_operations.proofs.Orders.{absent_there, ends_founded, ends_unstored, originations_within, source_pays, storage_enters, storage_formed}
 use Rattle.mich_operations.proofs.Whole.{whole_based, whole_stands}
 use Rattle.mich_operations.proofs.originating.originate.Goals as goal
+
+pub invariant_of-counts-clause-originated_within : goal.invariant_of-counts-clause-originated_within
+invariant_of-counts-clause-originated_within c =
+    let n = c.requires.next in
+    let s = setting_of n.0 c.args.counts.now.group c.args.source.now in
+    originations_within c.args.world.now n.1 s c.args.balance (tree c.args.script.now) (tree c.args.storage.now) (counts_of c.args.counts.now) n.2
 
 pub returns-in_err-typed-clause-keeps : goal.returns-in_err-typed-clause-keeps
 returns-in_err-typed-clause-keeps c = keeps_either c.from_residual.result c.args.world.now

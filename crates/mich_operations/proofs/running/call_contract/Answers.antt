@@ -7,7 +7,7 @@ use Rattle.mich_forms.specs.declared.places.Place.TheVariants as place
 use Rattle.mich_gas.specs.View.{listed}
 use Rattle.mich_machine.specs.Calls.{counts_of}
 use Rattle.mich_ops.specs.declared.failure.Failure.TheVariants as failures
-use Rattle.mich_world.proofs.Marks.{world_trans}
+use Rattle.mich_world.proofs.ForCallers.{world_trans}
 use Rattle.mich_operations.proofs.Hosting.{hosting_moved, contracts_moved}
 use Rattle.mich_operations.proofs.Ran.{due_ready, covers, not_covered, contracts_then, with_memory}
 use Rattle.mich_operations.proofs.running.call_contract.Goals as goal

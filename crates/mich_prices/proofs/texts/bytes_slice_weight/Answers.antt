@@ -1,16 +1,17 @@
-use Rattle.std.proofs.Common.{sym, ap, ◌∙◌}
+use Rattle.std.proofs.Common.{rules, ◌≡◌, sym, ap, ◌∙◌}
 use Rattle.std.specs.Prelude.{unsigned_abs}
 use Rattle.rules_steps.specs.Costs.{length_found}
 use Rattle.rules_steps.specs.Texts.{slice}
 use Rattle.mich_term.specs.Weights.{capped}
 use Rattle.mich_stack.specs.Views.{values}
-use Rattle.mich_prices.proofs.Cutting.{bytes_cut, ok_more}
+use Rattle.mich_prices.proofs.Cutting.{bytes_cut, bytes_parts}
 use Rattle.mich_prices.proofs.texts.bytes_slice_weight.Goals as goal
 
 pub returns : goal.returns
-returns c =
-    let x = c.in-Some in
-    ok_more _ _ c.cut_weight.result c.cut_weight.ensures (λ w h big.
-    h.2 ∙ (λ j. capped (length_found (slice (unsigned_abs c.in-Number.offset) (unsigned_abs c.in-Number-count.count) (c.as_slice-2.ensures j))))
-    ∙ ap capped (bytes_cut big (values big c.args.stack.now) (values big x.field-0-3.now) x.offset.now x.count.now x.s.now c.in-Number.offset c.in-Number-count.count c.in-Bytes.s c.in-Number.is c.in-Number-count.is
-    (ap (values big) (sym c.as_slice.ensures) ∙ x.ensures big) h.0 h.1 c.in-Bytes.is))
+returns c = λ big.
+    let x = c.in-Some-Number-Number-Bytes-default in
+    let parts = bytes_parts c.requires.0 (values c.requires.0 c.args.stack.now) (values c.requires.0 x.field-0-3.now) x.field-0-0.now x.field-0-1.now x.field-0-2.now x.offset x.count x.s
+    (ap (values c.requires.0) (sym c.as_slice.ensures) ∙ x.ensures c.requires.0) x.field-0-0-is x.field-0-1-is x.field-0-2-is c.requires.1 in
+    let weighed : c.cut_weight.result ≡ capped (length_found (slice (unsigned_abs x.offset) (unsigned_abs x.count) x.s)) = search rules in
+    weighed ∙ ap capped (bytes_cut big (values big c.args.stack.now) (values big x.field-0-3.now) x.field-0-0.now x.field-0-1.now x.field-0-2.now x.offset x.count x.s
+    (ap (values big) (sym c.as_slice.ensures) ∙ x.ensures big) x.field-0-0-is x.field-0-1-is x.field-0-2-is parts)

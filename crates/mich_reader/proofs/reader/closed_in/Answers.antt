@@ -1,5 +1,5 @@
 use Rattle.std.proofs.Common.{◌≡◌, Bool, true, false, not, take, inl, inr, refl}
-use Rattle.mich_text.proofs.OneReading.{no_node_at_end, no_fault_at_node}
+use Rattle.mich_text.proofs.ForCallers.{no_node_at_end, no_fault_at_node}
 use Rattle.mich_reader.proofs.Tried.{untried, never_tried, found_placed, found_never}
 use Rattle.mich_reader.proofs.reader.closed_in.Goals as goal
 use Rattle.mich_reader.proofs.reader.closed_in.Goals.{then-hopeless-via-then-hopeless, then-hopeless-via-else-hopeless+then-not-scan}

@@ -1,4 +1,3 @@
-use Rattle.mich_report.specs.State.{IsAtRest}
 use Rattle.mich_replay.proofs.generating.sum_up.Goals as goal
 
 pub summary_text-requires : goal.summary_text-requires

@@ -1,4 +1,4 @@
-use Rattle.std.proofs.Common.{Ok, Some, None, subst, arith}
+use Rattle.std.proofs.Common.{Ok, subst, arith}
 use Rattle.std.specs.declared.option.Option.{Option}
 use Rattle.std.proofs.lemmas.Result.{err_from_is_err_and}
 use Rattle.mich_replay.specs.Coming.{Turns}

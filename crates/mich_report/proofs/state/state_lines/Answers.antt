@@ -1,5 +1,4 @@
-use Rattle.std.proofs.Common.{◌≡◌, List, ℕ, ◌++◌, map, sym, ap, ◌∙◌, subst}
-use Rattle.rules_base.specs.Tree.{Tree}
+use Rattle.std.proofs.Common.{List, ℕ, ◌++◌, map, sym, ap, ◌∙◌, subst}
 use Rattle.rules_lines.specs.Nodes.{account_node, line}
 use Rattle.mich_tickets.specs.Books.{State}
 use Rattle.mich_tickets.specs.Lines.{Lines}

@@ -1,5 +1,4 @@
 use Rattle.std.proofs.Common.{◌≡◌, ◌++◌, drop}
-use Rattle.std.specs.List.{flat_map}
 use Rattle.mich_report.proofs.Rest.{joined}
 use Rattle.mich_report.proofs.state.state_text.Given as goal
 

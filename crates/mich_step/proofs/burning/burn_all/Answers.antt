@@ -1,11 +1,11 @@
 -- Those that are left may be burnt one after the other.
 use Rattle.std.proofs.Common.{rules, ◌≡◌, List, [], ◌∷◌, ◌++◌, map, append_assoc, sym, ap, ◌∙◌, subst}
 use Rattle.std.specs.Vec.Iter.{into_iter_items}
-use Rattle.mich_undo.proofs.Histories.{keeps_same, keeps_trans}
+use Rattle.mich_undo.proofs.ForCallers.{keeps_same, keeps_trans}
 use Rattle.mich_term.specs.TicketView.{held}
 use Rattle.mich_term.specs.declared.ticket.Ticket.{Ticket}
 use Rattle.mich_tickets.specs.Limits.{IsReady}
-use Rattle.mich_tickets.proofs.Readiness.{ready_first, ready_next}
+use Rattle.mich_tickets.proofs.ForCallers.{ready_first, ready_next}
 use Rattle.mich_step.proofs.Ledgers.{tells_same, tells_put, left_ready}
 use Rattle.mich_step.proofs.burning.burn_all.Goals as goal
 

@@ -2,7 +2,7 @@ use Rattle.std.proofs.Common.{rules, ◌≡◌, subst}
 use Rattle.rules_values.specs.Val.{both}
 use Rattle.rules_steps.specs.Stack.{replaced}
 use Rattle.mich_term.specs.declared.value.Value.TheVariants as value
-use Rattle.mich_stack.proofs.Pairs.{pair_of}
+use Rattle.mich_stack.proofs.ForCallers.{pair_of}
 use Rattle.mich_stack.specs.Views.{seen}
 use Rattle.mich_step.specs.Parts.{IsReplaced}
 use Rattle.mich_step.proofs.Combs.{replaced_there, replaced_is}

@@ -2,7 +2,7 @@ use Rattle.std.proofs.Common.{rules, ◌≡◌, Some, subst}
 use Rattle.rules_values.specs.Val.{both}
 use Rattle.rules_steps.specs.Stack.{comb}
 use Rattle.mich_term.specs.declared.value.Value.TheVariants as value
-use Rattle.mich_stack.proofs.Pairs.{pair_of}
+use Rattle.mich_stack.proofs.ForCallers.{pair_of}
 use Rattle.mich_stack.specs.Views.{seen, values}
 use Rattle.mich_step.proofs.Combs.{comb_there, comb_is}
 use Rattle.mich_step.proofs.pairs.+take_comb.Goals as goal

@@ -2,7 +2,7 @@ use Rattle.std.proofs.Common.{rules, ◌≡◌, ◌++◌, ap, subst}
 use Rattle.rules_values.specs.Tickets.{tickets}
 use Rattle.rules_steps.specs.Stack.{part_at}
 use Rattle.mich_term.specs.declared.value.Value.TheVariants as value
-use Rattle.mich_stack.proofs.Pairs.{pair_of}
+use Rattle.mich_stack.proofs.ForCallers.{pair_of}
 use Rattle.mich_stack.specs.Views.{seen}
 use Rattle.mich_step.specs.Parts.{IsPart}
 use Rattle.mich_step.proofs.Combs.{part_there, part_is}

@@ -7,7 +7,7 @@ use Rattle.rules_steps.specs.TicketSteps.{as_value}
 use Rattle.mich_term.specs.TicketView.{held}
 use Rattle.mich_term.specs.ValueView.{big_step}
 use Rattle.mich_stack.specs.Views.{values, plain}
-use Rattle.mich_tickets.proofs.Readiness.{ready_first}
+use Rattle.mich_tickets.proofs.ForCallers.{ready_first}
 use Rattle.mich_step.proofs.Splitting.{split_ready, split_by}
 use Rattle.mich_step.proofs.tickets.split_ticket.Goals as goal
 

@@ -1,4 +1,4 @@
-use Rattle.mich_text.proofs.WrittenLines.{can_be_written, written_again, written_in_line}
+use Rattle.mich_text.proofs.printed.WrittenLines.{can_be_written, written_again, written_in_line}
 use Rattle.mich_text.proofs.laws.a_line_is_read_again.Goals as goal
 
 pub returns-clause-forms : goal.returns-clause-forms

@@ -1,5 +1,5 @@
-use Rattle.mich_text.proofs.Unique.{one_statement}
-use Rattle.mich_text.proofs.OneReading.{one_fault, no_fault_at_node, no_node_at_end, no_fault_at_end}
+use Rattle.mich_text.proofs.readings.Unique.{one_statement}
+use Rattle.mich_text.proofs.limits.OneReading.{one_fault, no_fault_at_node, no_node_at_end, no_fault_at_end}
 use Rattle.mich_text.proofs.laws.one_reading.Goals as goal
 
 pub returns-clause-faults : goal.returns-clause-faults

@@ -1,5 +1,5 @@
 use Rattle.std.specs.Char.{is_ascii_digit}
-use Rattle.mich_text.proofs.Numbers.{front_passes}
+use Rattle.mich_text.proofs.tokens.ByteRuns.{front_passes}
 use Rattle.mich_text.proofs.lexical.digits_of.Goals as goal
 
 pub returns-clause-all : goal.returns-clause-all

@@ -1,7 +1,7 @@
 use Rattle.std.proofs.Common.{◌≡◌, ◌≤◌, length, drop}
 use Rattle.rules_base.specs.Limits.{byte_limit}
 use Rattle.rules_text.specs.Lexical.{spelt}
-use Rattle.mich_text.proofs.Strings.{prepend}
+use Rattle.mich_text.proofs.tokens.Strings.{prepend}
 use Rattle.mich_text.proofs.lexical.string_at.Given as goal
 
 abbrev pub invariant-units : goal.invariant-units

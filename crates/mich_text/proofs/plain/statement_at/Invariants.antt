@@ -1,7 +1,7 @@
 use Rattle.std.proofs.Common.{List, length}
 use Rattle.rules_text.specs.Token.{Token}
 use Rattle.mich_text.specs.Nodes.{stack_view}
-use Rattle.mich_text.proofs.Reading.{At}
+use Rattle.mich_text.proofs.readings.Reading.{At}
 use Rattle.mich_text.proofs.plain.statement_at.Given as goal
 
 -- the tokens so far lead here, and the parser has taken them

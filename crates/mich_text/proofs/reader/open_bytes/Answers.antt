@@ -1,7 +1,7 @@
 use Rattle.std.proofs.Common.{◌≡◌, ℕ, List, Err, sym, subst, ◌∙◌}
 use Rattle.mich_text.specs.Results.{IsLimitedRead}
 use Rattle.mich_text.specs.declared.fault.LexError.{LexError}
-use Rattle.mich_text.proofs.Limits.{open_tells}
+use Rattle.mich_text.proofs.limits.Limits.{open_tells}
 use Rattle.mich_text.proofs.reader.open_bytes.Goals as goal
 use Rattle.mich_text.proofs.reader.open_bytes.Goals.{in-Ok, in-Err-Memory, in-Err-Flaw+then-flaw-left, in-Err-Flaw+else-flaw-left}
 
@@ -19,5 +19,6 @@ returns c = λ p o ends_file before text u.
           said before text _ _ w.result-is (tells.0 w.in-Err-Flaw.flaw.kind w.in-Err-Flaw.flaw.left e w.if-flaw-left.true)
       | in-Err-Flaw+else-flaw-left w ↦
           let e = rw w.in-Err-Flaw.field-0-is at w.in-Err-Flaw.ensures.read in
-          said before text _ _ (w.result-is ∙ w.too_long-else-flaw-left.ensures) (tells.1 w.in-Err-Flaw.flaw.kind w.in-Err-Flaw.flaw.left e w.if-flaw-left.false)
+          said before text _ _ (w.result-is ∙ w.too_long-else-flaw-left.ensures)
+          (tells.1 w.in-Err-Flaw.flaw.kind w.in-Err-Flaw.flaw.left e w.if-flaw-left.false)
     ]

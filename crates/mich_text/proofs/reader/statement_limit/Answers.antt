@@ -1,5 +1,5 @@
 use Rattle.std.proofs.Common.{sym, arith}
-use Rattle.mich_text.proofs.Places.{gap_le}
+use Rattle.mich_text.proofs.tokens.Gaps.{gap_le}
 use Rattle.mich_text.proofs.reader.statement_limit.Goals as goal
 
 pub returns-in-Some-clause-within : goal.returns-in-Some-clause-within

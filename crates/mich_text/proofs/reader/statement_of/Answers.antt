@@ -2,7 +2,7 @@ use Rattle.std.proofs.Common.{◌≡◌, ℕ, ◌<◌, ◌⊎◌, inl, inr, Bool
 use mathlib.Core.Bool.{not}
 use Rattle.mich_text.specs.Results.{IsLimitedRead}
 use Rattle.mich_text.specs.declared.fault.LexError.{LexError}
-use Rattle.mich_text.proofs.Limits.{long_open, long_file, kept_node}
+use Rattle.mich_text.proofs.limits.Limits.{long_open, long_file, kept_node}
 use Rattle.mich_text.proofs.reader.statement_of.Goals as goal
 
 open_of : (b : Bool) → not b ≡ true → b ≡ false
@@ -18,10 +18,16 @@ some_left b end (inl h) = inl (omega (arith, h.1))
 some_left b end (inr h) = inr h
 
 pub returns-then-not-found : goal.returns-then-not-found
-returns-then-not-found c = λ front n before text u. subst (λ (x : LexError). IsLimitedRead before text (Err x)) (sym c.too_long.ensures) (long_open before text front c.args.behind c.args.ends_file u c.args.found n (open_of c.args.found.closed c.if-not-found.true))
+returns-then-not-found c =
+    λ front n before text u. subst (λ (x : LexError). IsLimitedRead before text (Err x)) (sym c.too_long.ensures)
+    (long_open before text front c.args.behind c.args.ends_file u c.args.found n (open_of c.args.found.closed c.if-not-found.true))
 
 pub returns-then-found-eq0 : goal.returns-then-found-eq0
-returns-then-found-eq0 c = λ front n before text u. subst (λ (x : LexError). IsLimitedRead before text (Err x)) (sym c.too_long-then-found-eq0.ensures) (long_file before text front c.args.behind c.args.ends_file u c.args.found n c.if-ends_file.true c.if-found-eq0.true)
+returns-then-found-eq0 c =
+    λ front n before text u. subst (λ (x : LexError). IsLimitedRead before text (Err x)) (sym c.too_long-then-found-eq0.ensures)
+    (long_file before text front c.args.behind c.args.ends_file u c.args.found n c.if-ends_file.true c.if-found-eq0.true)
 
 pub returns : goal.returns
-returns c = λ front n before text u. kept_node before text front c.args.behind c.args.ends_file u c.args.found n (closed_of c.args.found.closed c.if-not-found.false) (some_left c.args.ends_file c.args.found.end c.else-ends_file.either)
+returns c =
+    λ front n before text u. kept_node before text front c.args.behind c.args.ends_file u c.args.found n
+    (closed_of c.args.found.closed c.if-not-found.false) (some_left c.args.ends_file c.args.found.end c.else-ends_file.either)

@@ -1,4 +1,4 @@
-use Rattle.mich_text.proofs.Limits.{limited_within}
+use Rattle.mich_text.proofs.limits.Places.{limited_within}
 use Rattle.mich_text.proofs.reader.statement_within_file.Goals as goal
 
 pub returns-clause-within : goal.returns-clause-within

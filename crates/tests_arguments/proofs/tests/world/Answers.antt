@@ -3,7 +3,7 @@ use Rattle.std.specs.List.{AllByRecursion}
 use Rattle.mich_bigmap.specs.Layers.{BasedLayer}
 use Rattle.mich_forms.specs.declared.places.Place.TheVariants as place
 use Rattle.mich_instr.specs.Scripts.{IsTypedScript}
-use Rattle.mich_term.proofs.Each as each
+use Rattle.mich_term.proofs.ForCallers.Each as each
 use Rattle.mich_term.specs.Layers.{FormedLayer}
 use Rattle.mich_world.specs.Holders.{founded}
 use Rattle.mich_world.specs.World.{World, no_world}

@@ -1,4 +1,4 @@
-use Rattle.std.proofs.Common.{true, None, List, [], sym, subst}
+use Rattle.std.proofs.Common.{true, None, [], sym, subst}
 use Rattle.std.specs.List.Sorted.{IsStrictlySortedBy}
 use Rattle.mich_term.specs.declared.value.BigMap.{roll-BigMap}
 use Rattle.mich_bigmap.specs.Formed.{IsFormed}

@@ -8,7 +8,7 @@ use Rattle.rules_steps.specs.Texts.{text_step}
 use Rattle.mich_term.specs.ValueView.{big_step}
 use Rattle.mich_stack.specs.Ends.{IsFitting}
 use Rattle.mich_stack.specs.Views.{seen, values}
-use Rattle.mich_stack.proofs.Standing.{holds_of_two, text_seen}
+use Rattle.mich_stack.proofs.ForCallers.{holds_of_two, text_seen}
 use Rattle.tests_collections.proofs.tests.concat.Goals as goal
 
 in_size : (b : Bool) (V : List Val) → IsFitting (if b then kept V else fails f.size_limit)

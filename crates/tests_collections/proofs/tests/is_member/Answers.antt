@@ -5,7 +5,7 @@ use Rattle.mich_term.specs.ValueView.{big_step}
 use Rattle.mich_stack.specs.Ends.{IsFitting}
 use Rattle.mich_stack.specs.Keys.{IsKeyOnTop}
 use Rattle.mich_stack.specs.Views.{seen, values}
-use Rattle.mich_stack.proofs.Standing.{holds_of_two, number_seen, set_seen}
+use Rattle.mich_stack.proofs.ForCallers.{holds_of_two, number_seen, set_seen}
 use Rattle.tests_collections.proofs.tests.is_member.Goals as goal
 
 pub collection_step-requires-clause-fits : goal.collection_step-requires-clause-fits

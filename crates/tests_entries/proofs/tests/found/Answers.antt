@@ -1,20 +1,14 @@
 use Rattle.std.proofs.Common.{◌≡◌, ℤ, List, [], ◌∷◌, refl, sym, ap, ◌∙◌, subst}
-use Rattle.std.specs.Prelude.{pos}
 use Rattle.rules_instructions.specs.Straight as i
-use Rattle.rules_values.specs.Val.{Val, Pairs, number, some, nothing, big_table, no_pair, more_pairs, is_comparable}
-use Rattle.rules_steps.specs.Changes.{Change}
-use Rattle.rules_steps.specs.Collections.{collection_step}
-use Rattle.rules_steps.specs.Step.{Step, done}
+use Rattle.rules_values.specs.Val.{Pairs, number, big_table, is_comparable}
 use Rattle.mich_stack.specs.Keys.{IsKeyOnTop}
 use Rattle.mich_stack.specs.Views.{Sight, seen, values}
-use Rattle.mich_stack.proofs.Standing.{number_seen}
-use Rattle.mich_term.specs.ValueView.{value_step, big_step}
-use Rattle.mich_term.specs.declared.value.Value.{Value, fold-roll-Value}
-use Rattle.mich_term.specs.declared.value.Value.TheOpen.{Value-F}
+use Rattle.mich_stack.proofs.ForCallers.{number_seen}
+use Rattle.mich_term.specs.ValueView.{big_step}
+use Rattle.mich_term.specs.declared.value.Value.{Value}
 use Rattle.mich_term.specs.declared.value.Value.TheVariants as v
-use Rattle.mich_term.specs.declared.value.Value.TheVariants.{rolls-None, rolls-Some}
 use Rattle.laws_sights.specs.Sights.{sight}
-use Rattle.mich_entries.specs.Operands.{IsBigMapSecond, IsBigMapThird}
+use Rattle.mich_entries.specs.Operands.{IsBigMapSecond}
 use Rattle.tests_entries.proofs.tests.found.Goals as goal
 
 -- a number on a big map

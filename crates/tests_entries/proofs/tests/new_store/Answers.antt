@@ -3,7 +3,7 @@ use Rattle.mich_bigmap.specs.Stored.{Stored}
 use Rattle.mich_step.specs.Shown.{ShowsTickets}
 use Rattle.mich_term.specs.declared.value.Value.{Value}
 use Rattle.laws_sights.specs.Sights.{sight}
-use Rattle.laws_sights.proofs.Shown.{sight_shows}
+use Rattle.laws_sights.proofs.ForCallers.{sight_shows}
 use Rattle.tests_entries.proofs.tests.new_store.Goals as goal
 
 pub returns : goal.returns

@@ -3,7 +3,7 @@ use Rattle.rules_instructions.specs.Straight as i
 use Rattle.mich_term.specs.ValueView.{big_step}
 use Rattle.mich_stack.specs.Views.{seen, values}
 use Rattle.mich_hashes.specs.Operands.{HasOperand}
-use Rattle.mich_hashes.proofs.Packed.{bytes_seen, with_top}
+use Rattle.mich_hashes.proofs.ForCallers.{bytes_seen, with_top}
 use Rattle.tests_hashes.proofs.tests.sha256.Goals as goal
 
 pub hash_step-requires-clause-operand : goal.hash_step-requires-clause-operand

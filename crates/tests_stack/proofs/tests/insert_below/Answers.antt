@@ -1,6 +1,6 @@
 use Rattle.std.proofs.Common.{arith}
 use Rattle.mich_term.specs.ValueView.{big_step}
-use Rattle.mich_stack.proofs.Tops.{length_values}
+use Rattle.mich_stack.proofs.ForCallers.{length_values}
 use Rattle.tests_stack.proofs.tests.insert_below.Goals as goal
 
 pub insert_at-requires : goal.insert_at-requires

@@ -4,7 +4,7 @@ use Rattle.rules_steps.specs.Numbers.{logic_step}
 use Rattle.mich_term.specs.ValueView.{big_step}
 use Rattle.mich_stack.specs.Ends.{IsFitting}
 use Rattle.mich_stack.specs.Views.{seen, values}
-use Rattle.mich_stack.proofs.Standing.{holds_of_two, number_seen}
+use Rattle.mich_stack.proofs.ForCallers.{holds_of_two, number_seen}
 use Rattle.tests_step.proofs.tests.compare.Goals as goal
 
 pub logic_step-requires : goal.logic_step-requires

@@ -7,7 +7,7 @@ use Rattle.rules_steps.specs.Step.{within_limit}
 use Rattle.mich_term.specs.ValueView.{big_step}
 use Rattle.mich_stack.specs.Ends.{IsFitting}
 use Rattle.mich_stack.specs.Views.{seen, values}
-use Rattle.mich_stack.proofs.Standing.{holds_of_two, number_seen}
+use Rattle.mich_stack.proofs.ForCallers.{holds_of_two, number_seen}
 use Rattle.tests_step.proofs.tests.subtract.Goals as goal
 
 in_limit : (r : Result ℤ Limit) (V : List Val) → IsFitting (within_limit r (give_number V))

@@ -1,4 +1,4 @@
-use Rattle.mich_term.proofs.Each as each
+use Rattle.mich_term.proofs.ForCallers.Each as each
 use Rattle.mich_term.specs.Layers.{FormedLayer}
 use Rattle.mich_bigmap.specs.Layers.{BasedLayer}
 use Rattle.tests_world.proofs.tests.a_contract_is_made.Goals as goal

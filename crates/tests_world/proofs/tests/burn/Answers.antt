@@ -1,4 +1,4 @@
-use Rattle.mich_world.proofs.Marks.{world_same}
+use Rattle.mich_world.proofs.ForCallers.{world_same}
 use Rattle.tests_world.proofs.tests.burn.Goals as goal
 
 pub returns-in_default : goal.returns-in_default

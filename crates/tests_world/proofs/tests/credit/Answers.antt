@@ -1,4 +1,4 @@
-use Rattle.mich_world.proofs.Marks.{world_same}
+use Rattle.mich_world.proofs.ForCallers.{world_same}
 use Rattle.tests_world.proofs.tests.credit.Goals as goal
 
 pub returns-then-amount-le0 : goal.returns-then-amount-le0

@@ -1,7 +1,7 @@
-use Rattle.mich_term.proofs.Each as each
+use Rattle.mich_term.proofs.ForCallers.Each as each
 use Rattle.mich_term.specs.Layers.{FormedLayer}
 use Rattle.mich_bigmap.specs.Layers.{BasedLayer}
-use Rattle.mich_world.proofs.Marks.{world_same}
+use Rattle.mich_world.proofs.ForCallers.{world_same}
 use Rattle.tests_world.proofs.tests.replace.Goals as goal
 
 pub returns-in_default : goal.returns-in_default

@@ -1,4 +1,4 @@
-use Rattle.std.proofs.Common.{Ok, Err, subst, ap}
+use Rattle.std.proofs.Common.{Ok, Err, subst}
 use Rattle.mich_reader.specs.Reading.{IsNext}
 use Rattle.mich_reader.specs.declared.reader.Next.{Next}
 use Rattle.mich_text.specs.declared.fault.TextError.{TextError}
