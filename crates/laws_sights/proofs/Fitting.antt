@@ -62,7 +62,7 @@ module _ (w : Known) where
 
 -- ---- no big map
 
-simple_plain : (u : Simple) (x : Val) → has_simple_form u x ≡ true → is_plain x ≡ true
+pub simple_plain : (u : Simple) (x : Val) → has_simple_form u x ≡ true → is_plain x ≡ true
 simple_plain s.Unit v.unit h = refl
 simple_plain s.Bool (v.truth b) h = refl
 simple_plain s.Int (v.number n) h = refl
@@ -78,11 +78,11 @@ simple_plain s.ChainId (v.bytes b) h = refl
 simple_plain s.Address (v.bytes b) h = refl
 simple_plain _ _ h = absurd cc
 
-each_plain : (P : Val → Type 0) → ((x : Val) → P x → is_plain x ≡ true) → (xs : Vals) → AllHave P xs → are_plain xs ≡ true
+pub each_plain : (P : Val → Type 0) → ((x : Val) → P x → is_plain x ≡ true) → (xs : Vals) → AllHave P xs → are_plain xs ≡ true
 each_plain P one no_val h = refl
 each_plain P one (more_vals x xs) h = and_from _ _ (one x h.0) (each_plain P one xs h.1)
 
-each_entry_plain : (P Q : Val → Type 0) → ((x : Val) → Q x → is_plain x ≡ true) → (es : Pairs) → AllEntriesHave P Q es → entries_plain es ≡ true
+pub each_entry_plain : (P Q : Val → Type 0) → ((x : Val) → Q x → is_plain x ≡ true) → (es : Pairs) → AllEntriesHave P Q es → entries_plain es ≡ true
 each_entry_plain P Q one no_pair h = refl
 each_entry_plain P Q one (more_pairs x y es) h = and_from _ _ (one y h.1) (each_entry_plain P Q one es h.2)
 

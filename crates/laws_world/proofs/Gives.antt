@@ -38,7 +38,7 @@ use Rattle.laws_world.proofs.Taken.{IsTaken, taken_order, taken_held, taken_on}
 -- ---- the ticket
 
 -- one that is offered has its form, and fits its type
-abbrev IsOffered : World → Option Held → Type 0
+abbrev pub IsOffered : World → Option Held → Type 0
 IsOffered w (Some t) = IsTicket t × FitsIn w (k.ticket t.kind) (as_value t)
 IsOffered w None = Unit {0}
 
@@ -49,7 +49,7 @@ contract_place b h = by (is_implicit b)
     by true = refl
     by false = h
 
-offered_is : (w : World) (o : Offer) → is_contract o.issuer ≡ true → is_ticket_amount o.amount ≡ true →
+pub offered_is : (w : World) (o : Offer) → is_contract o.issuer ≡ true → is_ticket_amount o.amount ≡ true →
     size o.content < 2 ^ 32 → IsOffered w (offered o)
 offered_is w o issuer amount small = by (type_at 0 o.kind)
   where

@@ -1,40 +1,15 @@
 -- What can be packed, and what big maps hold, holds no big map.
 use Rattle.std.proofs.Common.{◌≡◌, true, refl}
 use Rattle.std.proofs.lemmas.Bool.{and_parts, and_from}
-use Rattle.rules_types.specs.declared.Simple.{Simple}
-use Rattle.rules_types.specs.declared.Simple.TheVariants as s
 use Rattle.rules_types.specs.Attributes.{packable, big_value}
 use Rattle.rules_types.specs.Kind.{Kind}
 use Rattle.rules_types.specs.Kind as k
-use Rattle.rules_values.specs.Forms.{has_simple_form, AllHave, AllEntriesHave}
-use Rattle.rules_values.specs.Val.{Val, Vals, Pairs, no_val, more_vals, no_pair, more_pairs}
+use Rattle.rules_values.specs.Forms.{AllEntriesHave}
+use Rattle.rules_values.specs.Val.{Val, Pairs}
 use Rattle.rules_values.specs.Val as v
 use Rattle.rules_typing.specs.Fits.{Known, Fits}
-use Rattle.laws_sights.specs.Sights.{is_plain, are_plain, entries_plain}
-
-simple_plain : (u : Simple) (x : Val) → has_simple_form u x ≡ true → is_plain x ≡ true
-simple_plain s.Unit v.unit h = refl
-simple_plain s.Bool (v.truth b) h = refl
-simple_plain s.Int (v.number n) h = refl
-simple_plain s.Timestamp (v.number n) h = refl
-simple_plain s.Nat (v.number n) h = refl
-simple_plain s.Mutez (v.number n) h = refl
-simple_plain s.String (v.text b) h = refl
-simple_plain s.Bytes (v.bytes b) h = refl
-simple_plain s.KeyHash (v.bytes b) h = refl
-simple_plain s.Key (v.bytes b) h = refl
-simple_plain s.Signature (v.bytes b) h = refl
-simple_plain s.ChainId (v.bytes b) h = refl
-simple_plain s.Address (v.bytes b) h = refl
-simple_plain _ _ h = absurd cc
-
-each_plain : (P : Val → Type 0) → ((x : Val) → P x → is_plain x ≡ true) → (xs : Vals) → AllHave P xs → are_plain xs ≡ true
-each_plain P one no_val h = refl
-each_plain P one (more_vals x xs) h = and_from _ _ (one x h.0) (each_plain P one xs h.1)
-
-each_entry_plain : (P Q : Val → Type 0) → ((x : Val) → Q x → is_plain x ≡ true) → (es : Pairs) → AllEntriesHave P Q es → entries_plain es ≡ true
-each_entry_plain P Q one no_pair h = refl
-each_entry_plain P Q one (more_pairs x y es) h = and_from _ _ (one y h.1) (each_entry_plain P Q one es h.2)
+use Rattle.laws_sights.specs.Sights.{is_plain, entries_plain}
+use Rattle.laws_sights.proofs.ForCallers.{each_entry_plain, each_plain, simple_plain}
 
 module _ (w : Known) where
   pub packable_plain : (a : Kind) (x : Val) → packable a ≡ true → Fits w a x → is_plain x ≡ true

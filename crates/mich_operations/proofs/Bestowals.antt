@@ -25,6 +25,7 @@ use Rattle.rules_world.specs.Runs.{run}
 use Rattle.rules_world.specs.Targets.{Target, Search, met, missing, on_met, search}
 use Rattle.rules_world.specs.World.{World as PlainWorld, contract_at as plain_contract_at}
 use Rattle.laws_runs.proofs.ForCallers.{IsMet, Searched, searched, orderly_of}
+use Rattle.laws_world.proofs.ForCallers.{IsOffered, offered_is}
 use Rattle.mich_bigmap.specs.Bases.{Bases}
 use Rattle.mich_bigmap.specs.Standing.{val_in}
 use Rattle.mich_forms.specs.Spelled.{place_bytes}
@@ -53,7 +54,7 @@ use Rattle.mich_operations.specs.declared.applied.ApplyError.{ApplyError}
 use Rattle.mich_operations.specs.declared.applied.ApplyError.TheVariants.{Failed, Memory}
 use Rattle.mich_operations.proofs.Credited.{ticket_in}
 use Rattle.mich_operations.proofs.Given.{enough_so, gone_stands, short_so}
-use Rattle.mich_operations.proofs.Handing.{IsOffered, handed_call, offered_is}
+use Rattle.mich_operations.proofs.Handing.{handed_call}
 use Rattle.mich_operations.proofs.Paying.{ends_along, ends_failed}
 use Rattle.mich_operations.proofs.Ran.{ends_memory, there_in}
 

@@ -1,24 +1,18 @@
 -- Contracts that are called with tickets that a source gives.
-use Rattle.std.proofs.Common.{◌≡◌, ◌≤◌, ◌<◌, ◌^◌, ◌||◌, ℕ, ℤ, pos, ◌+ℤ◌, ◌-ℤ◌, ◌≤ℤ◌, List, ◌∷◌, Bool, true, false, None, Some, refl, sym, ◌∙◌, subst, arith}
-use Rattle.std.specs.Prelude.{if◌then◌else◌, int_lt}
-use Rattle.std.specs.declared.option.Option.{Option}
+use Rattle.std.proofs.Common.{◌≡◌, ◌≤◌, ℕ, ℤ, pos, ◌+ℤ◌, ◌-ℤ◌, ◌≤ℤ◌, List, ◌∷◌, true, false, refl, sym, ◌∙◌, subst, arith}
+use Rattle.std.specs.Prelude.{int_lt}
 use Rattle.std.proofs.lemmas.Int.{ints}
 use Rattle.rules_base.specs.Limits.{most_mutez}
-use Rattle.rules_base.specs.Tree.{size}
-use Rattle.rules_forms.specs.Spelling.{implicit_place, is_contract, is_implicit, is_key_hash, is_place}
+use Rattle.rules_forms.specs.Spelling.{implicit_place, is_key_hash, is_place}
 use Rattle.rules_instructions.specs.Same.{same_kind}
 use Rattle.rules_steps.specs.Changes.{amount_of, amount_in, identity_of}
-use Rattle.rules_types.specs.Attributes.{comparable}
 use Rattle.rules_types.specs.Kind.{Kind}
 use Rattle.rules_types.specs.Kind as k
-use Rattle.rules_types.specs.Reading.{Reading, a_type, bad_type, too_large, type_at}
-use Rattle.rules_values.specs.Forms.{is_ticket_amount}
-use Rattle.rules_values.specs.Literals.{Literal, good, bad, read}
 use Rattle.rules_values.specs.Tickets.{Held}
 use Rattle.rules_values.specs.Val.{Val}
 use Rattle.rules_world.specs.Contents.{Action}
 use Rattle.rules_world.specs.Forms.{IsTicket}
-use Rattle.rules_world.specs.Gives.{Offer, as_value, offered, ticket_by, ticket_with}
+use Rattle.rules_world.specs.Gives.{as_value}
 use Rattle.rules_world.specs.Good.{FitsIn}
 use Rattle.rules_world.specs.Holdings.{amount_held, debited, held, held_by}
 use Rattle.rules_world.specs.Outcomes.{Setting, Waiting, ordered, Counts}
@@ -26,45 +20,12 @@ use Rattle.rules_world.specs.RunLaws.{IsCall}
 use Rattle.rules_world.specs.Runs.{Call, environment_of}
 use Rattle.rules_world.specs.Targets.{Target}
 use Rattle.rules_world.specs.World.{World, account_or_none}
-use Rattle.laws_accounts.proofs.ForCallers.{debited_held, fits_in_more, compared_fits}
+use Rattle.laws_accounts.proofs.ForCallers.{debited_held, fits_in_more}
 use Rattle.laws_runs.proofs.ForCallers.{IsMet, met_more, orderly_of, IsOrderly, account_holdings}
 use Rattle.laws_runs.specs.Going.{IsSetting, IsGoing}
 use Rattle.laws_types.proofs.ForCallers.{same_kind_true}
 use Rattle.laws_world.proofs.ForCallers.{IsReceived, account_changed, run_called, taken_on, taken_order}
 use Rattle.mich_standing.proofs.ForCallers.{account_held}
-
--- ---- the ticket
-
--- one that is offered has its form, and fits its type
-abbrev pub IsOffered : World → Option Held → Type 0
-IsOffered w (Some t) = IsTicket t × FitsIn w (k.ticket t.kind) (as_value t)
-IsOffered w None = Unit {0}
-
-contract_place : (b : List ℕ) → is_contract b ≡ true → is_place b ≡ true
-contract_place b h = by (is_implicit b)
-  where
-    by : (c : Bool) → (c || is_contract b) ≡ true
-    by true = refl
-    by false = h
-
-pub offered_is : (w : World) (o : Offer) → is_contract o.issuer ≡ true → is_ticket_amount o.amount ≡ true → size o.content < 2 ^ 32 → IsOffered w (offered o)
-offered_is w o issuer amount small = by (type_at 0 o.kind)
-  where
-    place : is_place o.issuer ≡ true
-    place = contract_place o.issuer issuer
-
-    by_literal : (a : Kind) → comparable a ≡ true → (l : Literal Val) → read a 0 o.content ≡ l → IsOffered w (ticket_with o a l)
-    by_literal a c (good x ps) e = ((place, amount), (refl, compared_fits w a o.content x ps c e small, amount, place))
-    by_literal a c (bad l) e = tt
-
-    by_kind : (a : Kind) (c : Bool) → comparable a ≡ c → IsOffered w (if c then ticket_with o a (read a 0 o.content) else None)
-    by_kind a true e = by_literal a e (read a 0 o.content) refl
-    by_kind a false e = tt
-
-    by : (r : Reading) → IsOffered w (ticket_by o r)
-    by (a_type a) = by_kind a (comparable a) refl
-    by (bad_type l) = tt
-    by too_large = tt
 
 -- ---- it goes from an account
 
