@@ -4,4 +4,4 @@ pub use Rattle.mich_standing.proofs.Agreement.{clocks_agree, contracts_agree, cr
 pub use Rattle.mich_standing.proofs.Contracts.{amounts, before_held, length_is, storage_held, stored_are}
 pub use Rattle.mich_standing.proofs.Opening.{credits_make_accounts}
 pub use Rattle.mich_standing.proofs.Owners.{hash_of, implicit_of, place_length}
-pub use Rattle.mich_standing.proofs.Runs.{ledgers_run, runs_go_on}
+pub use Rattle.mich_standing.proofs.Runs.{adds_then, ledgers_run, runs_go_on}

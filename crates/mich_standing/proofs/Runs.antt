@@ -36,7 +36,7 @@ listed_twice before ids (minted t ∷ cs) ds =
 summed : (a b c m n k : ℤ) → c ≡ b +ℤ n → b ≡ a +ℤ m → k ≡ m +ℤ n → c ≡ a +ℤ k
 summed a b c m n k e f g = omega (arith, ints, e, f, g)
 
-adds_then : (a b c : Books) (cs ds : List Change) → Adds cs a b → Adds ds b c → Adds (cs ++ ds) a c
+pub adds_then : (a b c : Books) (cs ds : List Change) → Adds cs a b → Adds ds b c → Adds (cs ++ ds) a c
 adds_then a b c cs ds p q = record {
   minted = λ j. summed (minted_of a j) (minted_of b j) (minted_of c j) (minted_in j cs) (minted_in j ds) (minted_in j (cs ++ ds)) (q.minted j) (p.minted j) (minted_append j cs ds);
   burnt = λ j. summed (burnt_of a j) (burnt_of b j) (burnt_of c j) (burnt_in j cs) (burnt_in j ds) (burnt_in j (cs ++ ds)) (q.burnt j) (p.burnt j) (burnt_append j cs ds);
