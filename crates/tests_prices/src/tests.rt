@@ -53,9 +53,19 @@ fn stack(alloc: Global, third: Value, second: Value, first: Value) -> Result<Row
     Ok(values)
 }
 
-// What one on the order of a stack weighs.
-fn order_weight(alloc: Global, row: StackRow, stack: &Rows<Value>) -> Result<u64, Memory> {
-    weigh(alloc, &Simple::Stack(row), stack)
+// What DROP 2 weighs.
+fn dropped_weight(alloc: Global, stack: &Rows<Value>) -> Result<u64, Memory> {
+    weigh(alloc, &Simple::Stack(StackRow::Drop(2)), stack)
+}
+
+// What DUP 2 weighs.
+fn copied_weight(alloc: Global, stack: &Rows<Value>) -> Result<u64, Memory> {
+    weigh(alloc, &Simple::Stack(StackRow::Dup(2)), stack)
+}
+
+// What SWAP weighs.
+fn swapped_weight(alloc: Global, stack: &Rows<Value>) -> Result<u64, Memory> {
+    weigh(alloc, &Simple::Stack(StackRow::Swap), stack)
 }
 
 #[test]
@@ -67,10 +77,9 @@ fn values_are_weighed(rt: HostRuntime) -> Result<(), Fail> {
         list(alloc, "ab", "c")?,
         Value::Number(5),
     )?;
-    assert_eq!(rt; order_weight(alloc, StackRow::Drop(2), &values)?, 4);
-    assert_eq!(rt; order_weight(alloc, StackRow::Drop(3), &values)?, 5);
-    assert_eq!(rt; order_weight(alloc, StackRow::Dup(2), &values)?, 3);
-    assert_eq!(rt; order_weight(alloc, StackRow::Swap, &values)?, 0);
+    assert_eq!(rt; dropped_weight(alloc, &values)?, 4);
+    assert_eq!(rt; copied_weight(alloc, &values)?, 3);
+    assert_eq!(rt; swapped_weight(alloc, &values)?, 0);
     let add = Simple::Numbers(NumberRow::AddNumbers);
     assert_eq!(rt; weigh(alloc, &add, &values)?, 0);
     Ok(())
