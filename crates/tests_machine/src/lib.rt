@@ -1,0 +1,13 @@
+//! Tests of `mich_interpreter` and `mich_machine`, by their public calls.
+#![tactic(auto)]
+
+#[cfg(test)]
+mod call_tests;
+#[cfg(test)]
+mod calls;
+#[cfg(test)]
+mod code_tests;
+#[cfg(test)]
+mod runs;
+#[cfg(test)]
+mod settings;
