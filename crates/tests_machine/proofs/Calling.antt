@@ -45,8 +45,7 @@ use Rattle.mich_term.specs.declared.value.Value.{Value}
 use Rattle.mich_term.specs.declared.value.Value.TheVariants as value
 use Rattle.mich_world.specs.World.{World}
 use Rattle.mich_world.specs.declared.contract.Contract.{Contract}
-use Rattle.tests_machine.specs.Home.{IsHome, plain_home, source}
-use Rattle.tests_machine.specs.declared.settings.TheConstants.{HOME}
+use Rattle.tests_machine.specs.Home.{IsHome, own_hash, plain_home, source}
 use Rattle.tests_machine.proofs.Begins.{IsReadAs, read_from}
 
 -- One key is in order.
@@ -58,10 +57,10 @@ one_sorted R k = (tt, tt)
 module _ (node : Tree) (s : PlainScript) (read : script node ≡ found s) (small : size node < 2 ^ 32)
     (of_unit : s.storage ≡ simple named.Unit) where
   abbrev w : PlainWorld
-  w = plain_home HOME node
+  w = plain_home own_hash node
 
   abbrev c : List ℕ × PlainContract
-  c = (HOME, record { balance = 0; script = node; storage = unit })
+  c = (own_hash, record { balance = 0; script = node; storage = unit })
 
   stores : IsGoodContract w c
   stores = (s, read, small, subst (λ (a : Kind). FitsIn w a unit) (sym of_unit) refl)
@@ -75,7 +74,7 @@ module _ (node : Tree) (s : PlainScript) (read : script node ≡ found s) (small
       accounts = All-cons IsAccount (source, no_account) [] (refl, All-nil IsHolding, sorted_nothing identity_order) (All-nil IsAccount);
       accounts_in_order = one_sorted (slice_cmp nat_cmp) source;
       contracts = All-cons IsTwentyBytes c [] refl (All-nil IsTwentyBytes);
-      contracts_in_order = one_sorted (slice_cmp nat_cmp) HOME;
+      contracts_in_order = one_sorted (slice_cmp nat_cmp) own_hash;
       log = All-nil IsChange;
     };
     contracts = All-cons (IsGoodContract w) c [] stores (All-nil (IsGoodContract w));
@@ -98,12 +97,12 @@ nothing_charged : (prices : Listed) → prices ≡ nothing_listed → (kind : Ki
 nothing_charged prices e kind = subst (λ (p : Listed). 1 ≤ (price_of p kind).base) (sym e) (omega arith)
 
 -- Such a world hosts runs.
-module _ (v : World) (home : IsHome HOME v) where
+module _ (v : World) (home : IsHome own_hash v) where
   abbrev node_of : Tree
   node_of = script_node home.contract.script
 
   abbrev pub world_of : PlainWorld
-  world_of = plain_home HOME node_of
+  world_of = plain_home own_hash node_of
 
   sound : IsSound world_of
   sound = by (read_from node_of (script_code home.contract.script) home.typed)
@@ -120,15 +119,15 @@ module _ (v : World) (home : IsHome HOME v) where
 
   -- Its contract is called with a unit that is an argument.
   module _ (name : List ℕ) (t : Tree) (small : size t < 2 ^ 32) (argument : Value) (is_unit : argument ≡ value.Unit)
-      (a : IsArgument world_of HOME name t argument) where
+      (a : IsArgument world_of own_hash name t argument) where
     abbrev x : Val
     x = val_in v.store.bases.present argument
 
     seen_so : x ≡ unit
     seen_so = seen_unit v.store.bases.present argument is_unit
 
-    met_so : IsMet world_of a.target × (a.target.hash ≡ HOME) × (a.target.entry.name ≡ name)
-    met_so = subst (Searched world_of HOME name) a.met (searched world_of (orderly_of world_of sound) HOME name)
+    met_so : IsMet world_of a.target × (a.target.hash ≡ own_hash) × (a.target.entry.name ≡ name)
+    met_so = subst (Searched world_of own_hash name) a.met (searched world_of (orderly_of world_of sound) own_hash name)
 
     fits : FitsIn world_of a.target.entry.kind x
     fits =
@@ -143,7 +142,7 @@ module _ (v : World) (home : IsHome HOME v) where
     }
 
     pub calls : (costs : Costs) (counts : Counts) (env : Env) → listed costs ≡ nothing_listed → counts.group < 2 ^ 64 →
-        IsEnvironment (environment env) → env.me ≡ HOME → Calls v world_of (listed costs) counts HOME name argument env a.target
+        IsEnvironment (environment env) → env.me ≡ own_hash → Calls v world_of (listed costs) counts own_hash name argument env a.target
     calls costs counts env standard group ranged own = record {
       stands = home.stands;
       hash = met_so.1;

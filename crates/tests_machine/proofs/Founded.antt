@@ -17,19 +17,18 @@ use Rattle.mich_term.specs.declared.value.Value.TheVariants as value
 use Rattle.mich_world.specs.Standing.{StandsFor}
 use Rattle.mich_world.specs.Storages.{Installs}
 use Rattle.mich_world.specs.World.{World, no_world}
-use Rattle.tests_machine.specs.Home.{chain, plain_home, source}
-use Rattle.tests_machine.specs.declared.settings.TheConstants.{HOME}
+use Rattle.tests_machine.specs.Home.{chain, own_hash, plain_home, source}
 
 -- A unit stands for itself over any store.
 unit_is : (bs : Bases) → val_in bs value.Unit ≡ unit
 unit_is bs = search (rules, values.the_lemmas)
 
 -- A world that installed its first contract stands for the one of the definitions with it.
-pub founded_stands : (v : World) (s : Script) → Installs (place.Implicit source) HOME 0 s value.Unit (no_world chain 1 (pos 0)) v →
-    StandsFor v (plain_home HOME (script_node s))
+pub founded_stands : (v : World) (s : Script) → Installs (place.Implicit source) own_hash 0 s value.Unit (no_world chain 1 (pos 0)) v →
+    StandsFor v (plain_home own_hash (script_node s))
 founded_stands v s installs =
-    let first : Val → Founding = λ x. record { sender = 0 ∷ source; hash = HOME; balance = 0; script = script_node s; storage = x } in
+    let first : Val → Founding = λ x. record { sender = 0 ∷ source; hash = own_hash; balance = 0; script = script_node s; storage = x } in
     subst (λ (x : Val). StandsFor v (founded (new_world chain 1 (pos 0)) (first x))) (unit_is [])
-    (installs_agree (no_world chain 1 (pos 0)) v (new_world chain 1 (pos 0)) (place.Implicit source) HOME 0 s value.Unit
+    (installs_agree (no_world chain 1 (pos 0)) v (new_world chain 1 (pos 0)) (place.Implicit source) own_hash 0 s value.Unit
     (new_worlds_agree chain 1 (pos 0)) (new_worlds_are_good chain 1 (pos 0) refl (omega arith) refl).0.good.sound.form
     tt tt refl refl refl refl (each.of_unit FormedLayer) installs)

@@ -25,6 +25,10 @@ chain = replicate 4 0
 abbrev pub source : List ℕ
 source = 0 ∷ replicate 20 1
 
+-- the contract's own
+abbrev pub own_hash : List ℕ
+own_hash = replicate 20 7
+
 -- the world of the definitions with such a contract, by the node of its script, and with the account that made it
 abbrev pub plain_home : List ℕ → Tree → PlainWorld
 plain_home hash node = record {
