@@ -1,4 +1,7 @@
-pub mod Sayings
-pub mod Said
-pub mod Leading
-pub mod ForCallers
+pub mod evaluation_lemmas
+pub mod stacks
+pub mod typed
+pub mod control
+pub mod literals
+pub mod steps
+pub mod safety_lemmas

@@ -1,7 +1,2 @@
-pub mod Places
-pub mod Pushed
-pub mod Sizes
-pub mod Fit
-pub mod Forms
-pub mod Read
-pub mod ForCallers
+pub mod literals_lemmas
+pub mod packing_lemmas

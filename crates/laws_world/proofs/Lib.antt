@@ -1,11 +1,5 @@
-pub mod GroupLaws
-pub mod Foundings
-pub mod Taken
-pub mod Accounts
-pub mod Calls
-pub mod Transfers
-pub mod Gives
-pub mod Walks
-pub mod Groups
-pub mod Chains
-pub mod ForCallers
+pub mod accounts
+pub mod lines_lemmas
+pub mod operations
+pub mod runs
+pub mod groups_lemmas

@@ -1,6 +1,6 @@
 -- The first contract that what is pending names.
 use Rattle.std.proofs.Common.{◌≡◌, ℕ, Bool, List, [], ◌∷◌, Option, Some, None, sym, ap, ◌∙◌}
-use Rattle.rules_replay.specs.Packs.{first_claim}
+use Rattle.rules_files.specs.commands.Packs.{first_claim}
 use Rattle.mich_base.specs.declared.node.Node.{Node}
 use Rattle.mich_base.specs.declared.ty.Ty.{Ty}
 use Rattle.mich_forms.specs.declared.addresses.Address.{Address}

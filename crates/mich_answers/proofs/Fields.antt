@@ -1,7 +1,7 @@
 -- Fields of `Pack` that are another number than two.
 use Rattle.std.proofs.Common.{◌≡◌, List, [], ◌∷◌, None, refl}
-use Rattle.rules_replay.specs.Packs.{pack_fields}
-use Rattle.rules_statements.specs.Statements.{nodes_of}
+use Rattle.rules_files.specs.commands.Packs.{pack_fields}
+use Rattle.rules_files.specs.statements.Statements.{nodes_of}
 use Rattle.mich_base.specs.Counted.{IsNotTwo}
 use Rattle.mich_base.specs.View.{trees}
 use Rattle.mich_base.specs.declared.node.Node.{Node}

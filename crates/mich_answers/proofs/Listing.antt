@@ -1,10 +1,10 @@
 -- What is kept of the statements of a file.
 use Rattle.std.proofs.Common.{◌≡◌, ℕ, ◌+◌, ◌≤◌, List, [], ◌∷◌, ◌++◌, length, Option, Some, None, refl, ap, ◌∙◌, arith}
-use Rattle.rules_base.specs.Tree.{Tree, size}
-use Rattle.rules_text.specs.declared.TextKind.{TextKind}
-use Rattle.rules_replay.specs.Places.{Placed, IsNodeAt, IsEndAt, IsFaultAt}
-use Rattle.rules_replay.specs.Answers.{Answer}
-use Rattle.rules_replay.specs.Codec.{IsCodecAnswer, of_text, of_statements, fitting}
+use Rattle.rules_text.specs.nodes.Tree.{Tree, size}
+use Rattle.rules_text.specs.declared.text.TextKind.{TextKind}
+use Rattle.rules_files.specs.commands.Places.{Placed, IsNodeAt, IsEndAt, IsFaultAt}
+use Rattle.rules_files.specs.commands.Answers.{Answer}
+use Rattle.rules_files.specs.commands.Codec.{IsCodecAnswer, of_text, of_statements, fitting}
 use Rattle.mich_base.specs.View.{tree}
 use Rattle.mich_text.specs.declared.reader.Placed.{Placed as CodePlaced}
 use Rattle.mich_answers.specs.declared.statements.Listed.{Listed}

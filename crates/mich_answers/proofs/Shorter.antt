@@ -1,9 +1,9 @@
 -- A statement has at most as many nodes as bytes.
 use Rattle.std.proofs.Common.{◌+◌, ◌<◌, ◌≤◌, ℕ, List, length, drop, arith}
 use Rattle.std.proofs.lemmas.List.{length-drop}
-use Rattle.rules_base.specs.Tree.{Tree, size}
+use Rattle.rules_text.specs.nodes.Tree.{Tree, size}
 use Rattle.mich_text.proofs.ForCallers.{gap_le, stands_fits}
-use Rattle.rules_replay.specs.Places.{IsNodeAt}
+use Rattle.rules_files.specs.commands.Places.{IsNodeAt}
 
 size_some : (t : Tree) → 1 ≤ size t
 size_some (Tree.int n) = omega arith

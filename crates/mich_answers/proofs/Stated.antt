@@ -1,7 +1,7 @@
 -- One more statement, and what holds of an answer.
 use Rattle.std.proofs.Common.{◌≡◌, ℕ, List, [], ◌∷◌, ◌++◌, Result, Ok, Err, IfOk, refl, sym, subst}
-use Rattle.rules_replay.specs.Places.{Placed, IsNodeAt, AreStatements}
-use Rattle.rules_replay.specs.Answers.{Answer}
+use Rattle.rules_files.specs.commands.Places.{Placed, IsNodeAt, AreStatements}
+use Rattle.rules_files.specs.commands.Answers.{Answer}
 use Rattle.mich_base.specs.declared.memory.Memory.{Memory}
 use Rattle.mich_answers.specs.declared.answer.Answer.{Answer as Reply}
 use Rattle.mich_answers.specs.View.{answer_seen}

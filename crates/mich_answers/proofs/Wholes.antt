@@ -1,17 +1,17 @@
 -- The nodes of a file, and the answer to its script.
 use Rattle.std.proofs.Common.{◌≡◌, ℕ, ◌+◌, ◌≤◌, List, [], ◌∷◌, ◌++◌, length, map, Option, Some, None, Result, Ok, Err, IfOk, inl, inr, refl, ap, ◌∙◌, sym, subst, arith}
 use Rattle.std.proofs.lemmas.List.{map-append}
-use Rattle.rules_base.specs.Tree.{Tree, size, sizes}
+use Rattle.rules_text.specs.nodes.Tree.{Tree, size, sizes}
 use Rattle.std.specs.Prelude.{codes}
-use Rattle.rules_text.specs.declared.TextKind.{TextKind}
-use Rattle.rules_instructions.specs.Arguments.{Found, found, fault}
-use Rattle.rules_typing.specs.Scripts.{Script}
-use Rattle.rules_typing.specs.Nodes.{script}
-use Rattle.rules_replay.specs.Answers.{Answer, done_with}
-use Rattle.rules_replay.specs.Codec.{of_text}
-use Rattle.rules_lines.specs.Nodes.{line, word}
-use Rattle.rules_replay.specs.Places.{Placed, IsNodeAt, IsEndAt, IsFaultAt}
-use Rattle.rules_replay.specs.Scripts.{script_of, checking_answer, check_statements, IsCheckAnswer}
+use Rattle.rules_text.specs.declared.text.TextKind.{TextKind}
+use Rattle.rules_code.specs.instructions.Arguments.{Found, found, fault}
+use Rattle.rules_code.specs.typing.Scripts.{Script}
+use Rattle.rules_code.specs.typing.Nodes.{script}
+use Rattle.rules_files.specs.commands.Answers.{Answer, done_with}
+use Rattle.rules_files.specs.commands.Codec.{of_text}
+use Rattle.rules_world.specs.lines.Nodes.{line, word}
+use Rattle.rules_files.specs.commands.Places.{Placed, IsNodeAt, IsEndAt, IsFaultAt}
+use Rattle.rules_files.specs.commands.Scripts.{script_of, checking_answer, check_statements, IsCheckAnswer}
 use Rattle.mich_base.specs.View.{tree, trees}
 use Rattle.mich_base.specs.declared.node.Node.{Node}
 use Rattle.mich_instr.specs.Code.{ScriptCode}

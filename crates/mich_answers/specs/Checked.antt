@@ -1,7 +1,7 @@
 -- The nodes of a file, whose script is typed.
 use Rattle.std.specs.Prelude.{◌≡◌, ◌≤◌, ℕ, Bool, true, false, List, [], ◌∷◌, length, map}
-use Rattle.rules_base.specs.Tree.{Tree, seq, sizes}
-use Rattle.rules_replay.specs.Places.{Listing, IsListing, Placed, AreStatements}
+use Rattle.rules_text.specs.nodes.Tree.{Tree, seq, sizes}
+use Rattle.rules_files.specs.commands.Places.{Listing, IsListing, Placed, AreStatements}
 use Rattle.mich_base.specs.View.{tree, trees}
 use Rattle.mich_base.specs.declared.node.Node.{Node}
 use Rattle.mich_answers.specs.declared.checking.Statements.{Statements}

@@ -1,8 +1,8 @@
 -- What is kept of the statements of a file: the first, the place of the second, and the fault behind them.
 use Rattle.std.specs.Prelude.{◌≡◌, ◌<◌, ◌≤◌, ◌+◌, ℕ, List, [], length, ◌∷◌, Option, Some, None, option_map}
-use Rattle.rules_base.specs.Tree.{Tree, size}
-use Rattle.rules_replay.specs.Answers.{Answer, misplaced}
-use Rattle.rules_replay.specs.Places.{Placed, Listing, IsListing, IsNodeAt, IsFaultAt, IsEndAt, AreStatements}
+use Rattle.rules_text.specs.nodes.Tree.{Tree, size}
+use Rattle.rules_files.specs.commands.Answers.{Answer, misplaced}
+use Rattle.rules_files.specs.commands.Places.{Placed, Listing, IsListing, IsNodeAt, IsFaultAt, IsEndAt, AreStatements}
 use Rattle.mich_base.specs.View.{tree}
 use Rattle.mich_text.specs.declared.reader.Placed.{Placed as CodePlaced}
 use Rattle.mich_answers.specs.declared.statements.Listed.{Listed}

@@ -1,9 +1,9 @@
 -- What the code's values stand for.
 use Rattle.std.specs.Prelude.{◌≡◌, ◌⊎◌, ℕ, Option}
-use Rattle.rules_base.specs.Tree.{Tree}
-use Rattle.rules_replay.specs.Answers.{Answer}
-use Rattle.rules_replay.specs.Codec.{encode_node, decode_node}
-use Rattle.rules_replay.specs.Packs.{pack_node}
+use Rattle.rules_text.specs.nodes.Tree.{Tree}
+use Rattle.rules_files.specs.commands.Answers.{Answer}
+use Rattle.rules_files.specs.commands.Codec.{encode_node, decode_node}
+use Rattle.rules_files.specs.commands.Packs.{pack_node}
 use Rattle.mich_answers.specs.declared.answer.Answer.{Answer as Reply}
 use Rattle.mich_answers.specs.declared.node_commands.NodeCommand.{NodeCommand}
 use Rattle.mich_answers.specs.declared.node_commands.NodeCommand.TheVariants as command

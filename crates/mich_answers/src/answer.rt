@@ -1,6 +1,6 @@
 // What a command answers.
 ghost use Rattle.std.specs.Prelude.{◌≡◌, IfOk};
-ghost use Rattle.rules_replay.specs.Answers.{done_with, refused_with, misplaced};
+ghost use Rattle.rules_files.specs.commands.Answers.{done_with, refused_with, misplaced};
 ghost use Rattle.mich_answers.specs.View.{answer_seen};
 
 use crate::lines::{as_text, refusal_line};

@@ -1,12 +1,12 @@
 // A file whose script is typed.
 ghost use Rattle.std.specs.Prelude.{◌≡◌, ◌<◌, ◌^◌, ◌+◌, IfOk, length, map, codes};
-ghost use Rattle.rules_base.specs.Tree.{size, sizes};
-ghost use Rattle.rules_replay.specs.Codec.{of_text};
-ghost use Rattle.rules_replay.specs.Answers.{done_with};
-ghost use Rattle.rules_lines.specs.Nodes.{line, word};
-ghost use Rattle.rules_replay.specs.Scripts.{IsCheckAnswer, checking_answer, script_of};
-ghost use Rattle.rules_instructions.specs.Arguments.{fault};
-ghost use Rattle.rules_typing.specs.Nodes.{script};
+ghost use Rattle.rules_text.specs.nodes.Tree.{size, sizes};
+ghost use Rattle.rules_files.specs.commands.Codec.{of_text};
+ghost use Rattle.rules_files.specs.commands.Answers.{done_with};
+ghost use Rattle.rules_world.specs.lines.Nodes.{line, word};
+ghost use Rattle.rules_files.specs.commands.Scripts.{IsCheckAnswer, checking_answer, script_of};
+ghost use Rattle.rules_code.specs.instructions.Arguments.{fault};
+ghost use Rattle.rules_code.specs.typing.Nodes.{script};
 ghost use Rattle.mich_base.specs.View.{tree, trees};
 ghost use Rattle.mich_answers.specs.Checked.{IsWhole, is_one_sequence};
 ghost use Rattle.mich_answers.specs.View.{answer_seen, IsDoneOrRefused};
@@ -17,7 +17,7 @@ use crate::statements::{Next, read_next};
 use mich_base::{Memory, Node, Nodes, Texts};
 use mich_check::{CheckError, check_script};
 use mich_types::{bare, over_one};
-use rules_text::TextKind;
+use rules_text::text::TextKind;
 use std::alloc::Global;
 
 /// The nodes of a file, and the first fault of its text.

@@ -1,9 +1,10 @@
-//! Answers of the commands that read a file whole: `encode`, `decode`, `pack` and `check`.
+//! Answers of the commands that read a file whole: `encode`, `decode`, `pack`, `check` and `audit`.
 //!
 //! Each answer is a status and the lines that are written; a clause says that it is the answer of the rules to the file.
 #![tactic(auto)]
 
 mod answer;
+mod auditing;
 mod checking;
 mod lines;
 mod node_commands;
@@ -11,6 +12,7 @@ mod packing;
 mod statements;
 
 pub use answer::{Answer, done, misplaced, refused};
+pub use auditing::answer_audit;
 pub use checking::answer_check;
 pub use lines::{as_text, refusal_line, text_kind_name};
 pub use node_commands::{NodeCommand, answer_node};

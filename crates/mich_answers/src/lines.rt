@@ -1,14 +1,14 @@
 // The lines that are written.
 ghost use Rattle.std.specs.Prelude.{◌≡◌, IfOk, string_bytes};
-ghost use Rattle.rules_lines.specs.Nodes.{line};
-ghost use Rattle.rules_replay.specs.Lines.{refusal_line, text_kind_name};
+ghost use Rattle.rules_world.specs.lines.Nodes.{line};
+ghost use Rattle.rules_files.specs.commands.Lines.{refusal_line, text_kind_name};
 ghost use Rattle.mich_base.specs.View.{tree};
-ghost use Rattle.rules_replay.specs.Codec.{decode_kind_name, bytes_line};
+ghost use Rattle.rules_files.specs.commands.Codec.{decode_kind_name, bytes_line};
 
 use mich_base::{Memory, Node, Text};
 use mich_text::print;
-use rules_binary::DecodeKind;
-use rules_text::TextKind;
+use rules_text::binary::DecodeKind;
+use rules_text::text::TextKind;
 use std::alloc::{AllocError, Global};
 
 /// The line of a refusal with a name, at a place or location.

@@ -1,11 +1,11 @@
 // A file of one node that is encoded, decoded or packed.
 ghost use Rattle.std.specs.Prelude.{◌≡◌, ◌<◌, ◌-◌, ◌^◌, length, IfOk, option_map};
 ghost use Rattle.mich_base.specs.View.{tree};
-ghost use Rattle.rules_binary.specs.Encoding as binary;
-ghost use Rattle.rules_binary.specs.Reading as reading;
-ghost use Rattle.rules_replay.specs.Codec.{encoding_answer, decoding_answer, of_text, IsCodecAnswer};
+ghost use Rattle.rules_text.specs.binary.Encoding as binary;
+ghost use Rattle.rules_text.specs.binary.Reading as reading;
+ghost use Rattle.rules_files.specs.commands.Codec.{encoding_answer, decoding_answer, of_text, IsCodecAnswer};
 ghost use Rattle.mich_answers.specs.View.{answer_seen, node_answer};
-ghost use Rattle.rules_base.specs.Tree.{size};
+ghost use Rattle.rules_text.specs.nodes.Tree.{size};
 ghost use Rattle.mich_answers.specs.Listed.{of_kept, IsSmall};
 
 use crate::answer::{Answer, done, misplaced, refused};

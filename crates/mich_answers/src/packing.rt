@@ -1,20 +1,20 @@
 // A node whose literal is packed.
 ghost use Rattle.std.specs.Prelude.{◌≡◌, ◌+◌, ◌<◌, ◌^◌, true, IfOk, option_map};
-ghost use Rattle.rules_base.specs.Tree.{size, sizes};
-ghost use Rattle.rules_types.specs.Attributes.{packable};
-ghost use Rattle.rules_types.specs.Reading.{type_at};
-ghost use Rattle.rules_values.specs.Literals.{read};
-ghost use Rattle.rules_steps.specs.Packing.{packed};
-ghost use Rattle.rules_typing.specs.Literals.{of_reading};
-ghost use Rattle.rules_replay.specs.Packs.{first_claim, ill_typed_at, literal_answer, pack_by, pack_fields, pack_literal, pack_node, packed_answer, packing_answer};
-ghost use Rattle.rules_statements.specs.Statements.{nodes_of};
-ghost use Rattle.laws_packing.specs.Names.{IsPackable};
+ghost use Rattle.rules_text.specs.nodes.Tree.{size, sizes};
+ghost use Rattle.rules_data.specs.types.Attributes.{packable};
+ghost use Rattle.rules_data.specs.types.Reading.{type_at};
+ghost use Rattle.rules_data.specs.values.Literals.{read};
+ghost use Rattle.rules_code.specs.steps.Packing.{packed};
+ghost use Rattle.rules_code.specs.typing.Literals.{of_reading};
+ghost use Rattle.rules_files.specs.commands.Packs.{first_claim, ill_typed_at, literal_answer, pack_by, pack_fields, pack_literal, pack_node, packed_answer, packing_answer};
+ghost use Rattle.rules_files.specs.statements.Statements.{nodes_of};
+ghost use Rattle.laws_typing.specs.packing.Names.{IsPackable};
 ghost use Rattle.mich_base.specs.TypeView.{kind};
 ghost use Rattle.mich_base.specs.View.{tree, trees};
 ghost use Rattle.mich_check.specs.Pending.{checked};
 ghost use Rattle.mich_data.specs.View.{all_pending};
 ghost use Rattle.mich_term.specs.ValueView.{val};
-ghost use Rattle.rules_instructions.specs.Arguments.{found};
+ghost use Rattle.rules_code.specs.instructions.Arguments.{found};
 ghost use Rattle.mich_answers.specs.View.{answer_seen};
 
 use crate::answer::{Answer, done, refused};
@@ -72,7 +72,7 @@ fn checked_literal(alloc: Global, literal: Checked) -> Result<Answer, Memory>
 }
 
 // The answer to a literal of a type that can be packed.
-#[tactic(auto, using(laws_packing::proofs::ForCallers::checked_is_packable))]
+#[tactic(auto, using(laws_typing::proofs::packing_lemmas::ForCallers::checked_is_packable))]
 fn read_literal(alloc: Global, ty: &Ty, literal: &Node, at: u32) -> Result<Answer, Memory>
     requires fits { at + size (tree literal.now) < 2 ^ 32 }
     requires packs { packable (kind ty.now) ≡ true }

@@ -1,13 +1,13 @@
 // The statements of a file.
 ghost use Rattle.std.specs.Prelude.{◌≡◌, ◌<◌, ◌≤◌, ◌+◌, ℕ, List, length, IfOk};
-ghost use Rattle.rules_base.specs.Tree.{size};
-ghost use Rattle.rules_replay.specs.Places.{IsNodeAt};
+ghost use Rattle.rules_text.specs.nodes.Tree.{size};
+ghost use Rattle.rules_files.specs.commands.Places.{IsNodeAt};
 ghost use Rattle.mich_base.specs.View.{tree};
 ghost use Rattle.mich_answers.specs.Listed.{IsListed, IsNext, Passed};
 
 use mich_base::Memory;
 use mich_text::{Placed, TextError, read_statement};
-use rules_text::TextKind;
+use rules_text::text::TextKind;
 use std::alloc::Global;
 
 /// What stands in a file from a place on.

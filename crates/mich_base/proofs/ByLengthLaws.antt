@@ -6,7 +6,7 @@ use Rattle.std.specs.Str.{bytes_eq}
 use Rattle.std.proofs.lemmas.Bool.{eqb-true}
 use Rattle.std.proofs.lemmas.Bool.Decides.{nat_tests}
 use Rattle.std.proofs.lemmas.Slice.Eq.{bytes_eq-Decides}
-use Rattle.rules_base.specs.Primitives.{primitive_names, name_of_code, code_of_name}
+use Rattle.rules_text.specs.nodes.Primitives.{primitive_names, name_of_code, code_of_name}
 use Rattle.mich_base.specs.ByLength.{is_text_of, is_name_of, code_among, codes_by_length, code_by_length}
 
 abbrev is_at : ℕ → Option ℕ → Bool

@@ -1,9 +1,9 @@
 -- Two types that are seen as one are equal.
 use Rattle.std.proofs.Common.{◌≡◌, sym, ap, ◌∙◌, subst}
-use Rattle.rules_types.specs.Kind.{Kind}
-use Rattle.rules_types.specs.Kind as k
-use Rattle.rules_types.specs.declared.Simple.{Simple}
-use Rattle.rules_types.specs.declared.Simple.TheVariants as s
+use Rattle.rules_data.specs.types.Kind.{Kind}
+use Rattle.rules_data.specs.types.Kind as k
+use Rattle.rules_data.specs.declared.types.Simple.{Simple}
+use Rattle.rules_data.specs.declared.types.Simple.TheVariants as s
 use Rattle.mich_base.specs.TypeView.{kind, kind_step}
 use Rattle.mich_base.specs.declared.ty.Ty.{Ty, ind-Ty, fold-roll-Ty, roll-Ty, map-Ty}
 use Rattle.mich_base.specs.declared.ty.Ty.TheOpen.{Ty-F}

@@ -1,7 +1,7 @@
 -- One more node of a list that is searched in pre-order.
 use Rattle.std.proofs.Common.{◌≡◌, ℕ, ◌+◌, ◌<◌, List, ◌∷◌, length, get_or, drop, sym, ap, ◌∙◌}
 use Rattle.std.proofs.lemmas.List.{at_drop_more}
-use Rattle.rules_base.specs.Tree.{preorder, preorders}
+use Rattle.rules_text.specs.nodes.Tree.{preorder, preorders}
 use Rattle.mich_base.specs.Walk.{look}
 use Rattle.mich_base.specs.View.{tree, trees}
 use Rattle.mich_base.specs.declared.node.Node.{Node}

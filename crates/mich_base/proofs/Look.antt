@@ -1,6 +1,6 @@
 -- Looking for a place in a list, part by part.
 use Rattle.std.proofs.Common.{◌≡◌, ℕ, zero, suc, List, [], ◌∷◌, ◌++◌, Option, Some, None, slice_get, ◌⊎◌, inl, inr, refl}
-use Rattle.rules_base.specs.Tree.{Tree}
+use Rattle.rules_text.specs.nodes.Tree.{Tree}
 use Rattle.mich_base.specs.Walk.{look}
 
 abbrev pub onward : List Tree → Tree ⊎ ℕ → Tree ⊎ ℕ

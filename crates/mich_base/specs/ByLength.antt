@@ -2,7 +2,7 @@
 use Rattle.std.specs.Prelude.{ℕ, List, [], ◌∷◌, Bool, false, length, slice_get, Option, Some, None, option_and_then}
 use Rattle.std.specs.List.{find}
 use Rattle.std.specs.Str.{bytes_eq}
-use Rattle.rules_base.specs.Primitives.{name_of_code}
+use Rattle.rules_text.specs.nodes.Primitives.{name_of_code}
 
 abbrev pub is_text_of : List ℕ → Option (List ℕ) → Bool
 is_text_of name None = false

@@ -4,3 +4,4 @@ pub mod TypeView
 pub mod View
 pub mod Walk
 pub mod formers
+pub mod undo

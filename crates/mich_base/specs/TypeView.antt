@@ -1,7 +1,7 @@
 -- The kind that a `Ty` stands for.
-use Rattle.rules_types.specs.Kind.{Kind}
-use Rattle.rules_types.specs.Kind as k
-use Rattle.rules_types.specs.declared.Simple.TheVariants as s
+use Rattle.rules_data.specs.types.Kind.{Kind}
+use Rattle.rules_data.specs.types.Kind as k
+use Rattle.rules_data.specs.declared.types.Simple.TheVariants as s
 use Rattle.mich_base.specs.declared.ty.Ty.{Ty, fold-Ty}
 use Rattle.mich_base.specs.declared.ty.Ty.TheOpen.{Ty-F}
 

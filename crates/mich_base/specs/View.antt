@@ -1,7 +1,7 @@
 -- The tree that a `Node` stands for.
 use Rattle.std.specs.Prelude.{List, map, ℕ, ◌⊎◌}
 use Rattle.std.proofs.Common.{inl, inr}
-use Rattle.rules_base.specs.Tree.{Tree, int, str, bytes, prim, seq, Trees, trees_of}
+use Rattle.rules_text.specs.nodes.Tree.{Tree, int, str, bytes, prim, seq, Trees, trees_of}
 use Rattle.mich_base.specs.declared.node.Node.{Node, fold-Node}
 use Rattle.mich_base.specs.declared.node.App.{App, fold-App}
 use Rattle.mich_base.specs.declared.node.Found.{Found}

@@ -1,7 +1,7 @@
 -- How far a walk over nodes in pre-order has come.
 use Rattle.std.specs.Prelude.{ℕ, zero, suc, ◌-◌, nat_le, if◌then◌else◌, List, [], ◌∷◌, Option, Some, None, ◌⊎◌}
 use Rattle.std.proofs.Common.{inl, inr}
-use Rattle.rules_base.specs.Tree.{Tree}
+use Rattle.rules_text.specs.nodes.Tree.{Tree}
 
 -- what is left of the room for n nodes, if they fit there
 abbrev pub room_left : ℕ → ℕ → Option ℕ

@@ -1,6 +1,6 @@
 // Nodes, and walks over them.
 ghost use Rattle.std.specs.Prelude.{◌≡◌, ℕ, ◌+◌, ◌-◌, ◌<◌, ◌≤◌, ◌^◌, IfOk, nat_le, length, slice_get, option_map};
-ghost use Rattle.rules_base.specs.Tree.{depth, depths, size, sizes, preorder, preorders};
+ghost use Rattle.rules_text.specs.nodes.Tree.{depth, depths, size, sizes, preorder, preorders};
 ghost use Rattle.mich_base.specs.Walk.{room_left, look};
 ghost use Rattle.mich_base.specs.View.{tree, trees, seen};
 

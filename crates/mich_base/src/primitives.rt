@@ -1,10 +1,10 @@
 // The primitives by name and by code.
 ghost use Rattle.std.specs.Prelude.{◌≡◌, map, option_map, slice_get};
-ghost use Rattle.rules_base.specs.Primitives.{name_of_code, code_of_name, primitive_of_code, primitive_of_name, code_of_primitive};
+ghost use Rattle.rules_text.specs.nodes.Primitives.{name_of_code, code_of_name, primitive_of_code, primitive_of_name, code_of_primitive};
 ghost use Rattle.mich_base.specs.ByLength.{is_name_of, code_among, codes_by_length, code_by_length};
 
 use crate::text::Text;
-use rules_base::Primitive;
+use rules_text::nodes::Primitive;
 
 // Each name stands at its code.
 static NAMES: [&str; 157] = [
@@ -447,7 +447,7 @@ pub fn primitive_of_code(code: u8) -> Option<Primitive>
 }
 
 /// The primitive with this name. None where the name is no primitive's.
-#[tactic(auto, unfolding(rules_base::specs::Primitives::primitive_of_name))]
+#[tactic(auto, unfolding(rules_text::specs::nodes::Primitives::primitive_of_name))]
 pub fn primitive_of_name(name: &Text) -> Option<Primitive>
     ensures { result ≡ primitive_of_name name.now }
 {
@@ -455,7 +455,7 @@ pub fn primitive_of_name(name: &Text) -> Option<Primitive>
 }
 
 /// The code of a primitive in the encoding of Micheline: 0 to 156.
-#[tactic(auto, unfolding(rules_base::specs::Primitives::code_of_primitive))]
+#[tactic(auto, unfolding(rules_text::specs::nodes::Primitives::code_of_primitive))]
 pub fn code_of_primitive(primitive: Primitive) -> u8
     ensures { result ≡ code_of_primitive primitive }
 {

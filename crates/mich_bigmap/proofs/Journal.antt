@@ -7,7 +7,7 @@ use Rattle.std.specs.Map.{keys_of}
 use Rattle.std.specs.List.{AllByRecursion}
 use Rattle.std.specs.List.Sorted.{IsStrictlySortedBy}
 use Rattle.std.proofs.lemmas.Bool.Decides.{nat_tests}
-use Rattle.mich_undo.specs.History.{height_of, grown, stepped_back}
+use Rattle.mich_base.specs.undo.History.{height_of, grown, stepped_back}
 use Rattle.mich_term.specs.Keyed.{IsIncreasing}
 use Rattle.mich_bigmap.specs.Bases.{Base, Bases, base_at}
 use Rattle.mich_bigmap.specs.Stacked.{base_of, stacked, bases_of, number_of}

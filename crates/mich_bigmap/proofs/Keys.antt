@@ -4,10 +4,10 @@ use Rattle.std.specs.declared.cmp.Ordering.TheVariants.{Equal}
 use Rattle.std.specs.Cmp.{IsTotalOrder}
 use Rattle.std.proofs.lemmas.Bool.{and_from}
 use Rattle.std.proofs.lemmas.Cmp.{on_total}
-use Rattle.rules_values.specs.Val.{Val, is_comparable}
+use Rattle.rules_data.specs.values.Val.{Val, is_comparable}
 use Rattle.mich_term.specs.View.{datum, datum_step}
 use Rattle.mich_term.specs.Keyed.{by}
-use Rattle.laws_values.proofs.ForCallers.{order_lawful}
+use Rattle.laws_data.proofs.values_lemmas.ForCallers.{order_lawful}
 use Rattle.mich_term.proofs.ForCallers.{datum_faithful, equal}
 use Rattle.mich_term.specs.declared.datum.Datum.{Datum, ind-Datum, fold-roll-Datum, roll-Datum, map-Datum}
 use Rattle.mich_term.specs.declared.datum.Datum.TheOpen.{Datum-F}

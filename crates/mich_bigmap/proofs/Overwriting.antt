@@ -5,9 +5,9 @@ use Rattle.std.specs.declared.option.Option.{Option}
 use Rattle.std.specs.declared.cmp.Ordering.TheVariants.{Less, Equal, Greater}
 use Rattle.std.specs.Ordering.{match_ordering}
 use Rattle.std.specs.Map.{keys_of}
-use Rattle.rules_values.specs.Val.{Pairs, no_pair}
-use Rattle.rules_values.specs.Tickets.{Held, tickets, pair_tickets}
-use Rattle.rules_bigmap.specs.Changes.{changed}
+use Rattle.rules_data.specs.values.Val.{Pairs, no_pair}
+use Rattle.rules_data.specs.values.Tickets.{Held, tickets, pair_tickets}
+use Rattle.rules_data.specs.big_maps.Changes.{changed}
 use Rattle.mich_base.specs.declared.memory.Memory.{Memory}
 use Rattle.mich_term.specs.Keyed.{by, with, IsIncreasing}
 use Rattle.mich_term.specs.ValueView.{val, pairs, put_pairs}

@@ -6,11 +6,11 @@ use Rattle.std.specs.declared.cmp.Ordering.TheVariants.{Less, Equal, Greater}
 use Rattle.std.specs.Ordering.{match_ordering, is_eq}
 use Rattle.std.specs.List.{AllByRecursion}
 use Rattle.std.specs.Map.{keys_of}
-use Rattle.rules_values.specs.Val.{Val, Pairs, no_pair, more_pairs}
-use Rattle.rules_values.specs.Order.{order}
-use Rattle.rules_values.specs.Tables.{with_value, without_key}
-use Rattle.rules_values.specs.Tickets.{Held, tickets, all_tickets, pair_tickets}
-use Rattle.rules_bigmap.specs.Changes.{written, changed}
+use Rattle.rules_data.specs.values.Val.{Val, Pairs, no_pair, more_pairs}
+use Rattle.rules_data.specs.values.Order.{order}
+use Rattle.rules_data.specs.values.Tables.{with_value, without_key}
+use Rattle.rules_data.specs.values.Tickets.{Held, tickets, all_tickets, pair_tickets}
+use Rattle.rules_data.specs.big_maps.Changes.{written, changed}
 use Rattle.mich_term.specs.Keyed.{IsIncreasing}
 use Rattle.mich_term.specs.View.{datum}
 use Rattle.mich_term.specs.ValueView.{val, big_step, big_pairs, put_pairs}

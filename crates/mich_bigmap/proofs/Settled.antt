@@ -3,8 +3,8 @@ use Rattle.std.proofs.Common.{◌≡◌, ℕ, ℤ, List, [], ◌∷◌, ◌++◌
 use Rattle.std.specs.declared.option.Option.{Option}
 use Rattle.std.specs.List.{AllByRecursion}
 use Rattle.std.specs.Map.{keys_of}
-use Rattle.rules_values.specs.Val.{Val, Pairs, some, left, right, both, list, table, big_table}
-use Rattle.mich_undo.proofs.ForCallers.{keeps_same, keeps_trans}
+use Rattle.rules_data.specs.values.Val.{Val, Pairs, some, left, right, both, list, table, big_table}
+use Rattle.mich_base.proofs.undo_lemmas.ForCallers.{keeps_same, keeps_trans}
 use Rattle.mich_term.specs.Keyed.{with, IsIncreasing}
 use Rattle.mich_term.specs.View.{vals_of, pairs_of}
 use Rattle.mich_base.specs.declared.node.Node.{Node}
@@ -20,7 +20,7 @@ use Rattle.mich_bigmap.specs.Bases.{Bases, big_in}
 use Rattle.mich_bigmap.specs.Extended.{Extends}
 use Rattle.mich_bigmap.specs.Formed.{IsFormed, HasBase}
 use Rattle.mich_bigmap.specs.Settled.{IsSettled}
-use Rattle.rules_values.specs.Tickets.{pair_tickets}
+use Rattle.rules_data.specs.values.Tickets.{pair_tickets}
 use mathlib.Core.Bool.{true≢false}
 use Rattle.mich_term.specs.Layers.{AreFormed, NoBigMap, PutsNoBigMap, FormedLayer}
 use Rattle.mich_bigmap.specs.Layers.{AreSettled, HasBases, SettledLayer, BasedLayer}

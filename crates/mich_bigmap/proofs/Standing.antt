@@ -5,8 +5,8 @@ use Rattle.std.specs.declared.cmp.Ordering.{Ordering}
 use Rattle.std.specs.declared.cmp.Ordering.TheVariants.{Less, Equal, Greater}
 use Rattle.std.specs.Ordering.{match_ordering}
 use Rattle.std.specs.Map.{keys_of}
-use Rattle.rules_values.specs.Val.{Val, Pairs}
-use Rattle.rules_bigmap.specs.Changes.{written, changed}
+use Rattle.rules_data.specs.values.Val.{Val, Pairs}
+use Rattle.rules_data.specs.big_maps.Changes.{written, changed}
 use Rattle.mich_term.specs.Keyed.{by, with, IsIncreasing}
 use Rattle.mich_term.specs.View.{datum}
 use Rattle.mich_term.specs.ValueView.{val, entry, value_step}

@@ -3,8 +3,8 @@ use Rattle.std.proofs.Common.{◌≡◌, ℕ, Bool, List, [], ◌∷◌, map, So
 use Rattle.std.specs.Prelude.{option_map}
 use Rattle.std.specs.declared.option.Option.{Option}
 use Rattle.std.specs.List.{AllByRecursion}
-use Rattle.rules_values.specs.Val.{Val, Vals, Pairs, no_val, no_pair, more_pairs, more_vals, some, left, right, both, list, table, big_table}
-use Rattle.rules_bigmap.specs.Changes.{changed}
+use Rattle.rules_data.specs.values.Val.{Val, Vals, Pairs, no_val, no_pair, more_pairs, more_vals, some, left, right, both, list, table, big_table}
+use Rattle.rules_data.specs.big_maps.Changes.{changed}
 use Rattle.mich_term.specs.View.{datum, vals_of, pairs_of}
 use Rattle.mich_term.specs.ValueView.{val, value_step, big_step}
 use Rattle.mich_term.specs.declared.datum.Datum.{Datum}

@@ -7,7 +7,7 @@ use Rattle.std.specs.Ordering.{match_ordering, ordering_reverse}
 use Rattle.std.specs.List.{AllByRecursion}
 use Rattle.std.specs.List.Sorted.{IsStrictlySortedBy}
 use Rattle.std.specs.Map.{keys_of}
-use Rattle.rules_bigmap.specs.Changes.{changed}
+use Rattle.rules_data.specs.big_maps.Changes.{changed}
 use Rattle.mich_term.specs.Keyed.{by, with, IsIncreasing}
 use Rattle.mich_term.specs.declared.datum.Datum.{Datum}
 use Rattle.mich_term.specs.declared.value.Value.{Value}

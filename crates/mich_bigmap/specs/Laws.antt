@@ -1,6 +1,6 @@
 -- Laws of what big maps stand for.
 use Rattle.std.specs.Prelude.{◌≡◌, ◌↔◌, ℕ, true, Some, List}
-use Rattle.rules_values.specs.Tickets.{tickets}
+use Rattle.rules_data.specs.values.Tickets.{tickets}
 use Rattle.mich_term.specs.ValueView.{val}
 use Rattle.mich_term.specs.declared.value.BigMap.{BigMap}
 use Rattle.mich_term.specs.declared.value.Value.{Value, every-Value}

@@ -1,9 +1,9 @@
 -- Changes that are taken together.
 use Rattle.std.specs.Prelude.{◌≡◌, ℕ, Option, [], ◌∷◌, ◌++◌}
 use Rattle.std.specs.Map.{keys_of}
-use Rattle.rules_values.specs.Val.{Pairs}
-use Rattle.rules_values.specs.Tickets.{pair_tickets}
-use Rattle.rules_bigmap.specs.Changes.{changed}
+use Rattle.rules_data.specs.values.Val.{Pairs}
+use Rattle.rules_data.specs.values.Tickets.{pair_tickets}
+use Rattle.rules_data.specs.big_maps.Changes.{changed}
 use Rattle.mich_term.specs.Keyed.{IsIncreasing, with}
 use Rattle.mich_term.specs.ValueView.{put_pairs}
 use Rattle.mich_term.specs.declared.datum.Datum.{Datum}

@@ -1,7 +1,7 @@
 -- What settling makes of a value.
 use Rattle.std.specs.Prelude.{◌≡◌, List, map}
 use Rattle.std.specs.List.{AllByRecursion}
-use Rattle.mich_undo.specs.History.{Keeps}
+use Rattle.mich_base.specs.undo.History.{Keeps}
 use Rattle.mich_term.specs.declared.datum.Datum.{Datum}
 use Rattle.mich_term.specs.declared.value.Value.{Value}
 use Rattle.mich_term.specs.declared.value.Value.TheFolds.{every-BigMap}

@@ -2,7 +2,7 @@
 use Rattle.std.specs.Prelude.{ℕ, ◌-◌, ◌<◌, ◌≤◌, ◌==◌, Option, List, [], ◌∷◌, length, if◌then◌else◌, refl}
 use Rattle.std.specs.Coded.{Coded, code_by, coded×, coded_list, coded_option, coded_ℕ}
 use Rattle.std.specs.List.{AllByRecursion}
-use Rattle.mich_undo.specs.History.{History}
+use Rattle.mich_base.specs.undo.History.{History}
 use Rattle.mich_term.specs.contracts.datum.Datum as datum
 use Rattle.mich_term.specs.contracts.value.Value as value
 use Rattle.mich_bigmap.specs.Bases.{Base, Bases, Changes}

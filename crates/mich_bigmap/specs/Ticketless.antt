@@ -1,7 +1,7 @@
 -- Stores that hold no tickets: the values of a big map that shares can be duplicated (Octez "Tickets").
 use Rattle.std.specs.Prelude.{◌≡◌, []}
 use Rattle.std.specs.List.{AllByRecursion}
-use Rattle.rules_values.specs.Tickets.{pair_tickets}
+use Rattle.rules_data.specs.values.Tickets.{pair_tickets}
 use Rattle.mich_term.specs.ValueView.{put_pairs}
 use Rattle.mich_bigmap.specs.Bases.{Base, Bases}
 

@@ -1,7 +1,7 @@
 // All entries of a base, and changes over them.
 ghost use Rattle.std.specs.Prelude.{◌≡◌, IfOk, OnOk, option_map};
 ghost use Rattle.std.specs.Map.{keys_of};
-ghost use Rattle.rules_bigmap.specs.Changes.{changed, written};
+ghost use Rattle.rules_data.specs.big_maps.Changes.{changed, written};
 ghost use Rattle.mich_term.specs.Keyed.{IsIncreasing};
 ghost use Rattle.mich_term.specs.View.{datum};
 ghost use Rattle.mich_term.specs.ValueView.{pairs, val};

@@ -1,8 +1,8 @@
 // Changes that are merged with those of the bases below them.
 ghost use Rattle.std.specs.Prelude.{◌≡◌, true, IfOk};
 ghost use Rattle.std.specs.Map.{keys_of};
-ghost use Rattle.rules_values.specs.Val.{no_pair};
-ghost use Rattle.rules_bigmap.specs.Changes.{changed};
+ghost use Rattle.rules_data.specs.values.Val.{no_pair};
+ghost use Rattle.rules_data.specs.big_maps.Changes.{changed};
 ghost use Rattle.mich_term.specs.Keyed.{IsIncreasing};
 ghost use Rattle.mich_term.specs.ValueView.{put_pairs};
 ghost use Rattle.mich_bigmap.specs.Bases.{seen};

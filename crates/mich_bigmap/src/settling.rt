@@ -1,8 +1,8 @@
 // Big maps whose entries are all put into the store.
 ghost use Rattle.std.specs.Prelude.{◌≡◌, true, false, [], Some, IfOk};
 ghost use Rattle.std.specs.Map.{keys_of};
-ghost use Rattle.rules_bigmap.specs.Changes.{changed};
-ghost use Rattle.mich_undo.specs.History.{Keeps};
+ghost use Rattle.rules_data.specs.big_maps.Changes.{changed};
+ghost use Rattle.mich_base.specs.undo.History.{Keeps};
 ghost use Rattle.mich_term.specs.Keyed.{IsIncreasing};
 ghost use Rattle.mich_term.specs.declared.value.BigMap.{out-BigMap};
 ghost use Rattle.mich_bigmap.specs.Bases.{big_in, entries_in, seen};
@@ -10,7 +10,7 @@ ghost use Rattle.mich_bigmap.specs.Extended.{Extends};
 ghost use Rattle.mich_bigmap.specs.Formed.{IsFormed, HasBase, is_there};
 ghost use Rattle.mich_bigmap.specs.Settled.{IsSettled};
 ghost use Rattle.mich_bigmap.specs.Ticketless.{HoldNoTickets};
-ghost use Rattle.rules_values.specs.Tickets.{pair_tickets};
+ghost use Rattle.rules_data.specs.values.Tickets.{pair_tickets};
 ghost use Rattle.mich_term.specs.ValueView.{put_pairs};
 
 use crate::merging::merged;
@@ -21,7 +21,7 @@ use mich_term::BigMap;
 use std::alloc::Global;
 
 // Puts changes into the store as a base over another, merged with those that it would be over and that don't hold at least four times as many.
-#[tactic(auto, using(mich_undo::proofs::ForCallers::keeps_same, crate::proofs::Extending::extends_same))]
+#[tactic(auto, using(mich_base::proofs::undo_lemmas::ForCallers::keeps_same, crate::proofs::Extending::extends_same))]
 fn lay(
     alloc: Global,
     store: &mut Store,
@@ -42,7 +42,7 @@ fn lay(
 
 /// A big map of the same entries. Where it shares, they are all kept in the store: it has a base and an empty overlay. After Memory
 /// the store is given up with its world (Octez "big_map").
-#[tactic(auto, using(mich_undo::proofs::ForCallers::keeps_same, crate::proofs::Extending::extends_same))]
+#[tactic(auto, using(mich_base::proofs::undo_lemmas::ForCallers::keeps_same, crate::proofs::Extending::extends_same))]
 pub fn settle(alloc: Global, store: &mut Store, m: BigMap) -> Result<BigMap, Memory>
     requires { IsFormed m }
     ensures same { IfOk result (λ n. big_in store.new.bases.present n ≡ big_in store.old.bases.present m) }

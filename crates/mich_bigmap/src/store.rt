@@ -1,9 +1,9 @@
 // The store of bases, with a journal: a base is only ever added, so taking the last ones away takes the writes back.
 ghost use Rattle.std.specs.Prelude.{◌≡◌, ◌↔◌, ◌≤◌, ℕ, [], ◌∷◌, true, Some, None, IfOk, OnErr};
 ghost use Rattle.std.specs.Map.{keys_of};
-ghost use Rattle.mich_undo.specs.History.{height_of, grown, stepped_back, rewound, Keeps};
+ghost use Rattle.mich_base.specs.undo.History.{height_of, grown, stepped_back, rewound, Keeps};
 ghost use Rattle.mich_term.specs.Keyed.{IsIncreasing};
-ghost use Rattle.rules_bigmap.specs.Changes.{changed};
+ghost use Rattle.rules_data.specs.big_maps.Changes.{changed};
 ghost use Rattle.mich_bigmap.specs.Bases.{base_at, entries_in, seen};
 ghost use Rattle.mich_bigmap.specs.Extended.{Extends};
 ghost use Rattle.mich_bigmap.specs.Formed.{is_there};
@@ -12,7 +12,7 @@ ghost use Rattle.mich_bigmap.specs.Stacked.{AreLayers, bases_of};
 ghost use Rattle.mich_bigmap.specs.Notes.{Notes};
 ghost use Rattle.mich_bigmap.specs.Stored.{no_bases, with_kept};
 ghost use Rattle.mich_bigmap.specs.Ticketless.{HoldNoTickets};
-ghost use Rattle.rules_values.specs.Tickets.{pair_tickets};
+ghost use Rattle.rules_data.specs.values.Tickets.{pair_tickets};
 ghost use Rattle.mich_term.specs.ValueView.{put_pairs};
 
 use crate::keeping::{clear, mark, sweep_all};
@@ -95,7 +95,7 @@ impl Store {
     }
 
     // The same, by what the bases stand for.
-    #[tactic(auto, using(mich_undo::proofs::ForCallers::keeps_equal))]
+    #[tactic(auto, using(mich_base::proofs::undo_lemmas::ForCallers::keeps_equal))]
     pub(crate) fn extend(&mut self, over: Option<u64>, changes: Rows<Change>) -> Result<u64, Memory>
         requires { IsIncreasing (keys_of changes) }
         ensures same { IfOk result (λ k. entries_in self.new.bases.present (Some k) ≡ changed (seen changes) (entries_in self.old.bases.present over)) }
@@ -120,7 +120,7 @@ impl Store {
         }
     }
 
-    #[tactic(auto, using(mich_undo::proofs::ForCallers::rewound_here, mich_undo::proofs::ForCallers::rewound_step))]
+    #[tactic(auto, using(mich_base::proofs::undo_lemmas::ForCallers::rewound_here, mich_base::proofs::undo_lemmas::ForCallers::rewound_step))]
     /// Takes back all bases past this height, last first; takes no memory.
     pub fn undo_to(&mut self, height: u64)
         requires { height ≤ height_of self.old.bases }

@@ -2,7 +2,7 @@
 use Rattle.std.proofs.Common.{◌≡◌, ℕ, zero, suc, ◌+◌, ◌-◌, ◌*◌, ◌%◌, ◌^◌, ◌<◌, ◌≤◌, List, [], ◌∷◌, Bool, true, false, None, arith, ap, ◌∙◌, length, drop, get_or}
 use Rattle.std.proofs.lemmas.Bool.Decides.{nat_tests}
 use Rattle.std.proofs.lemmas.List.{at_drop_more}
-use Rattle.rules_binary.specs.Reading.{groups_value, ranged}
+use Rattle.rules_text.specs.binary.Reading.{groups_value, ranged}
 
 pub too_large : (negative : Bool) (n : ℕ) → (n < 2 ^ 128 → ⊥) → ranged negative n ≡ None
 too_large true n h = grind (arith, nat_tests)

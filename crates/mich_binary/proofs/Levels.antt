@@ -1,10 +1,10 @@
 -- One level of nodes, and how many nodes there are.
 use Rattle.std.proofs.Common.{◌≡◌, ℕ, suc, ◌-◌, ◌<◌, List, [], ◌∷◌, length, map, arith, refl, ap, ◌∙◌}
 use Rattle.std.proofs.lemmas.List.{length-map}
-use Rattle.rules_base.specs.Tree.{Tree, trees_of}
-use Rattle.rules_binary.specs.Spelling.{count}
-use Rattle.rules_binary.specs.declared.DecodeKind.TheVariants.{TooDeep}
-use Rattle.rules_binary.specs.Reading.{Spot, ◌>>=◌, fault, tag_at, node_by, node_at}
+use Rattle.rules_text.specs.nodes.Tree.{Tree, trees_of}
+use Rattle.rules_text.specs.binary.Spelling.{count}
+use Rattle.rules_text.specs.declared.binary.DecodeKind.TheVariants.{TooDeep}
+use Rattle.rules_text.specs.binary.Reading.{Spot, ◌>>=◌, fault, tag_at, node_by, node_at}
 use Rattle.mich_base.specs.declared.node.Node.{Node}
 use Rattle.mich_base.specs.View.{tree, trees}
 

@@ -2,8 +2,8 @@
 use Rattle.std.proofs.Common.{◌≡◌, ℕ, zero, suc, ◌-◌, ◌+◌, ◌≤◌, ◌<◌, List, [], ◌∷◌, ◌++◌, length, Result, Ok, Err, refl, sym, ap, ◌∙◌, arith, ◌⊎◌, inl, inr, nat_eq, Bool, true, false}
 use Rattle.std.proofs.lemmas.Bool.{eqb-true}
 use Rattle.std.proofs.lemmas.Bool.Decides.{nat_tests}
-use Rattle.rules_base.specs.Tree.{Tree, Trees, none, more, trees_of}
-use Rattle.rules_binary.specs.Reading.{Spot, Fault, ◌>>=◌, arguments_at, nodes_within}
+use Rattle.rules_text.specs.nodes.Tree.{Tree, Trees, none, more, trees_of}
+use Rattle.rules_text.specs.binary.Reading.{Spot, Fault, ◌>>=◌, arguments_at, nodes_within}
 use Rattle.mich_binary.specs.declared.errors.DecodeError.{DecodeError}
 use Rattle.mich_binary.specs.declared.errors.DecodeError.TheVariants as errors
 use Rattle.mich_binary.specs.Results.{Fails}

@@ -4,8 +4,8 @@ use Rattle.std.specs.List.{prefix_len, list_all}
 use Rattle.std.specs.Borrow.{Bor}
 use Rattle.std.proofs.lemmas.List.{append-nil, nil_from_length}
 use Rattle.std.proofs.lemmas.List.Folds.{list_all-append}
-use Rattle.rules_binary.specs.declared.DecodeKind.TheVariants.{BadString}
-use Rattle.rules_binary.specs.Reading.{Spot, fault, pieces, before, is_annotation, annotations_of}
+use Rattle.rules_text.specs.declared.binary.DecodeKind.TheVariants.{BadString}
+use Rattle.rules_text.specs.binary.Reading.{Spot, fault, pieces, before, is_annotation, annotations_of}
 use Rattle.mich_binary.specs.Pieces.{is_no_space, pieces_of}
 
 -- what stands behind the first byte

@@ -3,8 +3,8 @@ use Rattle.std.proofs.Common.{◌≡◌, ℕ, suc, ◌+◌, ◌<◌, List, [], �
 use Rattle.std.specs.List.{position, position_or_len}
 use Rattle.std.proofs.lemmas.Bool.Decides.{nat_tests}
 use Rattle.std.proofs.lemmas.List.{at_drop_more}
-use Rattle.rules_base.specs.Tree.{Tree, preorder, preorders, size, sizes}
-use Rattle.rules_binary.specs.Encoding.{lacks_code}
+use Rattle.rules_text.specs.nodes.Tree.{Tree, preorder, preorders, size, sizes}
+use Rattle.rules_text.specs.binary.Encoding.{lacks_code}
 use Rattle.mich_base.specs.View.{tree, trees}
 use Rattle.mich_base.specs.declared.node.Node.{Node}
 use Rattle.mich_binary.specs.Scanning.{scanned}

@@ -4,7 +4,7 @@ use Rattle.std.specs.Prelude.{ℤ, pos, negsuc, int_lt, unsigned_abs}
 use Rattle.std.specs.Int.{w32, to_be_bytes}
 use Rattle.std.proofs.lemmas.Bool.Decides.{nat_tests}
 use Rattle.std.proofs.lemmas.List.{append-nil, at_drop_more}
-use Rattle.rules_binary.specs.Spelling.{signed_groups, integer, field, joined, short, application, spelling, spellings}
+use Rattle.rules_text.specs.binary.Spelling.{signed_groups, integer, field, joined, short, application, spelling, spellings}
 use Rattle.mich_base.specs.View.{tree, trees}
 use Rattle.mich_base.specs.declared.node.Node.{Node}
 use Rattle.mich_binary.specs.declared.errors.EncodeError.{EncodeError}

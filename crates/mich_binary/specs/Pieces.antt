@@ -1,6 +1,6 @@
 -- The pieces between spaces, one by one.
 use Rattle.std.specs.Prelude.{ℕ, List, [], Bool, not, ◌==◌, Option, Some, None}
-use Rattle.rules_binary.specs.Reading.{pieces}
+use Rattle.rules_text.specs.binary.Reading.{pieces}
 
 abbrev pub is_no_space : ℕ → Bool
 is_no_space b = not (b == 32)

@@ -1,8 +1,8 @@
 -- What the readers return, against what reading gives.
 use Rattle.std.specs.Prelude.{◌≡◌, ℕ, ◌+◌, ◌<◌, ◌≤◌, List, ◌++◌, length, Result, Ok, Err}
-use Rattle.rules_binary.specs.Reading.{Fault, Spot}
-use Rattle.rules_base.specs.Limits.{encoded_limit}
-use Rattle.rules_base.specs.Tree.{Tree, Trees}
+use Rattle.rules_text.specs.binary.Reading.{Fault, Spot}
+use Rattle.rules_text.specs.nodes.Limits.{encoded_limit}
+use Rattle.rules_text.specs.nodes.Tree.{Tree, Trees}
 use Rattle.mich_base.specs.View.{tree, trees}
 use Rattle.mich_base.specs.declared.node.Node.{Node}
 use Rattle.mich_binary.specs.declared.cursor.Cursor.{Cursor}
@@ -11,8 +11,8 @@ use Rattle.mich_binary.specs.declared.errors.DecodeError.TheVariants as errors
 use Rattle.mich_binary.specs.declared.errors.EncodeError.{EncodeError}
 use Rattle.mich_binary.specs.declared.errors.EncodeError.TheVariants as encodes
 use Rattle.std.specs.Global.{Vec}
-use Rattle.rules_binary.specs.Spelling.{joined}
-use Rattle.rules_binary.specs.Encoding.{Refusal, no_code, too_long}
+use Rattle.rules_text.specs.binary.Spelling.{joined}
+use Rattle.rules_text.specs.binary.Encoding.{Refusal, no_code, too_long}
 
 abbrev pub spot : Cursor → Spot
 spot c = record { place = c.place; left = c.left.now }

@@ -1,8 +1,8 @@
 // Names that are no primitive's.
 ghost use Rattle.std.specs.Prelude.{◌≡◌, ◌+◌, ◌<◌, ◌^◌, IfOk, Ok};
 ghost use Rattle.std.specs.List.{position};
-ghost use Rattle.rules_base.specs.Tree.{size, sizes, preorder, preorders};
-ghost use Rattle.rules_binary.specs.Encoding.{lacks_code};
+ghost use Rattle.rules_text.specs.nodes.Tree.{size, sizes, preorder, preorders};
+ghost use Rattle.rules_text.specs.binary.Encoding.{lacks_code};
 ghost use Rattle.mich_base.specs.View.{tree, trees};
 ghost use Rattle.mich_binary.specs.Scanning.{scanned};
 

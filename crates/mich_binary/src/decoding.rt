@@ -1,7 +1,7 @@
 // Decoding.
 ghost use Rattle.std.specs.Prelude.{◌≤◌, ◌*◌, length, IfOk};
-ghost use Rattle.rules_base.specs.Tree.{size};
-ghost use Rattle.rules_binary.specs.Reading.{decoded};
+ghost use Rattle.rules_text.specs.nodes.Tree.{size};
+ghost use Rattle.rules_text.specs.binary.Reading.{decoded};
 ghost use Rattle.mich_base.specs.View.{tree};
 ghost use Rattle.mich_binary.specs.Results.{Gives};
 
@@ -9,11 +9,11 @@ use crate::cursor::Cursor;
 use crate::errors::DecodeError;
 use crate::nodes::node_at;
 use mich_base::{DEPTH_LIMIT, Node};
-use rules_binary::DecodeKind;
+use rules_text::binary::DecodeKind;
 use std::alloc::Global;
 
 // The node that these bytes spell from their first to their last.
-#[tactic(auto, unfolding(rules_binary::specs::Reading::decoded))]
+#[tactic(auto, unfolding(rules_text::specs::binary::Reading::decoded))]
 fn whole_node(alloc: Global, bytes: &[u8]) -> Result<Node, DecodeError>
     ensures { Gives tree result (decoded bytes.now) }
 {
@@ -30,7 +30,7 @@ fn whole_node(alloc: Global, bytes: &[u8]) -> Result<Node, DecodeError>
 
 /// The one node that these bytes spell, or the first fault from the left and its place; it has at most half as many nodes as there
 /// are bytes (Octez "data encoding", Micheline expressions). Memory where there is no room for the node.
-#[tactic(auto, using(laws_binary::proofs::ForCallers::decoded_half))]
+#[tactic(auto, using(laws_data::proofs::binary_lemmas::ForCallers::decoded_half))]
 pub fn decode(alloc: Global, bytes: &[u8]) -> Result<Node, DecodeError>
     ensures decoded { Gives tree result (decoded bytes.now) }
     ensures nodes { IfOk result (λ n. 2 * size (tree n) ≤ length bytes.now) }

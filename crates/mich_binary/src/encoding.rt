@@ -1,7 +1,7 @@
 // Encoding.
 ghost use Rattle.std.specs.Prelude.{◌<◌, ◌^◌};
-ghost use Rattle.rules_base.specs.Tree.{size};
-ghost use Rattle.rules_binary.specs.Encoding.{encoded, spelt};
+ghost use Rattle.rules_text.specs.nodes.Tree.{size};
+ghost use Rattle.rules_text.specs.binary.Encoding.{encoded, spelt};
 ghost use Rattle.mich_base.specs.View.{tree};
 ghost use Rattle.mich_binary.specs.Results.{IsEncoded};
 
@@ -22,7 +22,7 @@ fn spelt(alloc: Global, node: &Node) -> Result<Bytes, EncodeError>
 /// The binary form of a node (Octez "data encoding", Micheline expressions). NoCode at the location of the
 /// first name in pre-order that is no primitive's; else TooLong where the form has more than 268,435,456
 /// bytes. Memory where there is no room for it.
-#[tactic(auto, unfolding(rules_binary::specs::Encoding::encoded))]
+#[tactic(auto, unfolding(rules_text::specs::binary::Encoding::encoded))]
 pub fn encode(alloc: Global, node: &Node) -> Result<Bytes, EncodeError>
     requires { size (tree node.now) < 2 ^ 32 }
     ensures { IsEncoded result (encoded (tree node.now)) }

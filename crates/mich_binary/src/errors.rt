@@ -2,7 +2,7 @@
 ghost use Rattle.std.specs.Prelude.{◌≡◌};
 
 use mich_base::Memory;
-use rules_binary::DecodeKind;
+use rules_text::binary::DecodeKind;
 use std::alloc::{AllocError, AllocFailed};
 use thiserror::Error;
 

@@ -2,17 +2,17 @@
 ghost use Rattle.std.specs.Prelude.{◌≡◌, ◌≤◌, ◌<◌, ◌∷◌, length, take, IfSome, option_map};
 ghost use Rattle.std.specs.Int.{w32, from_be_bytes};
 ghost use Rattle.std.specs.List.{prefix_len, list_all};
-ghost use Rattle.rules_binary.specs.Reading.{byte_at, field_at, narrow_field_at, is_text, string_at, bytes_at, is_noted, is_annotation, pieces, annotations_of, annotations_at, any_annotations_at, short_annotations_at};
+ghost use Rattle.rules_text.specs.binary.Reading.{byte_at, field_at, narrow_field_at, is_text, string_at, bytes_at, is_noted, is_annotation, pieces, annotations_of, annotations_at, any_annotations_at, short_annotations_at};
 ghost use Rattle.mich_binary.specs.Results.{Gives, spot};
 ghost use Rattle.mich_binary.specs.Pieces.{is_no_space, pieces_of};
 
 use crate::cursor::Cursor;
 use crate::errors::DecodeError;
 use mich_base::{BYTE_LIMIT, Bytes, NAME_LIMIT, Rows, Text, Texts};
-use rules_binary::DecodeKind;
+use rules_text::binary::DecodeKind;
 use std::alloc::Global;
 
-#[tactic(auto, unfolding(rules_binary::specs::Reading::byte_at))]
+#[tactic(auto, unfolding(rules_text::specs::binary::Reading::byte_at))]
 pub fn byte_at(cursor: Cursor<'_>) -> Result<(u8, Cursor<'_>), DecodeError>
     ensures { Gives (λ x. (x.0, spot x.1)) result (byte_at (spot cursor.entry)) }
 {
@@ -35,7 +35,7 @@ fn length_of(bytes: &[u8]) -> u32
 }
 
 // A field: its content, and where reading goes on.
-#[tactic(auto, unfolding(rules_binary::specs::Reading::field_at))]
+#[tactic(auto, unfolding(rules_text::specs::binary::Reading::field_at))]
 pub fn field_at(cursor: Cursor<'_>) -> Result<(Cursor<'_>, Cursor<'_>), DecodeError>
     ensures { Gives (λ x. (spot x.0, spot x.1)) result (field_at (spot cursor.entry)) }
 {
@@ -63,7 +63,7 @@ pub fn field_at(cursor: Cursor<'_>) -> Result<(Cursor<'_>, Cursor<'_>), DecodeEr
 }
 
 // A field that is no longer than strings and bytes may be.
-#[tactic(auto, unfolding(rules_binary::specs::Reading::narrow_field_at))]
+#[tactic(auto, unfolding(rules_text::specs::binary::Reading::narrow_field_at))]
 pub fn narrow_field_at(cursor: Cursor<'_>) -> Result<(Cursor<'_>, Cursor<'_>), DecodeError>
     ensures { Gives (λ x. (spot x.0, spot x.1)) result (narrow_field_at (spot cursor.entry)) }
 {
@@ -89,7 +89,7 @@ fn text_len(bytes: &[u8]) -> usize
     bytes.iter().take_while(|byte| is_text(**byte)).count()
 }
 
-#[tactic(auto, unfolding(rules_binary::specs::Reading::string_at))]
+#[tactic(auto, unfolding(rules_text::specs::binary::Reading::string_at))]
 pub fn string_at(alloc: Global, cursor: Cursor<'_>) -> Result<(Text, Cursor<'_>), DecodeError>
     ensures { Gives (λ x. (x.0, spot x.1)) result (string_at (spot cursor.entry)) }
 {
@@ -102,7 +102,7 @@ pub fn string_at(alloc: Global, cursor: Cursor<'_>) -> Result<(Text, Cursor<'_>)
     Ok((Text::from_slice(alloc, field.left)?, after))
 }
 
-#[tactic(auto, unfolding(rules_binary::specs::Reading::bytes_at))]
+#[tactic(auto, unfolding(rules_text::specs::binary::Reading::bytes_at))]
 pub fn bytes_at(alloc: Global, cursor: Cursor<'_>) -> Result<(Bytes, Cursor<'_>), DecodeError>
     ensures { Gives (λ x. (x.0, spot x.1)) result (bytes_at (spot cursor.entry)) }
 {
@@ -172,7 +172,7 @@ fn annotations_of(alloc: Global, field: Cursor<'_>) -> Result<Texts, DecodeError
     Ok(texts)
 }
 
-#[tactic(auto, unfolding(rules_binary::specs::Reading::annotations_at))]
+#[tactic(auto, unfolding(rules_text::specs::binary::Reading::annotations_at))]
 fn annotations_at(alloc: Global, cursor: Cursor<'_>) -> Result<(Texts, Cursor<'_>), DecodeError>
     ensures { Gives (λ x. (x.0, spot x.1)) result (annotations_at (spot cursor.entry)) }
 {
@@ -181,7 +181,7 @@ fn annotations_at(alloc: Global, cursor: Cursor<'_>) -> Result<(Texts, Cursor<'_
 }
 
 // Annotations, or none.
-#[tactic(auto, unfolding(rules_binary::specs::Reading::any_annotations_at))]
+#[tactic(auto, unfolding(rules_text::specs::binary::Reading::any_annotations_at))]
 pub fn any_annotations_at(
     alloc: Global,
     cursor: Cursor<'_>,

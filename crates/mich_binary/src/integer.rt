@@ -1,12 +1,12 @@
 // Integers.
 ghost use Rattle.std.specs.Prelude.{◌≡◌, ◌+◌, ◌*◌, ◌%◌, ◌^◌, ◌<◌, ◌≤◌, length, SomeIff};
 ghost use Rattle.std.specs.List.{prefix_len};
-ghost use Rattle.rules_binary.specs.Reading.{goes_on, groups_value, is_longer, ranged, integer_of, integer_at};
+ghost use Rattle.rules_text.specs.binary.Reading.{goes_on, groups_value, is_longer, ranged, integer_of, integer_at};
 ghost use Rattle.mich_binary.specs.Results.{Gives, spot};
 
 use crate::cursor::Cursor;
 use crate::errors::DecodeError;
-use rules_binary::DecodeKind;
+use rules_text::binary::DecodeKind;
 
 // A value with one group of seven bits below it.
 fn with_group(value: u128, group: u8) -> Option<u128>
@@ -90,7 +90,7 @@ fn going_on(bytes: &[u8]) -> usize
     bytes.iter().take_while(|byte| **byte >= 128).count()
 }
 
-#[tactic(auto, unfolding(rules_binary::specs::Reading::integer_at))]
+#[tactic(auto, unfolding(rules_text::specs::binary::Reading::integer_at))]
 pub fn integer_at(cursor: Cursor<'_>) -> Result<(i128, Cursor<'_>), DecodeError>
     ensures { Gives (λ x. (x.0, spot x.1)) result (integer_at (spot cursor.entry)) }
 {

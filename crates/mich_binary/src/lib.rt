@@ -14,4 +14,4 @@ mod writing;
 pub use decoding::decode;
 pub use encoding::encode;
 pub use errors::{DecodeError, EncodeError};
-pub use rules_binary::DecodeKind;
+pub use rules_text::binary::DecodeKind;

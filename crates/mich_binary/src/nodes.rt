@@ -1,7 +1,7 @@
 // Nodes.
 ghost use Rattle.std.specs.Prelude.{◌≡◌, slice_get, length};
-ghost use Rattle.rules_binary.specs.Reading.{tags_in_order, tag_at, name_at, arguments_at, nodes_within, nodes_at, application_at, many_at, node_by, node_at};
-ghost use Rattle.rules_base.specs.Tree.{prim};
+ghost use Rattle.rules_text.specs.binary.Reading.{tags_in_order, tag_at, name_at, arguments_at, nodes_within, nodes_at, application_at, many_at, node_by, node_at};
+ghost use Rattle.rules_text.specs.nodes.Tree.{prim};
 ghost use Rattle.mich_base.specs.View.{tree, trees};
 ghost use Rattle.mich_binary.specs.Results.{Gives, spot, node_seen, nodes_seen};
 
@@ -12,7 +12,7 @@ use crate::fields::{
 };
 use crate::integer::integer_at;
 use mich_base::{App, Node, Nodes, Rows, Text, Texts, prim_name};
-use rules_binary::{DecodeKind, Tag};
+use rules_text::binary::{DecodeKind, Tag};
 use std::alloc::Global;
 
 // Each tag stands at its byte.
@@ -36,14 +36,14 @@ fn tag_in(table: &[Tag], index: usize) -> Option<Tag>
     table.get(index).copied()
 }
 
-#[tactic(auto, unfolding(rules_binary::specs::Reading::tags_in_order))]
+#[tactic(auto, unfolding(rules_text::specs::binary::Reading::tags_in_order))]
 fn tag_of(byte: u8) -> Option<Tag>
     ensures { result ≡ slice_get tags_in_order byte }
 {
     tag_in(&TAGS, byte as usize)
 }
 
-#[tactic(auto, unfolding(rules_binary::specs::Reading::tag_at))]
+#[tactic(auto, unfolding(rules_text::specs::binary::Reading::tag_at))]
 fn tag_at(cursor: Cursor<'_>) -> Result<(Tag, Cursor<'_>), DecodeError>
     ensures { Gives (λ x. (x.0, spot x.1)) result (tag_at (spot cursor.entry)) }
 {
@@ -54,7 +54,7 @@ fn tag_at(cursor: Cursor<'_>) -> Result<(Tag, Cursor<'_>), DecodeError>
     }
 }
 
-#[tactic(auto, unfolding(rules_binary::specs::Reading::name_at))]
+#[tactic(auto, unfolding(rules_text::specs::binary::Reading::name_at))]
 fn name_at(alloc: Global, cursor: Cursor<'_>) -> Result<(Text, Cursor<'_>), DecodeError>
     ensures { Gives (λ x. (x.0, spot x.1)) result (name_at (spot cursor.entry)) }
 {
@@ -90,7 +90,7 @@ pub fn node_at(
 
 // A node behind its tag, which stood at this place; those in it have at most so many levels.
 #[cycle(node)]
-#[tactic(auto, unfolding(rules_binary::specs::Reading::node_by))]
+#[tactic(auto, unfolding(rules_text::specs::binary::Reading::node_by))]
 fn node_by(
     alloc: Global,
     levels: u32,
@@ -129,7 +129,7 @@ fn node_by(
 
 // An application behind its tag: a code, so many arguments, and annotations where the tag says so.
 #[cycle(node)]
-#[tactic(auto, unfolding(rules_binary::specs::Reading::application_at))]
+#[tactic(auto, unfolding(rules_text::specs::binary::Reading::application_at))]
 fn application_at(
     alloc: Global,
     levels: u32,
@@ -147,7 +147,7 @@ fn application_at(
 
 // An application of three or more arguments behind its tag, which stood at this place.
 #[cycle(node)]
-#[tactic(auto, unfolding(rules_binary::specs::Reading::many_at), using(crate::proofs::Levels::count_is))]
+#[tactic(auto, unfolding(rules_text::specs::binary::Reading::many_at), using(crate::proofs::Levels::count_is))]
 fn many_at(
     alloc: Global,
     levels: u32,
@@ -187,7 +187,7 @@ fn arguments_at(
 
 // A field of nodes.
 #[cycle(node)]
-#[tactic(auto, unfolding(rules_binary::specs::Reading::nodes_at))]
+#[tactic(auto, unfolding(rules_text::specs::binary::Reading::nodes_at))]
 fn nodes_at(
     alloc: Global,
     levels: u32,

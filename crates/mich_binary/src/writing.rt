@@ -1,8 +1,8 @@
 // Writing nodes behind what was written.
 ghost use Rattle.std.specs.Prelude.{◌≡◌, ℕ, List, [], ◌∷◌, ◌+◌, ◌-◌, ◌<◌, ◌≤◌, ◌^◌, ◌++◌, length};
 ghost use Rattle.std.specs.Int.{w32, to_be_bytes};
-ghost use Rattle.rules_base.specs.Limits.{encoded_limit};
-ghost use Rattle.rules_binary.specs.Spelling.{groups, signed_groups, integer, field, joined, short, application, code, count, spelling, spellings};
+ghost use Rattle.rules_text.specs.nodes.Limits.{encoded_limit};
+ghost use Rattle.rules_text.specs.binary.Spelling.{groups, signed_groups, integer, field, joined, short, application, code, count, spelling, spellings};
 ghost use Rattle.mich_base.specs.View.{tree, app_tree, trees};
 ghost use Rattle.mich_binary.specs.Results.{IsWritten, IsJoined};
 
@@ -21,7 +21,7 @@ fn put(out: &mut Vec<u8>, bytes: &[u8]) -> Result<(), EncodeError>
     Ok(())
 }
 
-#[tactic(auto, using(laws_binary::proofs::ForCallers::more_groups, laws_binary::proofs::ForCallers::one_group))]
+#[tactic(auto, using(laws_data::proofs::binary_lemmas::ForCallers::more_groups, laws_data::proofs::binary_lemmas::ForCallers::one_group))]
 fn put_groups(out: &mut Vec<u8>, n: u128) -> Result<(), EncodeError>
     requires { length out.old.items ≤ encoded_limit }
     ensures { IsWritten out.old.items out.new.items (groups n) result }
@@ -56,7 +56,7 @@ fn put_integer(out: &mut Vec<u8>, n: i128) -> Result<(), EncodeError>
 }
 
 // A field of these bytes, behind these.
-#[tactic(auto, unfolding(rules_binary::specs::Spelling::field))]
+#[tactic(auto, unfolding(rules_text::specs::binary::Spelling::field))]
 fn put_field(out: &mut Vec<u8>, content: &[u8]) -> Result<(), EncodeError>
     requires { length out.old.items ≤ encoded_limit }
     ensures { IsWritten out.old.items out.new.items (field content.now) result }

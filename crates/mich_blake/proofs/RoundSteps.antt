@@ -1,6 +1,6 @@
 -- The rounds of the compression function, one after the other.
 use Rattle.std.proofs.Common.{◌≡◌, ℕ, suc, List, refl, ◌∙◌}
-use Rattle.rules_hash.specs.Blake2b.{in_order, round, rounds}
+use Rattle.rules_text.specs.hash.Blake2b.{in_order, round, rounds}
 
 pub no_round : (v m : List ℕ) → v ≡ rounds v m 0
 unfolding rounds

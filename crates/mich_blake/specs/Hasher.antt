@@ -1,6 +1,6 @@
 -- What a hasher keeps of the bytes that it was fed.
 use Rattle.std.specs.Prelude.{ℕ, ◌+◌, ◌*◌, List, [], ◌++◌, length, drop}
-use Rattle.rules_hash.specs.Blake2b.{blocks_before_last, hash_after, initial_hash}
+use Rattle.rules_text.specs.hash.Blake2b.{blocks_before_last, hash_after, initial_hash}
 
 -- The length of the digest, the hash value of the blocks that were taken, how many bytes these were,
 -- and the bytes behind them, at most a block.

@@ -1,6 +1,6 @@
 // The compression function of BLAKE2b (RFC 7693, 3.1 and 3.2).
 ghost use Rattle.std.specs.Prelude.{◌≡◌, ◌+◌, ◌*◌, ◌<◌, ◌≤◌, ℕ, length};
-ghost use Rattle.rules_hash.specs.Blake2b.{block_words, compress, folded, in_order, mixed, round, rounds, start_vector, word_at};
+ghost use Rattle.rules_text.specs.hash.Blake2b.{block_words, compress, folded, in_order, mixed, round, rounds, start_vector, word_at};
 
 pub(crate) const BLOCK_LEN: usize = 128;
 
@@ -125,7 +125,7 @@ fn rounds(v: &mut [u64; 16], m: &[u64; 16])
 
 // The word at place `i` of a block.
 #[inline(always)]
-#[tactic(auto, unfolding(rules_hash::specs::Blake2b::word_at))]
+#[tactic(auto, unfolding(rules_text::specs::hash::Blake2b::word_at))]
 fn word_at(block: &[u8], i: usize) -> u64
     requires { 8 * i + 8 ≤ length block.now }
     ensures { result ≡ word_at block.now i }

@@ -1,6 +1,6 @@
 // BLAKE2b of a message that comes piece by piece (RFC 7693, 3.3).
 ghost use Rattle.std.specs.Prelude.{◌≡◌, ◌+◌, ◌*◌, ◌/◌, ◌<◌, ◌≤◌, ◌^◌, ℕ, List, [], ◌++◌, false, length};
-ghost use Rattle.rules_hash.specs.Blake2b.{blake, hash_after, initial_hash};
+ghost use Rattle.rules_text.specs.hash.Blake2b.{blake, hash_after, initial_hash};
 ghost use Rattle.mich_blake.specs.Hasher.{count_of, fed, hasher_of};
 
 use crate::compression::{BLOCK_LEN, INITIAL_VECTOR, compress};

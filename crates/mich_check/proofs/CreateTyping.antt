@@ -1,20 +1,20 @@
 -- CREATE_CONTRACT.
 use Rattle.std.proofs.Common.{◌≡◌, ℕ, ◌+◌, Bool, true, false, List, [], ◌∷◌, Option, Some, None, refl, sym, ap, ◌∙◌, subst, arith}
 use Rattle.std.specs.Prelude.{if◌then◌else◌, Ok, Err}
-use Rattle.rules_base.specs.Tree.{Tree, prim, none, more}
-use Rattle.rules_types.specs.Kind.{Kind, operation, option}
-use Rattle.rules_instructions.specs.Types.{address, mutez, key_hash}
-use Rattle.rules_instructions.specs.Same.{same_kind}
-use Rattle.rules_instructions.specs.Arguments.{Found, found, fault}
-use Rattle.rules_instructions.specs.Context.{Context}
-use Rattle.rules_instructions.specs.Context as standing
-use Rattle.rules_instructions.specs.Forms as f
-use Rattle.rules_typing.specs.Typing.{Typing, goes, fails, bad, shift}
-use Rattle.rules_typing.specs.Acts.{one_body, outside_views, of_script}
-use Rattle.rules_typing.specs.Nodes.{bodies, tree_type, script, script_in, found_at}
-use Rattle.rules_typing.specs.Stacks.{on_origination}
-use Rattle.rules_typing.specs.Scripts.{Script}
-use Rattle.laws_types.proofs.ForCallers.{same_kind_true}
+use Rattle.rules_text.specs.nodes.Tree.{Tree, prim, none, more}
+use Rattle.rules_data.specs.types.Kind.{Kind, operation, option}
+use Rattle.rules_code.specs.instructions.Types.{address, mutez, key_hash}
+use Rattle.rules_code.specs.instructions.Same.{same_kind}
+use Rattle.rules_code.specs.instructions.Arguments.{Found, found, fault}
+use Rattle.rules_code.specs.instructions.Context.{Context}
+use Rattle.rules_code.specs.instructions.Context as standing
+use Rattle.rules_code.specs.instructions.Forms as f
+use Rattle.rules_code.specs.typing.Typing.{Typing, goes, fails, bad, shift}
+use Rattle.rules_code.specs.typing.Acts.{one_body, outside_views, of_script}
+use Rattle.rules_code.specs.typing.Nodes.{bodies, tree_type, script, script_in, found_at}
+use Rattle.rules_code.specs.typing.Stacks.{on_origination}
+use Rattle.rules_code.specs.typing.Scripts.{Script}
+use Rattle.laws_data.proofs.types_lemmas.ForCallers.{same_kind_true}
 use Rattle.mich_base.specs.declared.node.Node.{Node}
 use Rattle.mich_base.specs.declared.ty.Ty.{Ty}
 use Rattle.mich_base.specs.View.{tree, trees}
@@ -27,7 +27,7 @@ use Rattle.mich_instr.specs.declared.instr.Script.{Script as CodeScript}
 use Rattle.mich_control.specs.declared.error.CheckError.{CheckError}
 use Rattle.mich_control.specs.declared.error.CheckError.TheVariants as error
 use Rattle.mich_control.specs.Answers.{IsFault}
-use Rattle.mich_sections.proofs.ForCallers.{script_moves}
+use Rattle.mich_check.proofs.sections_lemmas.ForCallers.{script_moves}
 use Rattle.mich_check.specs.Scripts.{IsTyped, IsTypedAt, Origin, origin, originated, IsBehind}
 use Rattle.mich_control.specs.View.{is_view}
 use Rattle.mich_control.proofs.ForCallers.{fault_is, formed}

@@ -6,3 +6,4 @@ pub mod LiteralTyping
 pub mod OriginStacks
 pub mod ScriptTyping
 pub mod CreateTyping
+pub mod sections_lemmas

@@ -2,12 +2,12 @@
 use Rattle.std.proofs.Common.{◌≡◌, ℕ, ◌+◌, Bool, List, [], ◌∷◌, ◌++◌, Option, Some, None, sym, ap, ◌∙◌, arith, append_assoc}
 use Rattle.std.specs.Prelude.{Err}
 use Rattle.std.proofs.lemmas.List.{map-append, append-nil}
-use Rattle.rules_base.specs.Tree.{Tree}
-use Rattle.rules_types.specs.Kind.{Kind}
-use Rattle.rules_values.specs.Val.{Val}
-use Rattle.rules_values.specs.Literals.{Pending, good, read, claims}
-use Rattle.rules_instructions.specs.Arguments.{found, fault}
-use Rattle.rules_typing.specs.Literals.{fault_of_bodies, checked, of_reading}
+use Rattle.rules_text.specs.nodes.Tree.{Tree}
+use Rattle.rules_data.specs.types.Kind.{Kind}
+use Rattle.rules_data.specs.values.Val.{Val}
+use Rattle.rules_data.specs.values.Literals.{Pending, good, read, claims}
+use Rattle.rules_code.specs.instructions.Arguments.{found, fault}
+use Rattle.rules_code.specs.typing.Literals.{fault_of_bodies, checked, of_reading}
 use Rattle.mich_base.specs.declared.node.Node.{Node}
 use Rattle.mich_base.specs.declared.ty.Ty.{Ty}
 use Rattle.mich_data.specs.View.{pending, all_pending}

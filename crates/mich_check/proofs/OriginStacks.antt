@@ -1,7 +1,7 @@
 -- What CREATE_CONTRACT asks of the stack.
 use Rattle.std.proofs.Common.{◌≡◌, true, false, List, [], ◌∷◌, Some, None, refl, sym, ap, ◌∙◌}
-use Rattle.rules_types.specs.Kind.{Kind, option}
-use Rattle.rules_instructions.specs.Types.{mutez, key_hash}
+use Rattle.rules_data.specs.types.Kind.{Kind, option}
+use Rattle.rules_code.specs.instructions.Types.{mutez, key_hash}
 use Rattle.mich_check.specs.Scripts.{origin, originated, is_delegate, is_amount}
 
 no_one : (a : Kind) → None ≡ originated (a ∷ [])

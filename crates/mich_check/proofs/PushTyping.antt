@@ -2,23 +2,23 @@
 use Rattle.std.proofs.Common.{◌≡◌, ℕ, zero, suc, ◌+◌, ◌^◌, ◌<◌, ◌≤◌, Bool, true, false, List, [], ◌∷◌, ◌++◌, drop, length, get_or, ◌⊎◌, inl, inr, Option, Some, None, refl, sym, ap, ◌∙◌, subst, arith, drop-cons, add-one}
 use Rattle.std.specs.Prelude.{if◌then◌else◌, slice_get, Result, Err}
 use Rattle.std.proofs.lemmas.List.{drop_all}
-use Rattle.rules_base.specs.Tree.{Tree, int, str, bytes, prim, seq, Trees, none, more, size, sizes, preorder, preorders}
-use Rattle.rules_types.specs.Kind.{Kind}
-use Rattle.rules_types.specs.Attributes.{pushable}
-use Rattle.rules_values.specs.Val.{Val}
-use Rattle.rules_values.specs.Literals.{Pending, body, claim, good, bad, read}
-use Rattle.rules_instructions.specs.Arguments.{Found, found, fault, and_then, type_argument}
-use Rattle.rules_instructions.specs.Control.{Pushed, push_of, call_kinds}
-use Rattle.rules_instructions.specs.Context.{Context, lambda}
-use Rattle.rules_instructions.specs.Forms as f
-use Rattle.rules_instructions.specs.Same.{same_kinds}
-use Rattle.rules_typing.specs.Typing.{Typing, goes, fails, shift, on_found}
-use Rattle.rules_typing.specs.Typing as ty
-use Rattle.rules_typing.specs.Bodies.{body_fault, first_fault}
-use Rattle.rules_typing.specs.Nodes.{tree_type}
-use Rattle.rules_typing.specs.Literals.{fault_of_bodies, checked, of_reading}
-use Rattle.laws_typing.specs.Laws.{AllStandIn, AllAtMost}
-use Rattle.laws_typing.proofs.ForCallers.{size_is, bodies_stand, bodies_within, all_pushed}
+use Rattle.rules_text.specs.nodes.Tree.{Tree, int, str, bytes, prim, seq, Trees, none, more, size, sizes, preorder, preorders}
+use Rattle.rules_data.specs.types.Kind.{Kind}
+use Rattle.rules_data.specs.types.Attributes.{pushable}
+use Rattle.rules_data.specs.values.Val.{Val}
+use Rattle.rules_data.specs.values.Literals.{Pending, body, claim, good, bad, read}
+use Rattle.rules_code.specs.instructions.Arguments.{Found, found, fault, and_then, type_argument}
+use Rattle.rules_code.specs.instructions.Control.{Pushed, push_of, call_kinds}
+use Rattle.rules_code.specs.instructions.Context.{Context, lambda}
+use Rattle.rules_code.specs.instructions.Forms as f
+use Rattle.rules_code.specs.instructions.Same.{same_kinds}
+use Rattle.rules_code.specs.typing.Typing.{Typing, goes, fails, shift, on_found}
+use Rattle.rules_code.specs.typing.Typing as ty
+use Rattle.rules_code.specs.typing.Bodies.{body_fault, first_fault}
+use Rattle.rules_code.specs.typing.Nodes.{tree_type}
+use Rattle.rules_code.specs.typing.Literals.{fault_of_bodies, checked, of_reading}
+use Rattle.laws_typing.specs.literals.Laws.{AllStandIn, AllAtMost}
+use Rattle.laws_typing.proofs.literals_lemmas.ForCallers.{size_is, bodies_stand, bodies_within, all_pushed}
 use Rattle.mich_base.specs.declared.node.Node.{Node}
 use Rattle.mich_base.specs.declared.ty.Ty.{Ty}
 use Rattle.mich_base.specs.Counted.{IsNotTwo}

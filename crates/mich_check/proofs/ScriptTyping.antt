@@ -2,22 +2,22 @@
 use Rattle.std.proofs.Common.{◌≡◌, ℕ, suc, ◌+◌, ◌<◌, ◌≤◌, Bool, true, List, [], ◌∷◌, ◌++◌, drop, length, get_or, Option, Some, None, refl, sym, ap, ◌∙◌, subst, append_assoc, drop-cons, add-one, arith}
 use Rattle.std.specs.Prelude.{if◌then◌else◌, map, Result, Ok, Err}
 use Rattle.std.proofs.lemmas.List.{append-nil, drop_all}
-use Rattle.rules_base.specs.Tree.{Tree, int, str, bytes, prim, seq, size}
-use Rattle.rules_types.specs.Kind.{Kind, pair}
-use Rattle.rules_instructions.specs.Arguments.{Found, found, fault, and_then}
-use Rattle.rules_instructions.specs.Context.{Context}
-use Rattle.rules_instructions.specs.Context as standing
-use Rattle.rules_typing.specs.Bodies.{body_fault}
-use Rattle.rules_typing.specs.Nodes.{body, found_at, script, script_at}
-use Rattle.rules_typing.specs.Sections.{Body}
-use Rattle.rules_typing.specs.Scripts.{Outline, TypedView, View, Script, fault_of_body, view_fault, unless_fault, a_view, with_views, a_script, with_bodies}
+use Rattle.rules_text.specs.nodes.Tree.{Tree, int, str, bytes, prim, seq, size}
+use Rattle.rules_data.specs.types.Kind.{Kind, pair}
+use Rattle.rules_code.specs.instructions.Arguments.{Found, found, fault, and_then}
+use Rattle.rules_code.specs.instructions.Context.{Context}
+use Rattle.rules_code.specs.instructions.Context as standing
+use Rattle.rules_code.specs.typing.Bodies.{body_fault}
+use Rattle.rules_code.specs.typing.Nodes.{body, found_at, script, script_at}
+use Rattle.rules_code.specs.typing.Sections.{Body}
+use Rattle.rules_code.specs.typing.Scripts.{Outline, TypedView, View, Script, fault_of_body, view_fault, unless_fault, a_view, with_views, a_script, with_bodies}
 use Rattle.mich_base.specs.declared.ty.Ty.{Ty}
 use Rattle.mich_base.specs.View.{tree}
-use Rattle.mich_sections.specs.Outlines.{outline_at}
-use Rattle.mich_sections.specs.View.{outline_of, view_of}
-use Rattle.mich_sections.specs.declared.outline.Outline.{Outline as CodeOutline}
-use Rattle.mich_sections.specs.declared.outline.View.{View as Item}
-use Rattle.mich_sections.proofs.ForCallers.{ViewsSmall, bodies_small, script_moves}
+use Rattle.mich_check.specs.sections.Outlines.{outline_at}
+use Rattle.mich_check.specs.sections.View.{outline_of, view_of}
+use Rattle.mich_check.specs.declared.sections.outline.Outline.{Outline as CodeOutline}
+use Rattle.mich_check.specs.declared.sections.outline.View.{View as Item}
+use Rattle.mich_check.proofs.sections_lemmas.ForCallers.{ViewsSmall, bodies_small, script_moves}
 use Rattle.mich_instr.specs.Code.{Codes, ViewCode, ViewCodes, no_view, more_views}
 use Rattle.mich_instr.specs.Code as made
 use Rattle.mich_instr.specs.View.{codes, script_code, script_node, node_of, view_code, view_codes}

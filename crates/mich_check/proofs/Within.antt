@@ -1,13 +1,13 @@
 -- A fault of a literal is at one of its nodes.
 use Rattle.std.proofs.Common.{◌≡◌, ℕ, ◌+◌, ◌<◌, ◌≤◌, Bool, true, false, cond, Option, Some, None, subst, arith}
-use Rattle.rules_base.specs.Tree.{Tree, int, str, bytes, prim, seq, Trees, none, more, size, sizes}
-use Rattle.rules_types.specs.declared.Simple.{Simple}
-use Rattle.rules_types.specs.Kind.{Kind}
-use Rattle.rules_types.specs.Kind as k
-use Rattle.rules_values.specs.Val.{Val, more_vals, Pairs, more_pairs}
-use Rattle.rules_values.specs.Val as v
-use Rattle.rules_forms.specs.Spelling.{is_address}
-use Rattle.rules_values.specs.Literals.{Word, none_word, some_word, left_word, right_word, pair_word, entry_word, recursive_word, word_of_name, Literal, good, bad, with_pending, and_then, mapped, Reader, on_value, simple_value, read_simple, option_named, read_option, or_named, read_or, read_parts, pair_named, parts_of, read_elements, read_list, is_behind, read_increasing, read_set, entry_named, read_entry, read_entries, read_table, read_body, recursive_named, read_lambda, read_contract, read, read_rest}
+use Rattle.rules_text.specs.nodes.Tree.{Tree, int, str, bytes, prim, seq, Trees, none, more, size, sizes}
+use Rattle.rules_data.specs.declared.types.Simple.{Simple}
+use Rattle.rules_data.specs.types.Kind.{Kind}
+use Rattle.rules_data.specs.types.Kind as k
+use Rattle.rules_data.specs.values.Val.{Val, more_vals, Pairs, more_pairs}
+use Rattle.rules_data.specs.values.Val as v
+use Rattle.rules_data.specs.forms.Spelling.{is_address}
+use Rattle.rules_data.specs.values.Literals.{Word, none_word, some_word, left_word, right_word, pair_word, entry_word, recursive_word, word_of_name, Literal, good, bad, with_pending, and_then, mapped, Reader, on_value, simple_value, read_simple, option_named, read_option, or_named, read_or, read_parts, pair_named, parts_of, read_elements, read_list, is_behind, read_increasing, read_set, entry_named, read_entry, read_entries, read_table, read_body, recursive_named, read_lambda, read_contract, read, read_rest}
 
 -- a fault stands before a location
 abbrev Below : {A : Type 0} → ℕ → Literal A → Type 0

@@ -1,2 +1,4 @@
 pub mod Pending
 pub mod Scripts
+pub mod sections
+pub mod cache

@@ -1,16 +1,16 @@
 -- What is still to be tried of literals.
 use Rattle.std.specs.Prelude.{◌≡◌, ℕ, ◌+◌, max, option_map, Bool, List, [], ◌∷◌, Option, Some, None, Result, Ok, Err}
-use Rattle.rules_base.specs.Tree.{Tree, size}
-use Rattle.rules_types.specs.Kind.{Kind}
-use Rattle.rules_values.specs.Val.{Val}
-use Rattle.rules_values.specs.Literals.{Pending, body, claim, Literal, good, bad}
-use Rattle.rules_instructions.specs.Arguments.{Found, found, fault}
-use Rattle.rules_instructions.specs.Context.{lambda}
-use Rattle.rules_instructions.specs.Control.{call_kinds}
-use Rattle.rules_typing.specs.Typing.{shift}
-use Rattle.rules_typing.specs.Bodies.{body_fault}
-use Rattle.rules_typing.specs.Nodes.{tree_type}
-use Rattle.rules_typing.specs.Literals.{Checked}
+use Rattle.rules_text.specs.nodes.Tree.{Tree, size}
+use Rattle.rules_data.specs.types.Kind.{Kind}
+use Rattle.rules_data.specs.values.Val.{Val}
+use Rattle.rules_data.specs.values.Literals.{Pending, body, claim, Literal, good, bad}
+use Rattle.rules_code.specs.instructions.Arguments.{Found, found, fault}
+use Rattle.rules_code.specs.instructions.Context.{lambda}
+use Rattle.rules_code.specs.instructions.Control.{call_kinds}
+use Rattle.rules_code.specs.typing.Typing.{shift}
+use Rattle.rules_code.specs.typing.Bodies.{body_fault}
+use Rattle.rules_code.specs.typing.Nodes.{tree_type}
+use Rattle.rules_code.specs.typing.Literals.{Checked}
 use Rattle.mich_term.specs.ValueView.{val}
 use Rattle.mich_data.specs.View.{all_pending}
 use Rattle.mich_data.specs.declared.pending.Read.{Read}

@@ -1,20 +1,20 @@
 -- What is said of scripts, of their bodies and of CREATE_CONTRACT.
 use Rattle.std.specs.Prelude.{ℕ, ◌≡◌, max, Bool, true, false, ◌&&◌, List, [], ◌∷◌, Option, Some, None, Result, Ok, Err}
-use Rattle.rules_base.specs.Tree.{Tree, seq, size}
-use Rattle.rules_types.specs.Kind.{Kind, operation, option, pair, list}
-use Rattle.rules_instructions.specs.Types.{address, mutez, key_hash}
-use Rattle.rules_instructions.specs.Arguments.{Found, found, fault}
-use Rattle.rules_instructions.specs.Context.{Context}
-use Rattle.rules_instructions.specs.Context as standing
-use Rattle.rules_instructions.specs.Same.{same_kind}
-use Rattle.rules_typing.specs.Bodies.{body_fault}
-use Rattle.rules_typing.specs.Nodes.{script_at}
-use Rattle.rules_typing.specs.Sections.{Body}
-use Rattle.rules_typing.specs.Scripts.{Outline, TypedView, View, is_small, code_fault, view_fault, with_views}
+use Rattle.rules_text.specs.nodes.Tree.{Tree, seq, size}
+use Rattle.rules_data.specs.types.Kind.{Kind, operation, option, pair, list}
+use Rattle.rules_code.specs.instructions.Types.{address, mutez, key_hash}
+use Rattle.rules_code.specs.instructions.Arguments.{Found, found, fault}
+use Rattle.rules_code.specs.instructions.Context.{Context}
+use Rattle.rules_code.specs.instructions.Context as standing
+use Rattle.rules_code.specs.instructions.Same.{same_kind}
+use Rattle.rules_code.specs.typing.Bodies.{body_fault}
+use Rattle.rules_code.specs.typing.Nodes.{script_at}
+use Rattle.rules_code.specs.typing.Sections.{Body}
+use Rattle.rules_code.specs.typing.Scripts.{Outline, TypedView, View, is_small, code_fault, view_fault, with_views}
 use Rattle.mich_base.specs.declared.ty.Ty.{Ty}
 use Rattle.mich_base.specs.TypeView.{kind}
 use Rattle.mich_base.specs.View.{tree}
-use Rattle.mich_sections.specs.declared.outline.View.{View as Item}
+use Rattle.mich_check.specs.declared.sections.outline.View.{View as Item}
 use Rattle.mich_overload.specs.View.{kinds}
 use Rattle.mich_instr.specs.Code.{Codes, ScriptCode, ViewCode}
 use Rattle.mich_instr.specs.Code as made

@@ -1,7 +1,7 @@
 // The types that the bodies of a script go from and to.
 ghost use Rattle.std.specs.Prelude.{◌≡◌, IfOk};
-ghost use Rattle.rules_types.specs.Kind.{list, operation, pair};
-ghost use Rattle.rules_typing.specs.Scripts.{is_small};
+ghost use Rattle.rules_data.specs.types.Kind.{list, operation, pair};
+ghost use Rattle.rules_code.specs.typing.Scripts.{is_small};
 ghost use Rattle.mich_base.specs.TypeView.{kind};
 ghost use Rattle.mich_check.specs.Scripts.{AreEnds, code_is_small};
 

@@ -1,6 +1,6 @@
 // The check of the bodies of lambdas.
 ghost use Rattle.std.specs.Prelude.{◌≡◌, ◌<◌, ◌^◌};
-ghost use Rattle.rules_base.specs.Tree.{seq, size};
+ghost use Rattle.rules_text.specs.nodes.Tree.{seq, size};
 ghost use Rattle.mich_base.specs.TypeView.{kind};
 ghost use Rattle.mich_base.specs.View.{tree};
 ghost use Rattle.mich_control.specs.Answers.{IsLambda, inside};

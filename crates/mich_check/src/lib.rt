@@ -4,12 +4,14 @@
 //! is the node's typed code by `IsCode`.
 #![tactic(auto)]
 
+pub mod cache;
 mod creating;
 mod ends;
 mod lambdas;
 mod literals;
 mod nodes;
 mod scripts;
+pub mod sections;
 
 pub use lambdas::check_body;
 pub use literals::{Checked, check_literal, check_literal_at};

@@ -1,9 +1,9 @@
 // Literals, with the bodies of their lambdas.
 ghost use Rattle.std.specs.Prelude.{◌≡◌, ◌+◌, ◌<◌, ◌≤◌, ◌^◌, IfOk};
-ghost use Rattle.laws_types.specs.Laws.{IsWellFormed};
-ghost use Rattle.rules_base.specs.Tree.{size};
-ghost use Rattle.rules_values.specs.Literals.{claims, read};
-ghost use Rattle.rules_typing.specs.Literals.{literal, of_reading};
+ghost use Rattle.laws_data.specs.types.Laws.{IsWellFormed};
+ghost use Rattle.rules_text.specs.nodes.Tree.{size};
+ghost use Rattle.rules_data.specs.values.Literals.{claims, read};
+ghost use Rattle.rules_code.specs.typing.Literals.{literal, of_reading};
 ghost use Rattle.mich_base.specs.TypeView.{kind};
 ghost use Rattle.mich_base.specs.View.{tree};
 ghost use Rattle.mich_data.specs.View.{all_pending};

@@ -1,12 +1,12 @@
 // The check of instructions and blocks.
 ghost use Rattle.std.specs.Prelude.{◌≡◌, ◌+◌, ◌<◌, ◌^◌, [], ◌∷◌};
-ghost use Rattle.rules_base.specs.Tree.{prim, size, sizes};
-ghost use Rattle.rules_base.specs.Primitives.{primitive_of_name};
-ghost use Rattle.rules_instructions.specs.Forms as f;
-ghost use Rattle.rules_instructions.specs.Forms.{form_of};
-ghost use Rattle.rules_typing.specs.Typing.{shift};
-ghost use Rattle.rules_typing.specs.Nodes.{body, tree_type, trees_type};
-ghost use Rattle.rules_typing.specs.Literals.{fault_of_bodies};
+ghost use Rattle.rules_text.specs.nodes.Tree.{prim, size, sizes};
+ghost use Rattle.rules_text.specs.nodes.Primitives.{primitive_of_name};
+ghost use Rattle.rules_code.specs.instructions.Forms as f;
+ghost use Rattle.rules_code.specs.instructions.Forms.{form_of};
+ghost use Rattle.rules_code.specs.typing.Typing.{shift};
+ghost use Rattle.rules_code.specs.typing.Nodes.{body, tree_type, trees_type};
+ghost use Rattle.rules_code.specs.typing.Literals.{fault_of_bodies};
 ghost use Rattle.mich_base.specs.TypeView.{kind};
 ghost use Rattle.mich_base.specs.View.{tree, trees};
 ghost use Rattle.mich_data.specs.View.{all_pending, pending};

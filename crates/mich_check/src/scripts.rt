@@ -1,16 +1,16 @@
 // The check of scripts, and of CREATE_CONTRACT, which has one.
 ghost use Rattle.std.specs.Prelude.{◌≡◌, ◌+◌, ◌<◌, ◌^◌, IfOk, map};
-ghost use Rattle.rules_base.specs.Tree.{prim, size, sizes};
-ghost use Rattle.rules_base.specs.Primitives.{primitive_of_name};
-ghost use Rattle.rules_instructions.specs.Forms as f;
-ghost use Rattle.rules_instructions.specs.Forms.{form_of};
-ghost use Rattle.rules_typing.specs.Typing.{shift};
-ghost use Rattle.rules_typing.specs.Nodes.{tree_type};
+ghost use Rattle.rules_text.specs.nodes.Tree.{prim, size, sizes};
+ghost use Rattle.rules_text.specs.nodes.Primitives.{primitive_of_name};
+ghost use Rattle.rules_code.specs.instructions.Forms as f;
+ghost use Rattle.rules_code.specs.instructions.Forms.{form_of};
+ghost use Rattle.rules_code.specs.typing.Typing.{shift};
+ghost use Rattle.rules_code.specs.typing.Nodes.{tree_type};
 ghost use Rattle.mich_base.specs.TypeView.{kind};
 ghost use Rattle.mich_base.specs.View.{tree, trees};
 ghost use Rattle.mich_overload.specs.View.{kinds};
-ghost use Rattle.mich_sections.specs.Outlines.{outline_at};
-ghost use Rattle.mich_sections.specs.View.{body_of, outline_of, view_of};
+ghost use Rattle.mich_check.specs.sections.Outlines.{outline_at};
+ghost use Rattle.mich_check.specs.sections.View.{body_of, outline_of, view_of};
 ghost use Rattle.mich_instr.specs.View.{codes, script_code, view_code, view_codes};
 ghost use Rattle.mich_control.specs.View.{context};
 ghost use Rattle.mich_control.specs.Answers.{IsFound, IsInstr};
@@ -19,10 +19,10 @@ ghost use Rattle.mich_check.specs.Scripts.{AreTypedViews, IsScriptCode, IsTyped,
 use crate::creating::{origination, stack_behind};
 use crate::ends::{Ends, code_ends, view_ends};
 use crate::nodes::check_body;
+use crate::sections::{Outline, Placed, SectionsError, View, read_outline};
 use mich_base::{App, Memory, Node, Rows, Shared, Ty, copy_node, copy_type};
 use mich_control::{CheckError, Made, Place, ends_in, is_view, only};
 use mich_instr::{Block, Instr, Script, ViewCode};
-use mich_sections::{Outline, Placed, SectionsError, View, read_outline};
 use std::alloc::Global;
 
 // The types of a script and its bodies.

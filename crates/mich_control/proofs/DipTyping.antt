@@ -2,16 +2,16 @@
 use Rattle.std.proofs.Common.{◌≡◌, ℕ, ◌+◌, nat_le, ◌&&◌, pos, negsuc, Bool, true, false, List, [], ◌∷◌, ◌++◌, take, drop, length, Option, Some, None, refl, sym, ap, ◌∙◌, subst, arith}
 use Rattle.std.specs.Prelude.{if◌then◌else◌, Result, Ok, Err}
 use Rattle.std.proofs.lemmas.Bool.{leb-true}
-use Rattle.rules_base.specs.Limits.{count_limit}
-use Rattle.rules_base.specs.Tree.{Tree, int, str, bytes, prim, seq, none, more, size, sizes}
-use Rattle.rules_types.specs.Kind.{Kind}
-use Rattle.rules_instructions.specs.Arguments.{Found, found, fault, count_argument}
-use Rattle.rules_instructions.specs.Control.{dip_of}
-use Rattle.rules_instructions.specs.Context.{Context}
-use Rattle.rules_instructions.specs.Forms as f
-use Rattle.rules_typing.specs.Typing.{Typing, goes, fails, bad, shift, under, on_found}
-use Rattle.rules_typing.specs.Acts.{dip_type, last_body}
-use Rattle.rules_typing.specs.Nodes.{bodies, body, tree_type}
+use Rattle.rules_text.specs.nodes.Limits.{count_limit}
+use Rattle.rules_text.specs.nodes.Tree.{Tree, int, str, bytes, prim, seq, none, more, size, sizes}
+use Rattle.rules_data.specs.types.Kind.{Kind}
+use Rattle.rules_code.specs.instructions.Arguments.{Found, found, fault, count_argument}
+use Rattle.rules_code.specs.instructions.Control.{dip_of}
+use Rattle.rules_code.specs.instructions.Context.{Context}
+use Rattle.rules_code.specs.instructions.Forms as f
+use Rattle.rules_code.specs.typing.Typing.{Typing, goes, fails, bad, shift, under, on_found}
+use Rattle.rules_code.specs.typing.Acts.{dip_type, last_body}
+use Rattle.rules_code.specs.typing.Nodes.{bodies, body, tree_type}
 use Rattle.mich_base.specs.declared.node.Node.{Node}
 use Rattle.mich_base.specs.declared.ty.Ty.{Ty}
 use Rattle.mich_base.specs.Counted.{IsNotOne, IsNotTwo}

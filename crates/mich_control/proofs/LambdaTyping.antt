@@ -1,19 +1,19 @@
 -- LAMBDA and LAMBDA_REC.
 use Rattle.std.proofs.Common.{◌≡◌, ℕ, ◌+◌, nat_le, Bool, true, false, List, [], ◌∷◌, Option, Some, None, refl, sym, ap, ◌∙◌, subst, arith}
 use Rattle.std.specs.Prelude.{if◌then◌else◌, Result, Ok, Err}
-use Rattle.rules_base.specs.Limits.{type_limit}
-use Rattle.rules_base.specs.Tree.{Tree, seq, Trees, none, more, prim, size}
-use Rattle.rules_base.specs.Primitives.{primitive_of_name}
-use Rattle.rules_base.specs.declared.Primitive.{Primitive}
-use Rattle.rules_types.specs.Kind.{Kind, nodes, lambda}
-use Rattle.rules_types.specs.Reading.{any_kind}
-use Rattle.rules_instructions.specs.Arguments.{Found, found, and_then, type_argument}
-use Rattle.rules_instructions.specs.Control.{Arrow, lambda_of, call_kinds}
-use Rattle.rules_instructions.specs.Context.{Context}
-use Rattle.rules_instructions.specs.Context as place
-use Rattle.rules_typing.specs.Typing.{Typing, goes, fails, bad, Typer, shift, ends, made, on_found}
-use Rattle.rules_typing.specs.Acts.{Meanings, act_type, lambda_type, lambda_rec_type, last_body}
-use Rattle.rules_typing.specs.Nodes.{bodies, body, tree_type}
+use Rattle.rules_text.specs.nodes.Limits.{type_limit}
+use Rattle.rules_text.specs.nodes.Tree.{Tree, seq, Trees, none, more, prim, size}
+use Rattle.rules_text.specs.nodes.Primitives.{primitive_of_name}
+use Rattle.rules_text.specs.declared.nodes.Primitive.{Primitive}
+use Rattle.rules_data.specs.types.Kind.{Kind, nodes, lambda}
+use Rattle.rules_data.specs.types.Reading.{any_kind}
+use Rattle.rules_code.specs.instructions.Arguments.{Found, found, and_then, type_argument}
+use Rattle.rules_code.specs.instructions.Control.{Arrow, lambda_of, call_kinds}
+use Rattle.rules_code.specs.instructions.Context.{Context}
+use Rattle.rules_code.specs.instructions.Context as place
+use Rattle.rules_code.specs.typing.Typing.{Typing, goes, fails, bad, Typer, shift, ends, made, on_found}
+use Rattle.rules_code.specs.typing.Acts.{Meanings, act_type, lambda_type, lambda_rec_type, last_body}
+use Rattle.rules_code.specs.typing.Nodes.{bodies, body, tree_type}
 use Rattle.mich_base.specs.declared.node.Node.{Node}
 use Rattle.mich_base.specs.declared.ty.Ty.{Ty}
 use Rattle.mich_base.specs.TypeView.{kind}

@@ -2,16 +2,16 @@
 use Rattle.std.proofs.Common.{◌≡◌, ℕ, ◌+◌, Bool, true, false, List, [], ◌∷◌, Option, Some, None, refl, sym, ap, ◌∙◌, subst}
 use Rattle.std.specs.Prelude.{if◌then◌else◌, ◌++◌, length, drop, option_map}
 use Rattle.std.proofs.Math.Seq.{drop-append_seam}
-use Rattle.rules_base.specs.Tree.{prim, seq, Trees, none, more}
-use Rattle.rules_base.specs.Primitives.{primitive_of_name}
-use Rattle.rules_base.specs.declared.Primitive.{Primitive}
-use Rattle.rules_types.specs.Kind.{Kind, or, pair, list, set, map}
-use Rattle.rules_instructions.specs.Types.{bool}
-use Rattle.rules_instructions.specs.Context.{Context}
-use Rattle.rules_typing.specs.Typing.{Typing, goes, fails, bad, Typer, shift, ends}
-use Rattle.rules_typing.specs.Acts.{Meanings, act_type, one_body}
-use Rattle.rules_typing.specs.Nodes.{bodies, body, tree_type}
-use Rattle.laws_types.proofs.ForCallers.{same_kinds_true}
+use Rattle.rules_text.specs.nodes.Tree.{prim, seq, Trees, none, more}
+use Rattle.rules_text.specs.nodes.Primitives.{primitive_of_name}
+use Rattle.rules_text.specs.declared.nodes.Primitive.{Primitive}
+use Rattle.rules_data.specs.types.Kind.{Kind, or, pair, list, set, map}
+use Rattle.rules_code.specs.instructions.Types.{bool}
+use Rattle.rules_code.specs.instructions.Context.{Context}
+use Rattle.rules_code.specs.typing.Typing.{Typing, goes, fails, bad, Typer, shift, ends}
+use Rattle.rules_code.specs.typing.Acts.{Meanings, act_type, one_body}
+use Rattle.rules_code.specs.typing.Nodes.{bodies, body, tree_type}
+use Rattle.laws_data.proofs.types_lemmas.ForCallers.{same_kinds_true}
 use Rattle.mich_base.specs.declared.node.Node.{Node}
 use Rattle.mich_base.specs.declared.ty.Ty.{Ty}
 use Rattle.mich_base.specs.View.{tree, trees}

@@ -2,18 +2,18 @@
 use Rattle.std.proofs.Common.{◌≡◌, ℕ, Bool, true, false, List, [], ◌∷◌, Option, Some, None, refl, sym, ap, ◌∙◌, subst}
 use Rattle.std.specs.Prelude.{if◌then◌else◌, ◌&&◌, option_map}
 use Rattle.std.proofs.lemmas.Bool.{and_parts}
-use Rattle.rules_base.specs.Tree.{prim, Trees, none}
-use Rattle.rules_base.specs.Primitives.{primitive_of_name}
-use Rattle.rules_base.specs.declared.Primitive.{Primitive}
-use Rattle.rules_types.specs.Kind.{Kind, pair, lambda}
-use Rattle.rules_types.specs.Attributes.{pushable}
-use Rattle.rules_instructions.specs.Types.{never}
-use Rattle.rules_instructions.specs.Same.{same_kind}
-use Rattle.rules_instructions.specs.Context.{Context}
-use Rattle.rules_typing.specs.Typing.{Typing, goes, fails, bad, shift}
-use Rattle.rules_typing.specs.Acts.{Meanings, act_type, no_body}
-use Rattle.rules_typing.specs.Nodes.{bodies, tree_type}
-use Rattle.laws_types.proofs.ForCallers.{same_kind_true}
+use Rattle.rules_text.specs.nodes.Tree.{prim, Trees, none}
+use Rattle.rules_text.specs.nodes.Primitives.{primitive_of_name}
+use Rattle.rules_text.specs.declared.nodes.Primitive.{Primitive}
+use Rattle.rules_data.specs.types.Kind.{Kind, pair, lambda}
+use Rattle.rules_data.specs.types.Attributes.{pushable}
+use Rattle.rules_code.specs.instructions.Types.{never}
+use Rattle.rules_code.specs.instructions.Same.{same_kind}
+use Rattle.rules_code.specs.instructions.Context.{Context}
+use Rattle.rules_code.specs.typing.Typing.{Typing, goes, fails, bad, shift}
+use Rattle.rules_code.specs.typing.Acts.{Meanings, act_type, no_body}
+use Rattle.rules_code.specs.typing.Nodes.{bodies, tree_type}
+use Rattle.laws_data.proofs.types_lemmas.ForCallers.{same_kind_true}
 use Rattle.mich_base.specs.declared.node.Node.{Node}
 use Rattle.mich_base.specs.declared.ty.Ty.{Ty}
 use Rattle.mich_base.specs.Counted.{IsNotEmpty}

@@ -1,20 +1,20 @@
 -- SELF.
 use Rattle.std.proofs.Common.{◌≡◌, ℕ, ◌+◌, Bool, true, false, List, [], ◌∷◌, Some, refl, sym, ap, ◌∙◌, subst, arith}
 use Rattle.std.specs.Prelude.{if◌then◌else◌, nat_le, Err}
-use Rattle.rules_base.specs.Limits.{type_limit}
-use Rattle.rules_base.specs.Tree.{prim, Trees, none, more}
-use Rattle.rules_base.specs.Primitives.{primitive_of_name}
-use Rattle.rules_forms.specs.Spelling.{default_name}
-use Rattle.rules_types.specs.Kind.{Kind, nodes, contract}
-use Rattle.rules_types.specs.Entrypoints.{Entry}
-use Rattle.rules_instructions.specs.Arguments.{Found, found, fault, and_then, no_argument, annotated}
-use Rattle.rules_instructions.specs.Control.{self_of}
-use Rattle.rules_instructions.specs.Context.{Context}
-use Rattle.rules_instructions.specs.Context as standing
-use Rattle.rules_instructions.specs.Forms as f
-use Rattle.rules_typing.specs.Typing.{goes, bad, shift, made, on_found}
-use Rattle.rules_typing.specs.Acts.{of_entry, self_type}
-use Rattle.rules_typing.specs.Nodes.{tree_type}
+use Rattle.rules_text.specs.nodes.Limits.{type_limit}
+use Rattle.rules_text.specs.nodes.Tree.{prim, Trees, none, more}
+use Rattle.rules_text.specs.nodes.Primitives.{primitive_of_name}
+use Rattle.rules_data.specs.forms.Spelling.{default_name}
+use Rattle.rules_data.specs.types.Kind.{Kind, nodes, contract}
+use Rattle.rules_data.specs.types.Entrypoints.{Entry}
+use Rattle.rules_code.specs.instructions.Arguments.{Found, found, fault, and_then, no_argument, annotated}
+use Rattle.rules_code.specs.instructions.Control.{self_of}
+use Rattle.rules_code.specs.instructions.Context.{Context}
+use Rattle.rules_code.specs.instructions.Context as standing
+use Rattle.rules_code.specs.instructions.Forms as f
+use Rattle.rules_code.specs.typing.Typing.{goes, bad, shift, made, on_found}
+use Rattle.rules_code.specs.typing.Acts.{of_entry, self_type}
+use Rattle.rules_code.specs.typing.Nodes.{tree_type}
 use Rattle.mich_base.specs.declared.node.Node.{Node}
 use Rattle.mich_base.specs.declared.ty.Ty.{Ty}
 use Rattle.mich_base.specs.Counted.{IsNotEmpty}

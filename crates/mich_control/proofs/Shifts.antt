@@ -1,10 +1,10 @@
 -- Typings at a location.
 use Rattle.std.proofs.Common.{◌≡◌, ℕ, ◌+◌, List, Option, Some, None, refl, sym, ap, ◌∙◌, arith}
-use Rattle.rules_base.specs.Tree.{Tree, int, str, bytes, prim, seq, Trees}
-use Rattle.rules_types.specs.Kind.{Kind}
-use Rattle.rules_instructions.specs.Context.{Context}
-use Rattle.rules_typing.specs.Typing.{Typing, goes, fails, bad, shift}
-use Rattle.rules_typing.specs.Nodes.{body, tree_type, trees_type}
+use Rattle.rules_text.specs.nodes.Tree.{Tree, int, str, bytes, prim, seq, Trees}
+use Rattle.rules_data.specs.types.Kind.{Kind}
+use Rattle.rules_code.specs.instructions.Context.{Context}
+use Rattle.rules_code.specs.typing.Typing.{Typing, goes, fails, bad, shift}
+use Rattle.rules_code.specs.typing.Nodes.{body, tree_type, trees_type}
 use Rattle.mich_base.specs.declared.ty.Ty.{Ty}
 use Rattle.mich_control.specs.declared.error.CheckError.{CheckError}
 use Rattle.mich_control.specs.declared.error.CheckError.TheVariants as error

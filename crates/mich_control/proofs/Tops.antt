@@ -4,10 +4,10 @@ use Rattle.std.specs.Prelude.{IsTrue, ◌↔◌, slice_get, nat_le, if◌then◌
 use Rattle.std.proofs.lemmas.Bool.{le-leb, lt-leb}
 use Rattle.std.proofs.lemmas.List.{reverse-append, reverse-reverse, map-append, length-drop, take-append-drop}
 use Rattle.std.proofs.Math.Seq.{take-append_seam}
-use Rattle.rules_types.specs.Kind.{Kind, nodes}
-use Rattle.rules_instructions.specs.Same.{same_kind, same_kinds}
-use Rattle.rules_typing.specs.Typing.{goes, bad, shift, made}
-use Rattle.laws_types.proofs.ForCallers.{same_kind_refl, same_kind_true, same_kinds_refl, same_kinds_true}
+use Rattle.rules_data.specs.types.Kind.{Kind, nodes}
+use Rattle.rules_code.specs.instructions.Same.{same_kind, same_kinds}
+use Rattle.rules_code.specs.typing.Typing.{goes, bad, shift, made}
+use Rattle.laws_data.proofs.types_lemmas.ForCallers.{same_kind_refl, same_kind_true, same_kinds_refl, same_kinds_true}
 use Rattle.mich_base.specs.declared.ty.Ty.{Ty}
 use Rattle.mich_base.specs.TypeView.{kind}
 use Rattle.mich_overload.specs.View.{kinds}

@@ -1,6 +1,6 @@
 -- The plain nodes and code of the variants of the code.
 use Rattle.std.proofs.Common.{◌≡◌, ℕ, Bool, List, [], rules, sym, ap, ◌∙◌}
-use Rattle.rules_base.specs.Tree.{prim, seq}
+use Rattle.rules_text.specs.nodes.Tree.{prim, seq}
 use Rattle.mich_base.specs.declared.node.Node.{Node}
 use Rattle.mich_base.specs.declared.ty.Ty.{Ty}
 use Rattle.mich_base.specs.TypeView.{kind}

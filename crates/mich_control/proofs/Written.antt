@@ -1,22 +1,22 @@
 -- What is kept of applications.
 use Rattle.std.proofs.Common.{◌≡◌, ℕ, ◌≤◌, true, false, List, [], ◌∷◌, length, map, take, refl, sym, ap, ◌∙◌, subst}
 use Rattle.std.proofs.lemmas.List.{take_all}
-use Rattle.rules_base.specs.Tree.{Tree, prim, Trees, more, trees_of}
-use Rattle.rules_base.specs.Primitives.{primitive_of_name}
+use Rattle.rules_text.specs.nodes.Tree.{Tree, prim, Trees, more, trees_of}
+use Rattle.rules_text.specs.nodes.Primitives.{primitive_of_name}
 use Rattle.std.specs.Prelude.{if◌then◌else◌, Option, Some}
-use Rattle.rules_base.specs.declared.Primitive.{Primitive}
-use Rattle.rules_base.specs.declared.Primitive.TheVariants as p
-use Rattle.rules_types.specs.Entrypoints.{field_name}
+use Rattle.rules_text.specs.declared.nodes.Primitive.{Primitive}
+use Rattle.rules_text.specs.declared.nodes.Primitive.TheVariants as p
+use Rattle.rules_data.specs.types.Entrypoints.{field_name}
 use Rattle.mich_control.specs.Kept.{is_named}
-use Rattle.rules_types.specs.Kind.{Kind}
-use Rattle.rules_instructions.specs.Straight.{Straight}
-use Rattle.rules_instructions.specs.Context.{Context}
-use Rattle.rules_instructions.specs.Context as place
-use Rattle.rules_instructions.specs.Forms as f
-use Rattle.rules_instructions.specs.Rules.{Ruled, ruled, faulty, rule}
-use Rattle.rules_typing.specs.Typing.{Typing, goes, bad, shift}
-use Rattle.rules_typing.specs.Acts.{of_rule, outside_views}
-use Rattle.rules_typing.specs.Nodes.{tree_type}
+use Rattle.rules_data.specs.types.Kind.{Kind}
+use Rattle.rules_code.specs.instructions.Straight.{Straight}
+use Rattle.rules_code.specs.instructions.Context.{Context}
+use Rattle.rules_code.specs.instructions.Context as place
+use Rattle.rules_code.specs.instructions.Forms as f
+use Rattle.rules_code.specs.instructions.Rules.{Ruled, ruled, faulty, rule}
+use Rattle.rules_code.specs.typing.Typing.{Typing, goes, bad, shift}
+use Rattle.rules_code.specs.typing.Acts.{of_rule, outside_views}
+use Rattle.rules_code.specs.typing.Nodes.{tree_type}
 use Rattle.mich_base.specs.declared.node.Node.{Node}
 use Rattle.mich_base.specs.declared.ty.Ty.{Ty}
 use Rattle.mich_base.specs.View.{tree, trees}

@@ -1,14 +1,14 @@
 -- What the answers of the calls say.
 use Rattle.std.specs.Prelude.{◌≡◌, Bool, true, List, [], ◌∷◌, Option, Some, None, Result, Ok, Err}
-use Rattle.rules_base.specs.Tree.{Tree, seq, Trees, none}
-use Rattle.rules_types.specs.Kind.{Kind}
-use Rattle.rules_instructions.specs.Arguments.{Found, found, fault}
-use Rattle.rules_instructions.specs.Same.{same_kinds}
-use Rattle.rules_instructions.specs.Context.{Context, lambda}
-use Rattle.rules_instructions.specs.Control.{call_kinds}
-use Rattle.rules_typing.specs.Literals.{lambda_fault}
+use Rattle.rules_text.specs.nodes.Tree.{Tree, seq, Trees, none}
+use Rattle.rules_data.specs.types.Kind.{Kind}
+use Rattle.rules_code.specs.instructions.Arguments.{Found, found, fault}
+use Rattle.rules_code.specs.instructions.Same.{same_kinds}
+use Rattle.rules_code.specs.instructions.Context.{Context, lambda}
+use Rattle.rules_code.specs.instructions.Control.{call_kinds}
+use Rattle.rules_code.specs.typing.Literals.{lambda_fault}
 use Rattle.mich_instr.specs.declared.instr.Instr.{Instr}
-use Rattle.rules_typing.specs.Typing.{Typing, goes, fails, bad}
+use Rattle.rules_code.specs.typing.Typing.{Typing, goes, fails, bad}
 use Rattle.mich_base.specs.declared.ty.Ty.{Ty}
 use Rattle.mich_overload.specs.View.{kinds}
 use Rattle.mich_instr.specs.View.{code, codes}

@@ -1,12 +1,12 @@
 -- What is read of LAMBDA, and what is made of it.
 use Rattle.std.specs.Prelude.{◌≡◌, ℕ, ◌+◌, nat_le, Bool, true, false, List, [], ◌∷◌, Result, Ok, Err}
-use Rattle.rules_base.specs.Limits.{type_limit}
-use Rattle.rules_base.specs.Tree.{Tree, none, more, size}
-use Rattle.rules_types.specs.Kind.{Kind, nodes, lambda}
-use Rattle.rules_types.specs.Reading.{any_kind}
-use Rattle.rules_instructions.specs.Arguments.{Found, found, and_then, type_argument}
-use Rattle.rules_instructions.specs.Control.{Arrow, call_kinds}
-use Rattle.rules_typing.specs.Typing.{Typing, ends, made, shift}
+use Rattle.rules_text.specs.nodes.Limits.{type_limit}
+use Rattle.rules_text.specs.nodes.Tree.{Tree, none, more, size}
+use Rattle.rules_data.specs.types.Kind.{Kind, nodes, lambda}
+use Rattle.rules_data.specs.types.Reading.{any_kind}
+use Rattle.rules_code.specs.instructions.Arguments.{Found, found, and_then, type_argument}
+use Rattle.rules_code.specs.instructions.Control.{Arrow, call_kinds}
+use Rattle.rules_code.specs.typing.Typing.{Typing, ends, made, shift}
 use Rattle.mich_base.specs.declared.ty.Ty.{Ty}
 use Rattle.mich_base.specs.TypeView.{kind}
 use Rattle.mich_overload.specs.View.{kinds}

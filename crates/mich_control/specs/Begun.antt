@@ -1,12 +1,12 @@
 -- The stacks that bodies begin with, by what instructions with bodies find.
 use Rattle.std.specs.Prelude.{ℕ, Bool, true, false, ◌&&◌, List, [], ◌∷◌, ◌++◌, Option, Some, None}
-use Rattle.rules_types.specs.Kind.{Kind, option, or, pair, list, set, map, lambda}
-use Rattle.rules_types.specs.Attributes.{pushable}
-use Rattle.rules_types.specs.Entrypoints.{Entry, find_entry}
-use Rattle.rules_instructions.specs.Context.{Context}
-use Rattle.rules_instructions.specs.Context as standing
-use Rattle.rules_instructions.specs.Types.{bool, never}
-use Rattle.rules_instructions.specs.Same.{same_kind}
+use Rattle.rules_data.specs.types.Kind.{Kind, option, or, pair, list, set, map, lambda}
+use Rattle.rules_data.specs.types.Attributes.{pushable}
+use Rattle.rules_data.specs.types.Entrypoints.{Entry, find_entry}
+use Rattle.rules_code.specs.instructions.Context.{Context}
+use Rattle.rules_code.specs.instructions.Context as standing
+use Rattle.rules_code.specs.instructions.Types.{bool, never}
+use Rattle.rules_code.specs.instructions.Same.{same_kind}
 use Rattle.mich_instr.specs.Code.{Code}
 use Rattle.mich_instr.specs.Code as made
 use Rattle.mich_control.specs.declared.form.Branch.{Branch}

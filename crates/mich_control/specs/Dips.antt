@@ -1,11 +1,11 @@
 -- What is read of DIP, and what is made of it.
 use Rattle.std.specs.Prelude.{◌≡◌, ℕ, ◌+◌, nat_le, true, false, List, [], ◌∷◌, take, drop, length, Option, Some, None, Result, Ok, Err}
-use Rattle.rules_base.specs.Limits.{count_limit}
-use Rattle.rules_base.specs.Tree.{Trees, none, more, size}
-use Rattle.rules_types.specs.Kind.{Kind}
-use Rattle.rules_instructions.specs.Arguments.{found, count_argument}
-use Rattle.rules_instructions.specs.Control.{dip_of}
-use Rattle.rules_typing.specs.Typing.{shift, under}
+use Rattle.rules_text.specs.nodes.Limits.{count_limit}
+use Rattle.rules_text.specs.nodes.Tree.{Trees, none, more, size}
+use Rattle.rules_data.specs.types.Kind.{Kind}
+use Rattle.rules_code.specs.instructions.Arguments.{found, count_argument}
+use Rattle.rules_code.specs.instructions.Control.{dip_of}
+use Rattle.rules_code.specs.typing.Typing.{shift, under}
 use Rattle.mich_base.specs.declared.node.Node.{Node}
 use Rattle.mich_base.specs.declared.ty.Ty.{Ty}
 use Rattle.mich_base.specs.View.{tree, trees}

@@ -1,7 +1,7 @@
 -- What MAP goes through, and what is made of it.
 use Rattle.std.specs.Prelude.{◌≡◌, ℕ, List, [], ◌∷◌, Option, Some, None, Result, Ok, Err}
-use Rattle.rules_types.specs.Kind.{Kind, option, pair, list, map}
-use Rattle.rules_typing.specs.Typing.{mapped, shift}
+use Rattle.rules_data.specs.types.Kind.{Kind, option, pair, list, map}
+use Rattle.rules_code.specs.typing.Typing.{mapped, shift}
 use Rattle.mich_base.specs.TypeView.{kind}
 use Rattle.mich_overload.specs.View.{kinds}
 use Rattle.mich_instr.specs.Code as made

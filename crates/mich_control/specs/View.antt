@@ -1,9 +1,9 @@
 -- What the types of the code stand for.
 use Rattle.std.specs.Prelude.{Bool, true, false, ◌++◌, drop, map, option_map}
-use Rattle.rules_instructions.specs.Context.{Context}
-use Rattle.rules_instructions.specs.Context as standing
-use Rattle.rules_instructions.specs.Forms.{Form}
-use Rattle.rules_instructions.specs.Forms as f
+use Rattle.rules_code.specs.instructions.Context.{Context}
+use Rattle.rules_code.specs.instructions.Context as standing
+use Rattle.rules_code.specs.instructions.Forms.{Form}
+use Rattle.rules_code.specs.instructions.Forms as f
 use Rattle.mich_types.specs.Entered.{entry_of}
 use Rattle.mich_instr.specs.View.{code}
 use Rattle.mich_instr.specs.Code.{Code, Codes}

@@ -1,7 +1,7 @@
 // LAMBDA and LAMBDA_REC.
 ghost use Rattle.std.specs.Prelude.{◌≡◌, ◌+◌, ◌<◌, ◌^◌, IfOk};
-ghost use Rattle.rules_base.specs.Tree.{more, none, size};
-ghost use Rattle.rules_instructions.specs.Control.{call_kinds};
+ghost use Rattle.rules_text.specs.nodes.Tree.{more, none, size};
+ghost use Rattle.rules_code.specs.instructions.Control.{call_kinds};
 ghost use Rattle.mich_base.specs.TypeView.{kind};
 ghost use Rattle.mich_base.specs.View.{tree, trees};
 ghost use Rattle.mich_overload.specs.View.{kinds};

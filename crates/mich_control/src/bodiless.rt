@@ -1,6 +1,6 @@
 // EXEC, APPLY, FAILWITH and NEVER.
 ghost use Rattle.std.specs.Prelude.{◌≡◌, ◌∷◌, drop, IfOk, MatchOption, option_map};
-ghost use Rattle.rules_types.specs.Kind.{lambda, pair};
+ghost use Rattle.rules_data.specs.types.Kind.{lambda, pair};
 ghost use Rattle.mich_base.specs.TypeView.{kind};
 ghost use Rattle.mich_overload.specs.View.{kinds};
 ghost use Rattle.mich_control.specs.declared.form.Bodiless.TheVariants as bodiless;

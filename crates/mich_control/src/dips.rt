@@ -1,7 +1,7 @@
 // DIP.
 ghost use Rattle.std.specs.Prelude.{◌≡◌, ◌+◌, ◌<◌, ◌≤◌, ◌^◌, ◌++◌, IfOk};
-ghost use Rattle.rules_base.specs.Tree.{size, sizes};
-ghost use Rattle.rules_typing.specs.Typing.{shift, under};
+ghost use Rattle.rules_text.specs.nodes.Tree.{size, sizes};
+ghost use Rattle.rules_code.specs.typing.Typing.{shift, under};
 ghost use Rattle.mich_base.specs.View.{tree, trees};
 ghost use Rattle.mich_overload.specs.View.{kinds};
 ghost use Rattle.mich_instr.specs.Code as made;

@@ -1,7 +1,7 @@
 // What kind of instruction a name is.
 ghost use Rattle.std.specs.Prelude.{◌≡◌, Some};
-ghost use Rattle.rules_base.specs.Primitives.{primitive_of_name};
-ghost use Rattle.rules_instructions.specs.Forms.{form_of};
+ghost use Rattle.rules_text.specs.nodes.Primitives.{primitive_of_name};
+ghost use Rattle.rules_code.specs.instructions.Forms.{form_of};
 ghost use Rattle.mich_control.specs.View.{form};
 
 use mich_base::{Primitive, Text, primitive_of_name};

@@ -1,7 +1,7 @@
 // How branches and bodies come together.
 ghost use Rattle.std.specs.Prelude.{◌≡◌, ◌↔◌, IsTrue};
-ghost use Rattle.rules_instructions.specs.Same.{same_kinds};
-ghost use Rattle.rules_typing.specs.Typing.{join, shift};
+ghost use Rattle.rules_code.specs.instructions.Same.{same_kinds};
+ghost use Rattle.rules_code.specs.typing.Typing.{join, shift};
 ghost use Rattle.mich_overload.specs.View.{kinds};
 ghost use Rattle.mich_control.specs.Answers.{IsAfter, ends_in, typing};
 

@@ -1,9 +1,9 @@
 // The check of instructions without bodies.
 ghost use Rattle.std.specs.Prelude.{◌≡◌, ◌+◌, ◌<◌, ◌^◌};
-ghost use Rattle.rules_base.specs.Tree.{prim, sizes};
-ghost use Rattle.rules_instructions.specs.Forms as f;
-ghost use Rattle.rules_typing.specs.Typing.{shift};
-ghost use Rattle.rules_typing.specs.Nodes.{tree_type};
+ghost use Rattle.rules_text.specs.nodes.Tree.{prim, sizes};
+ghost use Rattle.rules_code.specs.instructions.Forms as f;
+ghost use Rattle.rules_code.specs.typing.Typing.{shift};
+ghost use Rattle.rules_code.specs.typing.Nodes.{tree_type};
 ghost use Rattle.mich_base.specs.View.{trees};
 ghost use Rattle.mich_overload.specs.View.{kinds};
 ghost use Rattle.mich_instr.specs.Typed.{HasForm};

@@ -1,6 +1,6 @@
 // MAP.
 ghost use Rattle.std.specs.Prelude.{◌≡◌, IfOk, option_map};
-ghost use Rattle.rules_typing.specs.Typing.{part_kind};
+ghost use Rattle.rules_code.specs.typing.Typing.{part_kind};
 ghost use Rattle.mich_base.specs.TypeView.{kind};
 ghost use Rattle.mich_overload.specs.View.{kinds};
 ghost use Rattle.mich_control.specs.Answers.{typing};

@@ -1,8 +1,8 @@
 // Applications without the annotations that have no effect.
 ghost use Rattle.std.specs.Prelude.{◌≡◌, ◌∷◌, Some, IfOk};
-ghost use Rattle.rules_base.specs.Tree.{prim};
-ghost use Rattle.rules_base.specs.Primitives.{primitive_of_name};
-ghost use Rattle.rules_types.specs.Entrypoints.{field_name};
+ghost use Rattle.rules_text.specs.nodes.Tree.{prim};
+ghost use Rattle.rules_text.specs.nodes.Primitives.{primitive_of_name};
+ghost use Rattle.rules_data.specs.types.Entrypoints.{field_name};
 ghost use Rattle.mich_base.specs.View.{app_tree, tree, trees};
 ghost use Rattle.mich_instr.specs.Plain.{bare, bares, kept, naming};
 ghost use Rattle.mich_control.specs.Kept.{is_named};

@@ -1,6 +1,6 @@
 // PUSH.
 ghost use Rattle.std.specs.Prelude.{◌≡◌, ◌∷◌, IfOk};
-ghost use Rattle.rules_typing.specs.Typing.{goes};
+ghost use Rattle.rules_code.specs.typing.Typing.{goes};
 ghost use Rattle.mich_base.specs.TypeView.{kind};
 ghost use Rattle.mich_base.specs.View.{tree};
 ghost use Rattle.mich_overload.specs.View.{kinds};

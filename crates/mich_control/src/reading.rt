@@ -1,9 +1,9 @@
 // The arguments of instructions that have bodies.
 ghost use Rattle.std.specs.Prelude.{◌≡◌, ◌+◌, ◌<◌, ◌^◌};
-ghost use Rattle.rules_base.specs.Limits.{count_limit};
-ghost use Rattle.rules_base.specs.Tree.{size};
-ghost use Rattle.rules_forms.specs.Spelling.{default_name};
-ghost use Rattle.rules_instructions.specs.Arguments.{annotated, count_argument, type_argument};
+ghost use Rattle.rules_text.specs.nodes.Limits.{count_limit};
+ghost use Rattle.rules_text.specs.nodes.Tree.{size};
+ghost use Rattle.rules_data.specs.forms.Spelling.{default_name};
+ghost use Rattle.rules_code.specs.instructions.Arguments.{annotated, count_argument, type_argument};
 ghost use Rattle.mich_base.specs.TypeView.{kind};
 ghost use Rattle.mich_base.specs.View.{tree};
 ghost use Rattle.mich_stackrules.specs.Answers.{found_from};

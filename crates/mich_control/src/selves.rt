@@ -1,11 +1,11 @@
 // SELF.
 ghost use Rattle.std.specs.Prelude.{◌≡◌, IfOk, option_map};
-ghost use Rattle.rules_base.specs.Tree.{prim};
-ghost use Rattle.rules_types.specs.Kind.{contract};
-ghost use Rattle.rules_instructions.specs.Control.{self_of};
-ghost use Rattle.rules_instructions.specs.Forms as f;
-ghost use Rattle.rules_typing.specs.Typing.{shift};
-ghost use Rattle.rules_typing.specs.Nodes.{tree_type};
+ghost use Rattle.rules_text.specs.nodes.Tree.{prim};
+ghost use Rattle.rules_data.specs.types.Kind.{contract};
+ghost use Rattle.rules_code.specs.instructions.Control.{self_of};
+ghost use Rattle.rules_code.specs.instructions.Forms as f;
+ghost use Rattle.rules_code.specs.typing.Typing.{shift};
+ghost use Rattle.rules_code.specs.typing.Nodes.{tree_type};
 ghost use Rattle.mich_base.specs.TypeView.{kind};
 ghost use Rattle.mich_base.specs.View.{trees};
 ghost use Rattle.mich_types.specs.Entered.{entry_of};

@@ -1,6 +1,6 @@
 // The stacks that instructions with branches and loops ask for.
 ghost use Rattle.std.specs.Prelude.{◌≡◌, ◌∷◌, ◌++◌, [], drop, Some, IfOk, option_map};
-ghost use Rattle.rules_types.specs.Kind.{pair};
+ghost use Rattle.rules_data.specs.types.Kind.{pair};
 ghost use Rattle.mich_base.specs.TypeView.{kind};
 ghost use Rattle.mich_overload.specs.View.{kinds};
 ghost use Rattle.mich_instr.specs.View.{code, codes};

@@ -1,6 +1,6 @@
 // Stacks of types.
 ghost use Rattle.std.specs.Prelude.{◌≡◌, [], ◌∷◌, ◌++◌, drop, IfOk, MatchOption};
-ghost use Rattle.rules_typing.specs.Typing.{made, shift};
+ghost use Rattle.rules_code.specs.typing.Typing.{made, shift};
 ghost use Rattle.mich_base.specs.TypeView.{kind};
 ghost use Rattle.mich_overload.specs.View.{kinds};
 ghost use Rattle.mich_control.specs.Answers.{IsStack};

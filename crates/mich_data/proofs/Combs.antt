@@ -1,8 +1,8 @@
 -- The parts of a pair, read one by one.
 use Rattle.std.proofs.Common.{◌≡◌, ℕ, ◌+◌, ◌<◌, List, [], ◌∷◌, length, refl, sym, ap, ◌∙◌, subst, arith}
-use Rattle.rules_base.specs.Tree.{Trees, size}
-use Rattle.rules_values.specs.Val.{Val, both}
-use Rattle.rules_values.specs.Literals.{Pending, Literal, good, with_pending, and_then, mapped, Reader, read_parts}
+use Rattle.rules_text.specs.nodes.Tree.{Trees, size}
+use Rattle.rules_data.specs.values.Val.{Val, both}
+use Rattle.rules_data.specs.values.Literals.{Pending, Literal, good, with_pending, and_then, mapped, Reader, read_parts}
 use Rattle.mich_base.specs.View.{tree, trees}
 use Rattle.mich_base.specs.declared.node.Node.{Node}
 use Rattle.mich_data.specs.declared.error.ValueError.{ValueError}

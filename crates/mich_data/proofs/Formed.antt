@@ -3,12 +3,12 @@ use Rattle.std.proofs.Common.{◌≡◌, ℕ, ℤ, Bool, true, List, [], ◌∷�
 use Rattle.std.specs.Prelude.{is_some}
 use Rattle.std.specs.List.{AllByRecursion}
 use Rattle.std.proofs.lemmas.Bool.{and_parts}
-use Rattle.rules_types.specs.Kind.{Kind}
-use Rattle.rules_types.specs.Kind as k
-use Rattle.rules_types.specs.Attributes.{big_value, duplicable}
-use Rattle.rules_values.specs.Val.{Val, Pairs}
-use Rattle.rules_values.specs.Tickets.{Held, tickets, all_tickets, pair_tickets}
-use Rattle.laws_types.specs.Laws.{IsWellFormed}
+use Rattle.rules_data.specs.types.Kind.{Kind}
+use Rattle.rules_data.specs.types.Kind as k
+use Rattle.rules_data.specs.types.Attributes.{big_value, duplicable}
+use Rattle.rules_data.specs.values.Val.{Val, Pairs}
+use Rattle.rules_data.specs.values.Tickets.{Held, tickets, all_tickets, pair_tickets}
+use Rattle.laws_data.specs.types.Laws.{IsWellFormed}
 use Rattle.mich_base.specs.declared.node.Node.{Node}
 use Rattle.mich_term.specs.Layers.{NoBigMap, PutsNoBigMap, FormedLayer, AreFormed}
 use Rattle.mich_term.specs.ValueView.{val, vals, pairs, put_pairs, value_step, big_step}

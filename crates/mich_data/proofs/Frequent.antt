@@ -1,7 +1,7 @@
 -- What the names of four letters make.
 use Rattle.std.proofs.Common.{◌≡◌, codes, refl}
-use Rattle.rules_base.specs.Primitives.{code_of_name, primitive_names, primitive_of_code, primitive_of_name, primitives}
-use Rattle.rules_values.specs.Literals.{word_of_name, true_word, unit_word, none_word, some_word, left_word, pair_word}
+use Rattle.rules_text.specs.nodes.Primitives.{code_of_name, primitive_names, primitive_of_code, primitive_of_name, primitives}
+use Rattle.rules_data.specs.values.Literals.{word_of_name, true_word, unit_word, none_word, some_word, left_word, pair_word}
 
 pub true_is : word_of_name (codes "True") ≡ true_word
 unfolding word_of_name primitive_of_name primitive_of_code code_of_name primitive_names primitives

@@ -8,11 +8,11 @@ use Rattle.std.specs.Map.{keys_of}
 use Rattle.std.specs.List.{AllByRecursion}
 use Rattle.std.specs.List.Sorted.{IsStrictlySortedBy}
 use Rattle.std.proofs.lemmas.Bool.{and_parts, and_from}
-use Rattle.rules_values.specs.Val.{Val, is_comparable}
-use Rattle.rules_values.specs.Literals.{is_behind}
+use Rattle.rules_data.specs.values.Val.{Val, is_comparable}
+use Rattle.rules_data.specs.values.Literals.{is_behind}
 use Rattle.mich_term.specs.View.{datum, datum_step}
 use Rattle.mich_term.specs.Keyed.{by, IsIncreasing}
-use Rattle.laws_values.proofs.ForCallers.{order_lawful}
+use Rattle.laws_data.proofs.values_lemmas.ForCallers.{order_lawful}
 use Rattle.mich_term.specs.declared.datum.Datum.{Datum, ind-Datum, fold-roll-Datum, roll-Datum, map-Datum}
 use Rattle.mich_term.specs.declared.datum.Datum.TheOpen.{Datum-F}
 

@@ -1,9 +1,9 @@
 -- Elements of a list, read one by one.
 use Rattle.std.proofs.Common.{◌≡◌, ℕ, ◌+◌, ◌<◌, ◌≤◌, List, [], ◌∷◌, ◌++◌, map, drop, length, get_or, refl, sym, ap, ◌∙◌}
 use Rattle.std.proofs.lemmas.List.{map-append, append-nil}
-use Rattle.rules_base.specs.Tree.{Tree, Trees, none, more, size}
-use Rattle.rules_values.specs.Val.{Val, Vals, no_val, more_vals, list}
-use Rattle.rules_values.specs.Literals.{Pending, Literal, good, bad, with_pending, mapped, Reader, read_elements}
+use Rattle.rules_text.specs.nodes.Tree.{Tree, Trees, none, more, size}
+use Rattle.rules_data.specs.values.Val.{Val, Vals, no_val, more_vals, list}
+use Rattle.rules_data.specs.values.Literals.{Pending, Literal, good, bad, with_pending, mapped, Reader, read_elements}
 use Rattle.mich_term.specs.View.{vals_of}
 use Rattle.mich_term.specs.ValueView.{val, vals}
 use Rattle.mich_term.specs.declared.value.Value.{Value}

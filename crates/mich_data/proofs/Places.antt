@@ -1,7 +1,7 @@
 -- What is left of a list of nodes.
 use Rattle.std.proofs.Common.{◌≡◌, ℕ, suc, ◌+◌, ◌<◌, ◌≤◌, List, drop, length, get_or, sym, ap, ◌∙◌, drop-cons, add-one, arith}
 use Rattle.std.proofs.lemmas.List.{drop_all}
-use Rattle.rules_base.specs.Tree.{none, more, size, sizes}
+use Rattle.rules_text.specs.nodes.Tree.{none, more, size, sizes}
 use Rattle.mich_base.specs.View.{tree, trees}
 use Rattle.mich_base.specs.declared.node.Node.{Node}
 

@@ -3,9 +3,9 @@ use Rattle.std.proofs.Common.{◌≡◌, ℕ, ◌+◌, ◌-◌, ◌<◌, ◌≤�
 use Rattle.std.specs.Prelude.{slice_get}
 use Rattle.std.proofs.lemmas.List.{map-append}
 use Rattle.std.proofs.lemmas.Bool.{cond-true, cond-false}
-use Rattle.rules_base.specs.Tree.{Tree, Trees, none, more, size}
-use Rattle.rules_values.specs.Val.{Val, Vals, more_vals, set}
-use Rattle.rules_values.specs.Literals.{Pending, Literal, good, bad, with_pending, mapped, Reader, is_behind, read_increasing}
+use Rattle.rules_text.specs.nodes.Tree.{Tree, Trees, none, more, size}
+use Rattle.rules_data.specs.values.Val.{Val, Vals, more_vals, set}
+use Rattle.rules_data.specs.values.Literals.{Pending, Literal, good, bad, with_pending, mapped, Reader, is_behind, read_increasing}
 use Rattle.mich_term.specs.View.{datum, datums}
 use Rattle.mich_term.specs.Keyed.{put, IsIncreasing}
 use Rattle.mich_term.proofs.ForCallers.{put_last, by_lawful}

@@ -2,7 +2,7 @@
 use Rattle.std.proofs.Common.{◌≡◌, ℕ, true, false, Option, Some, None, List, sym, is_some, option_map}
 use Rattle.std.specs.Option.{SomeIff, MatchOption}
 use Rattle.std.proofs.lemmas.Bool.{false_from_ne_true}
-use Rattle.rules_forms.specs.Spelling.{IsAddress, is_address}
+use Rattle.rules_data.specs.forms.Spelling.{IsAddress, is_address}
 use Rattle.mich_forms.specs.Spelled.{address_bytes}
 use Rattle.mich_forms.specs.declared.addresses.Address.{Address}
 

@@ -1,8 +1,8 @@
 -- How a literal is read part by part, with what is still to be tried put behind what is there.
 use Rattle.std.proofs.Common.{◌≡◌, ℕ, List, [], ◌++◌, refl, sym, ap, ◌∙◌, subst, append_assoc, Result}
-use Rattle.rules_base.specs.Tree.{Tree, Trees}
-use Rattle.rules_types.specs.Kind.{Kind}
-use Rattle.rules_values.specs.Literals.{Pending, Literal, good, bad, with_pending, and_then, mapped, read, read_rest}
+use Rattle.rules_text.specs.nodes.Tree.{Tree, Trees}
+use Rattle.rules_data.specs.types.Kind.{Kind}
+use Rattle.rules_data.specs.values.Literals.{Pending, Literal, good, bad, with_pending, and_then, mapped, read, read_rest}
 use Rattle.mich_data.specs.declared.error.ValueError.{ValueError}
 use Rattle.mich_data.specs.declared.error.ValueError.TheVariants as error
 use Rattle.mich_data.specs.declared.reading.Reading.{Reading}

@@ -5,12 +5,12 @@ use Rattle.std.specs.Map.{keys_of}
 use Rattle.std.specs.List.{AllByRecursion}
 use Rattle.std.proofs.lemmas.List.{map-append, append-nil, append_assoc}
 use Rattle.std.proofs.lemmas.Bool.{cond-true, cond-false}
-use Rattle.rules_base.specs.Tree.{Tree, Trees, none, more, size}
-use Rattle.rules_values.specs.Val.{Val, Pairs, no_pair, more_pairs}
-use Rattle.rules_values.specs.Literals.{Pending, Literal, good, bad, with_pending, mapped, Reader, is_behind, Entry, read_binding, read_entry, read_entries}
+use Rattle.rules_text.specs.nodes.Tree.{Tree, Trees, none, more, size}
+use Rattle.rules_data.specs.values.Val.{Val, Pairs, no_pair, more_pairs}
+use Rattle.rules_data.specs.values.Literals.{Pending, Literal, good, bad, with_pending, mapped, Reader, is_behind, Entry, read_binding, read_entry, read_entries}
 use Rattle.mich_term.specs.View.{datum}
-use Rattle.rules_types.specs.Kind.{Kind}
-use Rattle.rules_types.specs.Attributes.{duplicable}
+use Rattle.rules_data.specs.types.Kind.{Kind}
+use Rattle.rules_data.specs.types.Attributes.{duplicable}
 use Rattle.mich_term.specs.ValueView.{val, pairs, put_pairs, big_pairs}
 use Rattle.mich_term.proofs.ForCallers.{big_is, with_last, by_lawful}
 use Rattle.mich_term.specs.declared.value.BigMap.{BigMap, out-BigMap, roll-BigMap, out-roll-BigMap}

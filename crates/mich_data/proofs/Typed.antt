@@ -1,10 +1,10 @@
 -- The kinds of types that are made of others, and the values of lists and sets.
 use Rattle.std.proofs.Common.{◌≡◌, List, rules}
-use Rattle.rules_types.specs.Kind as k
+use Rattle.rules_data.specs.types.Kind as k
 use Rattle.mich_base.specs.TypeView.{kind}
 use Rattle.mich_base.specs.declared.ty.Ty.{Ty, the_lemmas}
 use Rattle.mich_base.specs.declared.ty.Ty.TheVariants as ty
-use Rattle.rules_values.specs.Val as v
+use Rattle.rules_data.specs.values.Val as v
 use Rattle.mich_term.specs.View.{datums}
 use Rattle.mich_term.specs.ValueView.{val, vals, big_pairs}
 use Rattle.mich_term.specs.declared.value.BigMap.{BigMap}

@@ -5,9 +5,9 @@ use Rattle.std.specs.List.{AllByRecursion}
 use Rattle.std.specs.declared.cmp.Ordering.{Ordering}
 use Rattle.std.specs.declared.cmp.Ordering.TheVariants.{Less, Equal, Greater}
 use Rattle.std.specs.Ordering.{match_ordering}
-use Rattle.rules_types.specs.Kind.{Kind}
-use Rattle.rules_types.specs.Kind as k
-use Rattle.rules_types.specs.Attributes.{duplicable}
+use Rattle.rules_data.specs.types.Kind.{Kind}
+use Rattle.rules_data.specs.types.Kind as k
+use Rattle.rules_data.specs.types.Attributes.{duplicable}
 use Rattle.mich_term.specs.Keyed.{by, with}
 use Rattle.mich_term.specs.declared.datum.Datum.{Datum}
 use Rattle.mich_term.specs.declared.value.Value.{Value, out-Value, out-roll-Value}

@@ -1,8 +1,8 @@
 -- Elements and entries that are written one after another.
 use Rattle.std.proofs.Common.{◌≡◌, List, [], ◌∷◌, ◌++◌, map, refl, sym, ap, ◌∙◌, append_assoc, append-nil}
-use Rattle.rules_base.specs.Tree.{Tree, Trees, more, seq, trees_of}
-use Rattle.rules_values.specs.Val.{Vals, no_val, more_vals, Pairs, no_pair, more_pairs}
-use Rattle.rules_values.specs.Canonical.{canonical, canonicals, canonical_entries}
+use Rattle.rules_text.specs.nodes.Tree.{Tree, Trees, more, seq, trees_of}
+use Rattle.rules_data.specs.values.Val.{Vals, no_val, more_vals, Pairs, no_pair, more_pairs}
+use Rattle.rules_data.specs.values.Canonical.{canonical, canonicals, canonical_entries}
 use Rattle.mich_base.specs.View.{tree, trees}
 use Rattle.mich_base.specs.declared.node.Node.{Node}
 use Rattle.mich_data.specs.Written.{element_trees, entry_tree, entry_trees}

@@ -1,11 +1,11 @@
 -- What the answers of the calls say.
 use Rattle.std.specs.Prelude.{ℕ, ◌+◌, ◌≡◌, Bool, true, false, Option, None, List, Result, Ok, Err, option_map}
 use Rattle.std.specs.Borrow.{Bor}
-use Rattle.rules_base.specs.Tree.{Tree, Trees, size, sizes}
-use Rattle.rules_types.specs.Kind.{Kind}
-use Rattle.rules_values.specs.Val.{Val, Pairs}
-use Rattle.rules_values.specs.Literals.{Literal, good, bad, mapped, with_pending, Reader, read, read_rest, read_parts, read_binding, read_entry, read_entries}
-use Rattle.rules_values.specs.Literals as rules
+use Rattle.rules_text.specs.nodes.Tree.{Tree, Trees, size, sizes}
+use Rattle.rules_data.specs.types.Kind.{Kind}
+use Rattle.rules_data.specs.values.Val.{Val, Pairs}
+use Rattle.rules_data.specs.values.Literals.{Literal, good, bad, mapped, with_pending, Reader, read, read_rest, read_parts, read_binding, read_entry, read_entries}
+use Rattle.rules_data.specs.values.Literals as rules
 use Rattle.mich_base.specs.View.{tree}
 use Rattle.mich_base.specs.declared.node.Node.{Node}
 use Rattle.mich_term.specs.ValueView.{val, pairs}

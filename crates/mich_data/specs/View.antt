@@ -1,10 +1,10 @@
 -- What the types of the code stand for.
 use Rattle.std.specs.Prelude.{ℕ, Bool, false, List, map}
-use Rattle.rules_types.specs.declared.Simple.{Simple}
-use Rattle.rules_types.specs.declared.Simple.TheVariants as s
-use Rattle.rules_forms.specs.Spelling.{is_key_hash, is_key, is_signature, is_chain_id, is_address}
-use Rattle.rules_values.specs.Literals.{Word, unit_word, true_word, false_word, none_word, some_word, left_word, right_word, pair_word, entry_word, recursive_word, other_word, is_short}
-use Rattle.rules_values.specs.Literals as rules
+use Rattle.rules_data.specs.declared.types.Simple.{Simple}
+use Rattle.rules_data.specs.declared.types.Simple.TheVariants as s
+use Rattle.rules_data.specs.forms.Spelling.{is_key_hash, is_key, is_signature, is_chain_id, is_address}
+use Rattle.rules_data.specs.values.Literals.{Word, unit_word, true_word, false_word, none_word, some_word, left_word, right_word, pair_word, entry_word, recursive_word, other_word, is_short}
+use Rattle.rules_data.specs.values.Literals as rules
 use Rattle.mich_forms.specs.Spelled.{address_bytes}
 use Rattle.mich_base.specs.View.{tree}
 use Rattle.mich_base.specs.TypeView.{kind}

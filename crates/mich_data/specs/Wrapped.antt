@@ -1,6 +1,6 @@
 -- What is made of the value of an argument, and how the parts of a pair are taken apart.
 use Rattle.std.specs.Prelude.{◌≡◌, ◌<◌, List, [], ◌∷◌, length}
-use Rattle.rules_values.specs.Val.{Val, some, left, right}
+use Rattle.rules_data.specs.values.Val.{Val, some, left, right}
 use Rattle.mich_base.specs.declared.node.Node.{Node}
 use Rattle.mich_data.specs.declared.parts.Parts.{Parts}
 use Rattle.mich_data.specs.declared.parts.Parts.TheVariants as parts

@@ -1,8 +1,8 @@
 -- The literals of elements and entries, as lists of nodes.
 use Rattle.std.specs.Prelude.{List, [], ◌∷◌, codes}
-use Rattle.rules_base.specs.Tree.{Tree}
-use Rattle.rules_values.specs.Val.{Val, Vals, no_val, more_vals, Pairs, no_pair, more_pairs}
-use Rattle.rules_values.specs.Canonical.{canonical, over_two}
+use Rattle.rules_text.specs.nodes.Tree.{Tree}
+use Rattle.rules_data.specs.values.Val.{Val, Vals, no_val, more_vals, Pairs, no_pair, more_pairs}
+use Rattle.rules_data.specs.values.Canonical.{canonical, over_two}
 
 -- the literals of elements
 abbrev pub element_trees : Vals → List Tree

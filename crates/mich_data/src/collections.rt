@@ -1,9 +1,9 @@
 // Lists, sets and maps from nodes.
 ghost use Rattle.std.specs.Prelude.{◌≡◌, ◌+◌, ◌<◌, ◌^◌, true, IfOk};
-ghost use Rattle.rules_base.specs.Tree.{size, sizes};
-ghost use Rattle.rules_types.specs.Kind as k;
-ghost use Rattle.rules_values.specs.Literals.{is_behind, read, read_elements, read_increasing, read_list, read_set, read_table};
-ghost use Rattle.rules_values.specs.Val.{big_table, list, set, table};
+ghost use Rattle.rules_text.specs.nodes.Tree.{size, sizes};
+ghost use Rattle.rules_data.specs.types.Kind as k;
+ghost use Rattle.rules_data.specs.values.Literals.{is_behind, read, read_elements, read_increasing, read_list, read_set, read_table};
+ghost use Rattle.rules_data.specs.values.Val.{big_table, list, set, table};
 ghost use Rattle.mich_base.specs.View.{tree, trees};
 ghost use Rattle.mich_base.specs.TypeView.{kind};
 ghost use Rattle.mich_data.specs.Answers.{AreEntries, AreFound, IsBinding, IsEntry, IsFound, IsKeyBehind, all_entries, made, told};

@@ -1,9 +1,9 @@
 // Lambdas and contracts from nodes, with what is still to be tried of them.
 ghost use Rattle.std.specs.Prelude.{◌≡◌, ◌+◌, ◌<◌, ◌^◌, false, true, IfOk, MatchOption};
-ghost use Rattle.rules_base.specs.Tree.{size};
-ghost use Rattle.rules_types.specs.Kind as k;
-ghost use Rattle.rules_forms.specs.Spelling.{is_address};
-ghost use Rattle.rules_values.specs.Literals.{read_body, read_contract, read_lambda};
+ghost use Rattle.rules_text.specs.nodes.Tree.{size};
+ghost use Rattle.rules_data.specs.types.Kind as k;
+ghost use Rattle.rules_data.specs.forms.Spelling.{is_address};
+ghost use Rattle.rules_data.specs.values.Literals.{read_body, read_contract, read_lambda};
 ghost use Rattle.mich_base.specs.View.{tree};
 ghost use Rattle.mich_base.specs.TypeView.{kind};
 ghost use Rattle.mich_forms.specs.Spelled.{address_bytes};

@@ -1,8 +1,8 @@
 // Options, unions and pairs from nodes.
 ghost use Rattle.std.specs.Prelude.{◌+◌, ◌<◌, ◌^◌, IfOk};
-ghost use Rattle.rules_base.specs.Tree.{size, sizes};
-ghost use Rattle.rules_types.specs.Kind as k;
-ghost use Rattle.rules_values.specs.Literals.{read, read_option, read_or, read_rest};
+ghost use Rattle.rules_text.specs.nodes.Tree.{size, sizes};
+ghost use Rattle.rules_data.specs.types.Kind as k;
+ghost use Rattle.rules_data.specs.values.Literals.{read, read_option, read_or, read_rest};
 ghost use Rattle.mich_base.specs.View.{tree, trees};
 ghost use Rattle.mich_base.specs.TypeView.{kind};
 ghost use Rattle.mich_data.specs.Answers.{AreFound, IsFound, made, pair_of};

@@ -1,10 +1,10 @@
 // Values from their parts.
 ghost use Rattle.std.specs.Prelude.{◌≡◌, IfOk, map};
 ghost use Rattle.std.specs.Map.{keys_of};
-ghost use Rattle.rules_types.specs.Kind.{Kind};
-ghost use Rattle.rules_types.specs.Kind as k;
-ghost use Rattle.rules_types.specs.Attributes.{duplicable};
-ghost use Rattle.rules_values.specs.Val.{big_table, both};
+ghost use Rattle.rules_data.specs.types.Kind.{Kind};
+ghost use Rattle.rules_data.specs.types.Kind as k;
+ghost use Rattle.rules_data.specs.types.Attributes.{duplicable};
+ghost use Rattle.rules_data.specs.values.Val.{big_table, both};
 ghost use Rattle.mich_term.specs.Keyed.{IsIncreasing};
 ghost use Rattle.mich_term.specs.ValueView.{pairs, val};
 ghost use Rattle.mich_data.specs.Whole.{AreWholeEntries, IsWhole, IsWrappedWhole, put_of};

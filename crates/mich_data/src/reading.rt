@@ -1,9 +1,9 @@
 // Values from nodes.
 ghost use Rattle.std.specs.Prelude.{◌+◌, ◌<◌, ◌^◌, IfOk};
-ghost use Rattle.laws_types.specs.Laws.{IsWellFormed};
-ghost use Rattle.rules_base.specs.Tree.{size};
-ghost use Rattle.rules_types.specs.Kind as k;
-ghost use Rattle.rules_values.specs.Literals.{read, read_simple};
+ghost use Rattle.laws_data.specs.types.Laws.{IsWellFormed};
+ghost use Rattle.rules_text.specs.nodes.Tree.{size};
+ghost use Rattle.rules_data.specs.types.Kind as k;
+ghost use Rattle.rules_data.specs.values.Literals.{read, read_simple};
 ghost use Rattle.mich_base.specs.View.{tree};
 ghost use Rattle.mich_base.specs.TypeView.{kind};
 ghost use Rattle.mich_data.specs.Answers.{IsFound, IsLiteral};
@@ -15,7 +15,7 @@ use crate::pending::{Pending, Read};
 use crate::simple::simple_value;
 use mich_base::{Node, Rows, Ty};
 use mich_term::Value;
-use rules_types::Simple;
+use rules_data::types::Simple;
 use std::alloc::Global;
 
 /// The value of a type that a node spells, with what is still to be tried of it, in pre-order: each body of a lambda and

@@ -1,8 +1,8 @@
 // Literals of types without arguments.
 ghost use Rattle.std.specs.Prelude.{◌≡◌, ◌≤◌, IfOk, IfSome, length, nat_le, option_map};
 ghost use Rattle.std.specs.List.{list_all};
-ghost use Rattle.rules_numbers.specs.Limits.{is_int};
-ghost use Rattle.rules_values.specs.Literals.{bare_value, bytes_value, is_amount, is_nat, is_short, is_text, is_text_byte, number_value, simple_value, text_value, truth_of_word, unit_of_word};
+ghost use Rattle.rules_data.specs.numbers.Limits.{is_int};
+ghost use Rattle.rules_data.specs.values.Literals.{bare_value, bytes_value, is_amount, is_nat, is_short, is_text, is_text_byte, number_value, simple_value, text_value, truth_of_word, unit_of_word};
 ghost use Rattle.mich_base.specs.View.{tree};
 ghost use Rattle.mich_term.specs.ValueView.{val};
 ghost use Rattle.mich_term.specs.declared.value.Value.{out-Value};
@@ -13,7 +13,7 @@ use crate::words::{Word, word_of_name};
 use mich_base::{BYTE_LIMIT, MOST_MUTEZ, Memory, Node};
 use mich_forms::{Address, ChainId, Key, KeyHash, Signature};
 use mich_term::Value;
-use rules_types::Simple;
+use rules_data::types::Simple;
 use std::alloc::Global;
 
 #[tactic(auto, using(crate::proofs::Whole::unit_simple))]

@@ -1,7 +1,7 @@
 // The names that literals are made with.
 ghost use Rattle.std.specs.Prelude.{◌≡◌, [], ◌∷◌, Some};
 ghost use Rattle.std.specs.Option.{IfSome};
-ghost use Rattle.rules_values.specs.Literals.{word_of, word_of_name};
+ghost use Rattle.rules_data.specs.values.Literals.{word_of, word_of_name};
 ghost use Rattle.mich_data.specs.View.{word};
 
 use mich_base::{Primitive, Text, primitive_of_name};
@@ -23,7 +23,7 @@ pub(crate) enum Word {
 }
 
 // What a name makes as a literal.
-#[tactic(auto, unfolding(rules_values::specs::Literals::word_of_name))]
+#[tactic(auto, unfolding(rules_data::specs::values::Literals::word_of_name))]
 pub(crate) fn word_of_name(name: &Text) -> Word
     ensures { word result ≡ word_of_name name.now }
 {

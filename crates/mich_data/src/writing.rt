@@ -1,8 +1,8 @@
 // Nodes from values.
 ghost use Rattle.std.specs.Prelude.{◌≡◌, IfOk, codes};
-ghost use Rattle.rules_base.specs.Tree.{seq};
-ghost use Rattle.rules_values.specs.Canonical.{canonical, canonicals, canonical_entries, over_two, truth_node, lambda_node};
-ghost use Rattle.rules_values.specs.Val as values;
+ghost use Rattle.rules_text.specs.nodes.Tree.{seq};
+ghost use Rattle.rules_data.specs.values.Canonical.{canonical, canonicals, canonical_entries, over_two, truth_node, lambda_node};
+ghost use Rattle.rules_data.specs.values.Val as values;
 ghost use Rattle.mich_base.specs.TypeView.{kind};
 ghost use Rattle.mich_base.specs.View.{tree, trees};
 ghost use Rattle.mich_forms.specs.Spelled.{place_bytes};

@@ -1,8 +1,8 @@
 -- Lists put together and taken apart.
 use Rattle.std.proofs.Common.{◌≡◌, ◌≤◌, ◌+◌, ◌-◌, ℕ, true, List, [], ◌∷◌, ◌++◌, length, take, drop, replicate, slice_index, arith, refl, length-append, drop-cons}
 use Rattle.std.proofs.lemmas.List.{take-append-drop, length-replicate, drop-replicate, append_assoc, drop_all, take_at, drop_at}
-use Rattle.rules_forms.specs.Spelling.{IsPlace, IsAddress, is_place, is_written_entrypoint}
-use Rattle.laws_forms.proofs.ForCallers.{place_length}
+use Rattle.rules_data.specs.forms.Spelling.{IsPlace, IsAddress, is_place, is_written_entrypoint}
+use Rattle.laws_data.proofs.forms_lemmas.ForCallers.{place_length}
 use Rattle.mich_forms.specs.Padded.{IsPadded}
 use Rattle.std.specs.Cmp.Derive.{both_true}
 use borrow.Rule.Slice.PartMut.{put_mid}

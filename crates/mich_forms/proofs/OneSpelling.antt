@@ -8,12 +8,12 @@ use Rattle.std.specs.Cmp.Derive.{both_true}
 use Rattle.std.proofs.lemmas.Bool.Decides.{Decides-not}
 use Rattle.std.proofs.lemmas.Slice.Eq.{bytes_eq-Decides}
 use Rattle.std.proofs.lemmas.List.{append_cancel_right, take_at, drop_at}
-use Rattle.rules_forms.specs.Spelling.{IsPlace, IsAddress, IsEntrypoint, default_name, entrypoint_of, is_written_entrypoint, name_of, place_of, spelled_address, written_entrypoint}
+use Rattle.rules_data.specs.forms.Spelling.{IsPlace, IsAddress, IsEntrypoint, default_name, entrypoint_of, is_written_entrypoint, name_of, place_of, spelled_address, written_entrypoint}
 use Rattle.mich_forms.specs.Spelled.{place_bytes, address_bytes}
 use Rattle.mich_forms.specs.declared.places.Place.{Place}
 use Rattle.mich_forms.specs.declared.places.Place.TheVariants.{Implicit, Contract}
 use Rattle.mich_forms.specs.declared.addresses.Address.{Address}
-use Rattle.laws_forms.proofs.ForCallers.{place_length}
+use Rattle.laws_data.proofs.forms_lemmas.ForCallers.{place_length}
 use Rattle.mich_forms.proofs.Joining.{joined_parts}
 
 pub same_place : (p q : Place) → place_bytes p ≡ place_bytes q → p ≡ q

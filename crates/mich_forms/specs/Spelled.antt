@@ -1,6 +1,6 @@
 -- The bytes that a place and an address stand for. The other forms are seen as their bytes.
 use Rattle.std.specs.Prelude.{ℕ, List}
-use Rattle.rules_forms.specs.Spelling.{implicit_place, contract_place, spelled_address}
+use Rattle.rules_data.specs.forms.Spelling.{implicit_place, contract_place, spelled_address}
 use Rattle.mich_forms.specs.declared.places.Place.{Place}
 use Rattle.mich_forms.specs.declared.places.Place.TheVariants.{Implicit, Contract}
 use Rattle.mich_forms.specs.declared.addresses.Address.{Address}

@@ -1,7 +1,7 @@
 // Addresses: a place and an entrypoint.
 ghost use Rattle.std.specs.Prelude.{◌≡◌, option_map, true};
 ghost use Rattle.std.specs.Option.{IfSome, SomeIff};
-ghost use Rattle.rules_forms.specs.Spelling.{IsAddress, IsEntrypoint, IsPlace, entrypoint_of, is_written_entrypoint, place_of, written_entrypoint};
+ghost use Rattle.rules_data.specs.forms.Spelling.{IsAddress, IsEntrypoint, IsPlace, entrypoint_of, is_written_entrypoint, place_of, written_entrypoint};
 ghost use Rattle.mich_forms.specs.Spelled.{address_bytes, place_bytes};
 ghost use Rattle.mich_forms.specs.declared.addresses.Address.{Address};
 

@@ -2,7 +2,7 @@
 ghost use Rattle.std.specs.Prelude.{◌≡◌, ◌↔◌, IsTrue};
 ghost use Rattle.std.specs.List.{list_all};
 ghost use Rattle.std.specs.Option.{SomeIff};
-ghost use Rattle.rules_forms.specs.Spelling.{IsEntrypoint, default_name, is_name_byte};
+ghost use Rattle.rules_data.specs.forms.Spelling.{IsEntrypoint, default_name, is_name_byte};
 
 use crate::padded::padded;
 use std::marker::Model;
@@ -16,7 +16,7 @@ pub struct Entrypoint {
 
 impl Model for Entrypoint {
     ghost use Rattle.std.specs.Prelude.{◌-◌, ℕ, List, ◌++◌, length, take, replicate};
-    ghost use Rattle.rules_forms.specs.Spelling.{IsEntrypoint};
+    ghost use Rattle.rules_data.specs.forms.Spelling.{IsEntrypoint};
     ghost use Rattle.mich_forms.specs.Padded.{IsPadded, padded_back, padded_len};
 
     ghost Value = { List ℕ };

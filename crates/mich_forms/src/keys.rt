@@ -1,7 +1,7 @@
 // Key hashes and public keys.
 ghost use Rattle.std.specs.Prelude.{◌≡◌, ◌≤◌, ◌∷◌};
 ghost use Rattle.std.specs.Option.{SomeIff};
-ghost use Rattle.rules_forms.specs.Spelling.{IsKey, IsKeyHash, key_length};
+ghost use Rattle.rules_data.specs.forms.Spelling.{IsKey, IsKeyHash, key_length};
 
 use crate::short_bytes::ShortBytes;
 use std::marker::Model;
@@ -34,7 +34,7 @@ pub struct Key {
 
 impl Model for Key {
     ghost use Rattle.std.specs.Prelude.{◌≡◌, ◌≤◌, ℕ, List, ◌∷◌, drop, length, slice_index};
-    ghost use Rattle.rules_forms.specs.Spelling.{key_length};
+    ghost use Rattle.rules_data.specs.forms.Spelling.{key_length};
 
     ghost Value = { List ℕ };
 

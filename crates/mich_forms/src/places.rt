@@ -1,7 +1,7 @@
 // Places: implicit accounts and contracts.
 ghost use Rattle.std.specs.Prelude.{◌≡◌, [], ◌∷◌, ◌++◌, length, option_map, slice_index};
 ghost use Rattle.std.specs.Option.{SomeIff};
-ghost use Rattle.rules_forms.specs.Spelling.{IsPlace};
+ghost use Rattle.rules_data.specs.forms.Spelling.{IsPlace};
 ghost use Rattle.mich_forms.specs.Spelled.{place_bytes};
 ghost use Rattle.mich_forms.specs.declared.places.Place.{Place};
 

@@ -1,7 +1,7 @@
 // Signatures and chain ids.
 ghost use Rattle.std.specs.Prelude.{◌≡◌};
 ghost use Rattle.std.specs.Option.{SomeIff};
-ghost use Rattle.rules_forms.specs.Spelling.{IsChainId, IsSignature};
+ghost use Rattle.rules_data.specs.forms.Spelling.{IsChainId, IsSignature};
 
 use crate::short_bytes::ShortBytes;
 use std::marker::Model;

@@ -1,24 +1,24 @@
 -- EXEC and APPLY, FAILWITH and NEVER.
 use Rattle.std.proofs.Common.{◌≡◌, ◌<◌, ◌≤◌, ℕ, Bool, true, false, List, [], ◌∷◌, ◌++◌, Some, None, refl, sym, ap, ◌∙◌, arith}
 use Rattle.std.specs.Prelude.{nat_le}
-use Rattle.rules_base.specs.Limits.{applied_size, applied_depth}
-use Rattle.rules_base.specs.Tree.{Tree, prim, seq, Trees, none}
-use Rattle.rules_gas.specs.declared.Kind.TheVariants as g
-use Rattle.rules_types.specs.Kind.{Kind}
-use Rattle.rules_types.specs.Kind as k
-use Rattle.rules_instructions.specs.Context.{Context}
-use Rattle.rules_instructions.specs.Context as place
-use Rattle.rules_values.specs.Val.{Val}
-use Rattle.rules_values.specs.Val as v
-use Rattle.rules_steps.specs.Failure as f
-use Rattle.rules_evaluation.specs.Operations.{Tally}
-use Rattle.rules_evaluation.specs.Outcome.{Outcome, stack, failed, Go, after, only_if}
+use Rattle.rules_text.specs.nodes.Limits.{applied_size, applied_depth}
+use Rattle.rules_text.specs.nodes.Tree.{Tree, prim, seq, Trees, none}
+use Rattle.rules_data.specs.declared.gas.Kind.TheVariants as g
+use Rattle.rules_data.specs.types.Kind.{Kind}
+use Rattle.rules_data.specs.types.Kind as k
+use Rattle.rules_code.specs.instructions.Context.{Context}
+use Rattle.rules_code.specs.instructions.Context as place
+use Rattle.rules_data.specs.values.Val.{Val}
+use Rattle.rules_data.specs.values.Val as v
+use Rattle.rules_code.specs.steps.Failure as f
+use Rattle.rules_code.specs.evaluation.Operations.{Tally}
+use Rattle.rules_code.specs.evaluation.Outcome.{Outcome, stack, failed, Go, after, only_if}
 use Rattle.std.specs.Prelude.{is_none, if◌then◌else◌}
-use Rattle.rules_typing.specs.Typing.{Typing, goes, fails, bad}
-use Rattle.rules_typing.specs.Bodies.{body_fault}
-use Rattle.rules_typing.specs.Literals.{lambda_fault}
-use Rattle.rules_typing.specs.Fits.{Leads}
-use Rattle.rules_evaluation.specs.Evaluation.{eval_task}
+use Rattle.rules_code.specs.typing.Typing.{Typing, goes, fails, bad}
+use Rattle.rules_code.specs.typing.Bodies.{body_fault}
+use Rattle.rules_code.specs.typing.Literals.{lambda_fault}
+use Rattle.rules_code.specs.typing.Fits.{Leads}
+use Rattle.rules_code.specs.evaluation.Evaluation.{eval_task}
 use Rattle.mich_instr.specs.Code.{Codes}
 use Rattle.mich_instr.specs.Code as made
 use Rattle.mich_frames.specs.Around.{Around, at, less, Pays, Lacks}
@@ -30,20 +30,20 @@ use Rattle.mich_frames.specs.Stands.{Runs, StandsAt, MeetsAt, OpensAt}
 use Rattle.mich_frames.proofs.Paying.{after_after, pays_is, when_paid, when_broke}
 use Rattle.mich_frames.proofs.Made.{stands_of, opens_of, form_is, Case, meets_by, block_of, FineCase, meets_fine, Ends, ends_of}
 use Rattle.mich_frames.proofs.Fine.{in_call, lambda_below}
-use Rattle.laws_code.proofs.ForCallers.{seq_leads}
+use Rattle.mich_instr.proofs.bodies.ForCallers.{seq_leads}
 use Rattle.std.proofs.lemmas.Bool.{le-leb, leb-true}
-use Rattle.rules_base.specs.Tree.{size}
-use Rattle.rules_base.specs.Tree.{depth as levels}
-use Rattle.rules_types.specs.Attributes.{pushable}
-use Rattle.rules_instructions.specs.Same.{same_kind, same_kinds}
-use Rattle.rules_instructions.specs.Control.{call_kinds}
-use Rattle.rules_values.specs.Weight.{weight}
-use Rattle.rules_evaluation.specs.Outcome.{charge}
-use Rattle.rules_evaluation.specs.Branches.{paid}
-use Rattle.rules_evaluation.specs.Calls.{call_values, applied, shallow_enough, small_enough, within_bounds}
-use Rattle.rules_evaluation.specs.Evaluation.{node}
-use Rattle.laws_evaluation.proofs.ForCallers.{eval_is}
-use Rattle.laws_types.proofs.ForCallers.{same_kind_refl, same_kinds_true}
+use Rattle.rules_text.specs.nodes.Tree.{size}
+use Rattle.rules_text.specs.nodes.Tree.{depth as levels}
+use Rattle.rules_data.specs.types.Attributes.{pushable}
+use Rattle.rules_code.specs.instructions.Same.{same_kind, same_kinds}
+use Rattle.rules_code.specs.instructions.Control.{call_kinds}
+use Rattle.rules_data.specs.values.Weight.{weight}
+use Rattle.rules_code.specs.evaluation.Outcome.{charge}
+use Rattle.rules_code.specs.evaluation.Branches.{paid}
+use Rattle.rules_code.specs.evaluation.Calls.{call_values, applied, shallow_enough, small_enough, within_bounds}
+use Rattle.rules_code.specs.evaluation.Evaluation.{node}
+use Rattle.laws_code.proofs.evaluation_lemmas.ForCallers.{eval_is}
+use Rattle.laws_data.proofs.types_lemmas.ForCallers.{same_kind_refl, same_kinds_true}
 use Rattle.mich_instr.specs.Typed.{AreCode, is_exec, is_apply, is_failwith, is_never}
 use Rattle.mich_frames.specs.Shapes.{HasTop, HasCall}
 use Rattle.mich_frames.proofs.Shapes.{has_top, has_call, has_capture, holds}

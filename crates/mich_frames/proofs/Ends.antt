@@ -1,24 +1,24 @@
 -- Blocks that open and end, what is under DIP, calls that end, and where a run begins and ends.
 use Rattle.std.proofs.Common.{◌≡◌, ◌<◌, ◌≤◌, ◌+◌, ℕ, suc, Bool, true, false, List, [], ◌∷◌, ◌++◌, refl, sym, ap, ◌∙◌, subst, arith}
 use Rattle.std.specs.Prelude.{nat_lt}
-use Rattle.rules_base.specs.Limits.{block_limit}
-use Rattle.rules_base.specs.Tree.{seq, Trees, none}
-use Rattle.rules_types.specs.Kind.{Kind}
-use Rattle.rules_instructions.specs.Context.{Context}
-use Rattle.rules_values.specs.Val.{Val}
-use Rattle.rules_values.specs.Val as v
-use Rattle.rules_steps.specs.Failure as f
-use Rattle.rules_evaluation.specs.Surroundings.{Surroundings}
-use Rattle.rules_evaluation.specs.Operations.{Tally}
-use Rattle.rules_evaluation.specs.Outcome.{Outcome, stack, failed, after, only_if}
-use Rattle.rules_steps.specs.Environment.{Environment}
-use Rattle.rules_steps.specs.Changes.{Change}
-use Rattle.rules_evaluation.specs.Operations.{Issued}
-use Rattle.rules_evaluation.specs.Shapes.{on_top}
+use Rattle.rules_text.specs.nodes.Limits.{block_limit}
+use Rattle.rules_text.specs.nodes.Tree.{seq, Trees, none}
+use Rattle.rules_data.specs.types.Kind.{Kind}
+use Rattle.rules_code.specs.instructions.Context.{Context}
+use Rattle.rules_data.specs.values.Val.{Val}
+use Rattle.rules_data.specs.values.Val as v
+use Rattle.rules_code.specs.steps.Failure as f
+use Rattle.rules_code.specs.evaluation.Surroundings.{Surroundings}
+use Rattle.rules_code.specs.evaluation.Operations.{Tally}
+use Rattle.rules_code.specs.evaluation.Outcome.{Outcome, stack, failed, after, only_if}
+use Rattle.rules_code.specs.steps.Environment.{Environment}
+use Rattle.rules_code.specs.steps.Changes.{Change}
+use Rattle.rules_code.specs.evaluation.Operations.{Issued}
+use Rattle.rules_code.specs.evaluation.Shapes.{on_top}
 use Rattle.mich_frames.specs.Shapes.{HasTop}
 use Rattle.mich_frames.proofs.Shapes.{has_top}
-use Rattle.rules_evaluation.specs.Evaluation.{tree_run, eval_task}
-use Rattle.laws_evaluation.specs.Laws.{IsCharged}
+use Rattle.rules_code.specs.evaluation.Evaluation.{tree_run, eval_task}
+use Rattle.laws_code.specs.evaluation.Laws.{IsCharged}
 use Rattle.mich_instr.specs.Code.{Code, Codes}
 use Rattle.mich_instr.specs.Code as made
 use Rattle.mich_frames.specs.Around.{Around, at, in_environment, with_burnt, returned}
@@ -31,18 +31,18 @@ use Rattle.mich_frames.specs.Stands.{StandsAt, MeetsAt, OpensAt}
 use Rattle.mich_frames.proofs.Paying.{after_after, after_stack}
 use Rattle.mich_frames.proofs.Made.{stands_of, opens_of, block_of}
 use Rattle.mich_frames.proofs.Fine.{over_rest, behind_rest, off_rest, back, called_back, viewed_back, sound_here}
-use Rattle.laws_code.proofs.ForCallers.{next_leads, leads_seq}
-use Rattle.laws_stock.proofs.ForCallers.{node_sound}
+use Rattle.mich_instr.proofs.bodies.ForCallers.{next_leads, leads_seq}
+use Rattle.laws_tickets.proofs.held.ForCallers.{node_sound}
 use Rattle.std.proofs.lemmas.Bool.{lt-ltb, ltb-true}
-use Rattle.rules_evaluation.specs.Outcome.{opened}
-use Rattle.rules_evaluation.specs.Evaluation.{node, trees_run, eval}
+use Rattle.rules_code.specs.evaluation.Outcome.{opened}
+use Rattle.rules_code.specs.evaluation.Evaluation.{node, trees_run, eval}
 use Rattle.std.specs.Prelude.{◌^◌, ℤ}
-use Rattle.rules_values.specs.Tickets.{Identity}
-use Rattle.rules_base.specs.Tree.{size}
-use Rattle.rules_typing.specs.Nodes.{trees_type}
-use Rattle.rules_typing.specs.Fits.{Leads}
-use Rattle.laws_evaluation.proofs.ForCallers.{eval_is}
-use Rattle.laws_types.proofs.ForCallers.{same_kinds_refl}
+use Rattle.rules_data.specs.values.Tickets.{Identity}
+use Rattle.rules_text.specs.nodes.Tree.{size}
+use Rattle.rules_code.specs.typing.Nodes.{trees_type}
+use Rattle.rules_code.specs.typing.Fits.{Leads}
+use Rattle.laws_code.proofs.evaluation_lemmas.ForCallers.{eval_is}
+use Rattle.laws_data.proofs.types_lemmas.ForCallers.{same_kinds_refl}
 use Rattle.mich_instr.specs.Typed.{AreCode, no_code, more_code}
 
 -- ---- blocks

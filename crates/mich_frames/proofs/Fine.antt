@@ -4,36 +4,36 @@ use Rattle.std.specs.Prelude.{ℤ, pos, ◌+ℤ◌, ◌-ℤ◌, ◌≤ℤ◌}
 use Rattle.std.specs.List.{AllByRecursion}
 use Rattle.std.proofs.lemmas.Int.{ints}
 use Rattle.std.proofs.lemmas.List.{append-nil, length-append}
-use Rattle.rules_base.specs.Tree.{Tree, Trees, seq, size}
-use Rattle.rules_types.specs.Kind.{Kind}
-use Rattle.rules_types.specs.Kind as k
-use Rattle.rules_types.specs.Attributes.{packable}
-use Rattle.rules_instructions.specs.Types as t
-use Rattle.rules_instructions.specs.Context.{Context}
-use Rattle.rules_instructions.specs.Context as place
-use Rattle.rules_instructions.specs.Control.{call_kinds}
-use Rattle.rules_values.specs.Val.{Val, Vals, no_val, more_vals}
-use Rattle.rules_values.specs.Val as v
-use Rattle.rules_values.specs.Tickets.{Identity, tickets, all_tickets}
-use Rattle.rules_typing.specs.Typing.{goes}
-use Rattle.rules_typing.specs.Nodes.{tree_type}
-use Rattle.rules_typing.specs.Fits.{Known, Fits, AllFit, Leads}
-use Rattle.rules_steps.specs.Changes.{Change, amount_in, minted_in, burnt_in}
-use Rattle.rules_evaluation.specs.Operations.{Issued, Tally}
-use Rattle.rules_evaluation.specs.Outcome.{stack}
-use Rattle.rules_evaluation.specs.Calls.{call_values}
-use Rattle.rules_evaluation.specs.Items.{elements, with_items, rebuilt}
-use Rattle.rules_evaluation.specs.Evaluation.{tree_run, eval_task}
-use Rattle.laws_evaluation.specs.Laws.{known, IsCharged, IsType, IsGood, amount_on, amount_issued}
-use Rattle.laws_amounts.proofs.ForCallers.{among_append}
-use Rattle.laws_stacks.specs.Sound.{seen, AllTypes, Sound}
-use Rattle.laws_stacks.proofs.ForCallers.{on-append, on_positive, positive, Knows, fits_grow, fits_packed, all_grow, fit-append, knows_grow, no_amount, no_amount_compared, packable_duplicable, type_list, type_element, type_entry, type_option}
-use Rattle.laws_control.proofs.ForCallers.{fit_drop, types_drop, good_in_lambda, element_amount, entry_amount, tree_types}
-use Rattle.laws_typed.proofs.ForCallers.{Types, both_types, contexts}
-use Rattle.laws_stock.proofs.ForCallers.{Leaves, node_leaves, take_fit, take_types, split_amount, all_one_grow, all_one_last, one_kind_positive, elements_fit, entries_fit, IsMade, list_made, table_made, some_made, none_made}
+use Rattle.rules_text.specs.nodes.Tree.{Tree, Trees, seq, size}
+use Rattle.rules_data.specs.types.Kind.{Kind}
+use Rattle.rules_data.specs.types.Kind as k
+use Rattle.rules_data.specs.types.Attributes.{packable}
+use Rattle.rules_code.specs.instructions.Types as t
+use Rattle.rules_code.specs.instructions.Context.{Context}
+use Rattle.rules_code.specs.instructions.Context as place
+use Rattle.rules_code.specs.instructions.Control.{call_kinds}
+use Rattle.rules_data.specs.values.Val.{Val, Vals, no_val, more_vals}
+use Rattle.rules_data.specs.values.Val as v
+use Rattle.rules_data.specs.values.Tickets.{Identity, tickets, all_tickets}
+use Rattle.rules_code.specs.typing.Typing.{goes}
+use Rattle.rules_code.specs.typing.Nodes.{tree_type}
+use Rattle.rules_code.specs.typing.Fits.{Known, Fits, AllFit, Leads}
+use Rattle.rules_code.specs.steps.Changes.{Change, amount_in, minted_in, burnt_in}
+use Rattle.rules_code.specs.evaluation.Operations.{Issued, Tally}
+use Rattle.rules_code.specs.evaluation.Outcome.{stack}
+use Rattle.rules_code.specs.evaluation.Calls.{call_values}
+use Rattle.rules_code.specs.evaluation.Items.{elements, with_items, rebuilt}
+use Rattle.rules_code.specs.evaluation.Evaluation.{tree_run, eval_task}
+use Rattle.laws_code.specs.evaluation.Laws.{known, IsCharged, IsType, IsGood, amount_on, amount_issued}
+use Rattle.laws_data.proofs.amounts.ForCallers.{among_append}
+use Rattle.laws_code.specs.stacks.Sound.{seen, AllTypes, Sound}
+use Rattle.laws_code.proofs.stacks.ForCallers.{on-append, on_positive, positive, Knows, fits_grow, fits_packed, all_grow, fit-append, knows_grow, no_amount, no_amount_compared, packable_duplicable, type_list, type_element, type_entry, type_option}
+use Rattle.laws_code.proofs.control.ForCallers.{fit_drop, types_drop, good_in_lambda, element_amount, entry_amount, tree_types}
+use Rattle.laws_code.proofs.typed.ForCallers.{Types, both_types, contexts}
+use Rattle.laws_tickets.proofs.held.ForCallers.{Leaves, node_leaves, take_fit, take_types, split_amount, all_one_grow, all_one_last, one_kind_positive, elements_fit, entries_fit, IsMade, list_made, table_made, some_made, none_made}
 use Rattle.mich_instr.specs.Typed.{HasParts, of_list, of_set, of_map, IsMapped, to_list, to_option, to_map}
-use Rattle.rules_evaluation.specs.Contracts.{Viewed, is_contract_of}
-use Rattle.laws_safety.proofs.ForCallers.{Seeing, good_in_view}
+use Rattle.rules_code.specs.evaluation.Contracts.{Viewed, is_contract_of}
+use Rattle.laws_code.proofs.safety_lemmas.ForCallers.{Seeing, good_in_view}
 use Rattle.mich_frames.specs.Around.{Around, at, viewing_at}
 use Rattle.mich_frames.specs.Pending.{Mapping, Pending}
 use Rattle.mich_frames.specs.Pending as p
@@ -222,7 +222,7 @@ module _ {u : Around} {is : List Issued} {cs : List Change} where
         by (v.set xs) (of_set {a = a}) h =
             goes_over ts (type_element a h.types.0) (elements_fit (kn u is) a xs h.fits.0.0) (λ id. let i = set_amount id a xs h.types.0.0.0 h.fits.0.0 in omega (arith, ints, i)) h
           where
-            set_amount : (id : Identity) (a : Kind) (xs : Vals) → Rattle.rules_types.specs.Attributes.comparable a ≡ true → Rattle.rules_values.specs.Forms.AllHave (Fits (kn u is) a) xs → amount_on id (elements xs) ≡ pos 0
+            set_amount : (id : Identity) (a : Kind) (xs : Vals) → Rattle.rules_data.specs.types.Attributes.comparable a ≡ true → Rattle.rules_data.specs.values.Forms.AllHave (Fits (kn u is) a) xs → amount_on id (elements xs) ≡ pos 0
             set_amount id a no_val c h = refl
             set_amount id a (more_vals x xs) c h =
                 let i = set_amount id a xs c h.1 in let j = no_amount_compared id (kn u is) a x c h.0 in omega (arith, ints, i, j)

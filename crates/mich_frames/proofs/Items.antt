@@ -1,14 +1,14 @@
 -- What ITER and MAP go over, and their further turns.
 use Rattle.std.proofs.Common.{◌≡◌, ℕ, List, [], ◌∷◌, refl, sym, ap, ◌∙◌, subst}
-use Rattle.rules_base.specs.Tree.{Trees}
-use Rattle.rules_gas.specs.declared.Kind.TheVariants as g
-use Rattle.rules_types.specs.Kind.{Kind}
-use Rattle.rules_instructions.specs.Context.{Context}
-use Rattle.rules_values.specs.Val.{Val}
-use Rattle.rules_values.specs.Val as v
-use Rattle.rules_steps.specs.Failure as f
-use Rattle.rules_evaluation.specs.Operations.{Tally}
-use Rattle.rules_evaluation.specs.Outcome.{Outcome, failed, stuck, Go, after, only_if, unless_stuck}
+use Rattle.rules_text.specs.nodes.Tree.{Trees}
+use Rattle.rules_data.specs.declared.gas.Kind.TheVariants as g
+use Rattle.rules_data.specs.types.Kind.{Kind}
+use Rattle.rules_code.specs.instructions.Context.{Context}
+use Rattle.rules_data.specs.values.Val.{Val}
+use Rattle.rules_data.specs.values.Val as v
+use Rattle.rules_code.specs.steps.Failure as f
+use Rattle.rules_code.specs.evaluation.Operations.{Tally}
+use Rattle.rules_code.specs.evaluation.Outcome.{Outcome, failed, stuck, Go, after, only_if, unless_stuck}
 use Rattle.mich_instr.specs.Code.{Codes}
 use Rattle.mich_instr.specs.Code as made
 use Rattle.mich_frames.specs.Around.{Around, at, less, Pays, Lacks}
@@ -21,12 +21,12 @@ use Rattle.mich_frames.specs.Stands.{Runs, StandsAt, MeetsAt, OpensAt}
 use Rattle.mich_frames.proofs.Paying.{after_after, when_paid, when_broke}
 use Rattle.mich_frames.proofs.Made.{stands_of, opens_of, form_is, Case, meets_by, block_of, small_one, FineCase, meets_fine}
 use Rattle.mich_frames.proofs.Fine.{over_items, next_item, no_item}
-use Rattle.laws_code.proofs.ForCallers.{iter_leads}
-use Rattle.rules_instructions.specs.Same.{same_kinds}
-use Rattle.rules_evaluation.specs.Branches.{paid}
-use Rattle.rules_evaluation.specs.Items.{Items, items, mapped_items, with_items}
-use Rattle.rules_evaluation.specs.Loops.{each_run, iter_run}
-use Rattle.laws_types.proofs.ForCallers.{same_kinds_refl}
+use Rattle.mich_instr.proofs.bodies.ForCallers.{iter_leads}
+use Rattle.rules_code.specs.instructions.Same.{same_kinds}
+use Rattle.rules_code.specs.evaluation.Branches.{paid}
+use Rattle.rules_code.specs.evaluation.Items.{Items, items, mapped_items, with_items}
+use Rattle.rules_code.specs.evaluation.Loops.{each_run, iter_run}
+use Rattle.laws_data.proofs.types_lemmas.ForCallers.{same_kinds_refl}
 use Rattle.mich_instr.specs.Typed.{HasParts, of_list, of_set, of_map, IsMapped, to_list, to_option, to_map, is_iter}
 use Rattle.mich_frames.specs.Shapes.{HasItems, HasMapped, items_in}
 

@@ -1,17 +1,17 @@
 -- LOOP and LOOP_LEFT, and the further turns of both.
 use Rattle.std.proofs.Common.{◌≡◌, ℕ, Bool, true, false, List, ◌∷◌, refl, sym, ap, ◌∙◌, arith}
-use Rattle.rules_base.specs.Tree.{Trees}
-use Rattle.rules_gas.specs.declared.Kind.TheVariants as g
-use Rattle.rules_types.specs.Kind.{Kind}
-use Rattle.rules_types.specs.Kind as k
-use Rattle.rules_instructions.specs.Types as t
-use Rattle.rules_instructions.specs.Context.{Context}
-use Rattle.rules_values.specs.Val.{Val}
-use Rattle.rules_values.specs.Val as v
-use Rattle.rules_steps.specs.Failure as f
-use Rattle.rules_evaluation.specs.Operations.{Tally}
-use Rattle.rules_evaluation.specs.Outcome.{Outcome, failed, after, only_if}
-use Rattle.rules_evaluation.specs.Evaluation.{eval_task}
+use Rattle.rules_text.specs.nodes.Tree.{Trees}
+use Rattle.rules_data.specs.declared.gas.Kind.TheVariants as g
+use Rattle.rules_data.specs.types.Kind.{Kind}
+use Rattle.rules_data.specs.types.Kind as k
+use Rattle.rules_code.specs.instructions.Types as t
+use Rattle.rules_code.specs.instructions.Context.{Context}
+use Rattle.rules_data.specs.values.Val.{Val}
+use Rattle.rules_data.specs.values.Val as v
+use Rattle.rules_code.specs.steps.Failure as f
+use Rattle.rules_code.specs.evaluation.Operations.{Tally}
+use Rattle.rules_code.specs.evaluation.Outcome.{Outcome, failed, after, only_if}
+use Rattle.rules_code.specs.evaluation.Evaluation.{eval_task}
 use Rattle.mich_instr.specs.Code.{Codes}
 use Rattle.mich_instr.specs.Code as made
 use Rattle.mich_frames.specs.Around.{Around, at, less, Pays, Lacks}
@@ -25,13 +25,13 @@ use Rattle.mich_frames.proofs.Paying.{after_after, when_paid, when_broke}
 use Rattle.mich_frames.proofs.Made.{stands_of, opens_of, form_is, Case, meets_by, block_of, small_one, FineCase, meets_fine}
 use Rattle.mich_frames.proofs.Fine.{over_turns, off_turns, over_left, off_left, off_top, new_top}
 use Rattle.std.proofs.lemmas.Int.{ints}
-use Rattle.laws_stacks.proofs.ForCallers.{type_left, type_right}
-use Rattle.laws_code.proofs.ForCallers.{loop_leads, loop_left_leads}
-use Rattle.rules_instructions.specs.Same.{same_kinds}
-use Rattle.rules_evaluation.specs.Loops.{turns_run, left_turns_run}
-use Rattle.rules_evaluation.specs.Evaluation.{turns, left_turns}
-use Rattle.laws_evaluation.proofs.ForCallers.{eval_is}
-use Rattle.laws_types.proofs.ForCallers.{same_kinds_refl}
+use Rattle.laws_code.proofs.stacks.ForCallers.{type_left, type_right}
+use Rattle.mich_instr.proofs.bodies.ForCallers.{loop_leads, loop_left_leads}
+use Rattle.rules_code.specs.instructions.Same.{same_kinds}
+use Rattle.rules_code.specs.evaluation.Loops.{turns_run, left_turns_run}
+use Rattle.rules_code.specs.evaluation.Evaluation.{turns, left_turns}
+use Rattle.laws_code.proofs.evaluation_lemmas.ForCallers.{eval_is}
+use Rattle.laws_data.proofs.types_lemmas.ForCallers.{same_kinds_refl}
 use Rattle.mich_instr.specs.Typed.{is_loop, is_loop_left}
 use Rattle.mich_frames.specs.Shapes.{HasTruth, HasUnion}
 use Rattle.mich_frames.proofs.Shapes.{has_truth, has_union}

@@ -1,13 +1,13 @@
 -- MAP, and its further turns.
 use Rattle.std.proofs.Common.{◌≡◌, ℕ, List, [], ◌∷◌, ◌++◌, Some, refl, sym, ap, ◌∙◌, subst}
-use Rattle.rules_base.specs.Tree.{Trees, prim, seq, none, more}
-use Rattle.rules_gas.specs.declared.Kind.TheVariants as g
-use Rattle.rules_types.specs.Kind.{Kind}
-use Rattle.rules_instructions.specs.Context.{Context}
-use Rattle.rules_values.specs.Val.{Val}
-use Rattle.rules_steps.specs.Failure as f
-use Rattle.rules_evaluation.specs.Operations.{Tally}
-use Rattle.rules_evaluation.specs.Outcome.{Outcome, failed, after, only_if, unless_stuck}
+use Rattle.rules_text.specs.nodes.Tree.{Trees, prim, seq, none, more}
+use Rattle.rules_data.specs.declared.gas.Kind.TheVariants as g
+use Rattle.rules_data.specs.types.Kind.{Kind}
+use Rattle.rules_code.specs.instructions.Context.{Context}
+use Rattle.rules_data.specs.values.Val.{Val}
+use Rattle.rules_code.specs.steps.Failure as f
+use Rattle.rules_code.specs.evaluation.Operations.{Tally}
+use Rattle.rules_code.specs.evaluation.Outcome.{Outcome, failed, after, only_if, unless_stuck}
 use Rattle.mich_instr.specs.Code.{Codes}
 use Rattle.mich_instr.specs.Code as made
 use Rattle.mich_frames.specs.Around.{Around, at, less, Pays, Lacks}
@@ -20,16 +20,16 @@ use Rattle.mich_frames.specs.Stands.{Runs, StandsAt, MeetsAt, OpensAt}
 use Rattle.mich_frames.proofs.Paying.{after_after, when_paid, when_broke}
 use Rattle.mich_frames.proofs.Made.{stands_of, opens_of, form_is, Case, meets_by, block_of, small_one, FineCase, meets_fine}
 use Rattle.mich_frames.proofs.Fine.{node_types, over_mapped, next_mapped, one_made, all_made}
-use Rattle.laws_code.proofs.ForCallers.{map_leads, map_goes}
-use Rattle.rules_instructions.specs.Same.{same_kinds}
-use Rattle.rules_typing.specs.Typing.{part_kind}
-use Rattle.rules_typing.specs.Nodes.{trees_type}
-use Rattle.rules_evaluation.specs.Branches.{paid}
-use Rattle.rules_evaluation.specs.Shapes.{on_top}
-use Rattle.rules_evaluation.specs.Items.{with_items, rebuilt}
-use Rattle.rules_evaluation.specs.Loops.{map_each_run, map_run}
-use Rattle.rules_evaluation.specs.Evaluation.{result_kind}
-use Rattle.laws_types.proofs.ForCallers.{same_kinds_refl}
+use Rattle.mich_instr.proofs.bodies.ForCallers.{map_leads, map_goes}
+use Rattle.rules_code.specs.instructions.Same.{same_kinds}
+use Rattle.rules_code.specs.typing.Typing.{part_kind}
+use Rattle.rules_code.specs.typing.Nodes.{trees_type}
+use Rattle.rules_code.specs.evaluation.Branches.{paid}
+use Rattle.rules_code.specs.evaluation.Shapes.{on_top}
+use Rattle.rules_code.specs.evaluation.Items.{with_items, rebuilt}
+use Rattle.rules_code.specs.evaluation.Loops.{map_each_run, map_run}
+use Rattle.rules_code.specs.evaluation.Evaluation.{result_kind}
+use Rattle.laws_data.proofs.types_lemmas.ForCallers.{same_kinds_refl}
 use Rattle.mich_instr.specs.Typed.{IsMapped, is_map}
 use Rattle.mich_frames.specs.Pending.{Mapping, mapping_run}
 use Rattle.mich_frames.specs.Shapes.{HasTop, HasMapped, items_in}

@@ -1,18 +1,18 @@
 -- Instructions on contracts and operations.
 use Rattle.std.proofs.Common.{◌≡◌, ℕ, List, [], ◌∷◌, Some, None, refl, sym, ap, ◌∙◌, subst, Bool, true, false, ◌^◌}
-use Rattle.rules_base.specs.Limits.{operation_limit}
-use Rattle.rules_base.specs.Tree.{Tree, seq, Trees}
-use Rattle.rules_types.specs.Kind.{Kind}
-use Rattle.rules_types.specs.Kind as k
-use Rattle.rules_instructions.specs.Context.{Context}
-use Rattle.rules_instructions.specs.Context as place
-use Rattle.rules_values.specs.Val.{Val}
-use Rattle.rules_values.specs.Val as v
-use Rattle.rules_steps.specs.Failure as f
-use Rattle.rules_evaluation.specs.Surroundings.{Surroundings}
-use Rattle.rules_evaluation.specs.Operations.{Tally}
-use Rattle.rules_evaluation.specs.Outcome.{Outcome, stack, failed, stuck, Go, after, only_if}
-use Rattle.rules_evaluation.specs.Evaluation.{eval_task}
+use Rattle.rules_text.specs.nodes.Limits.{operation_limit}
+use Rattle.rules_text.specs.nodes.Tree.{Tree, seq, Trees}
+use Rattle.rules_data.specs.types.Kind.{Kind}
+use Rattle.rules_data.specs.types.Kind as k
+use Rattle.rules_code.specs.instructions.Context.{Context}
+use Rattle.rules_code.specs.instructions.Context as place
+use Rattle.rules_data.specs.values.Val.{Val}
+use Rattle.rules_data.specs.values.Val as v
+use Rattle.rules_code.specs.steps.Failure as f
+use Rattle.rules_code.specs.evaluation.Surroundings.{Surroundings}
+use Rattle.rules_code.specs.evaluation.Operations.{Tally}
+use Rattle.rules_code.specs.evaluation.Outcome.{Outcome, stack, failed, stuck, Go, after, only_if}
+use Rattle.rules_code.specs.evaluation.Evaluation.{eval_task}
 use Rattle.mich_instr.specs.Code.{Codes}
 use Rattle.mich_instr.specs.Code as made
 use Rattle.mich_frames.specs.Around.{Around, at, less, Pays}
@@ -23,46 +23,46 @@ use Rattle.mich_frames.specs.Frames as fr
 use Rattle.mich_frames.specs.Stands.{StandsAt, MeetsAt, OpensAt}
 use Rattle.mich_frames.proofs.Paying.{after_after}
 use Rattle.mich_frames.proofs.Made.{opens_of, block_of}
-use Rattle.rules_instructions.specs.Straight.{Straight, OperationRow, on_operations}
-use Rattle.rules_instructions.specs.Same.{same_kinds}
-use Rattle.rules_values.specs.Tickets.{tickets}
-use Rattle.rules_steps.specs.Changes.{burns}
-use Rattle.rules_steps.specs.Costs.{kind_of, weight_of}
-use Rattle.rules_evaluation.specs.Outcome.{with_changes}
-use Rattle.rules_evaluation.specs.Shapes.{on_top}
-use Rattle.rules_evaluation.specs.Contracts.{Viewed, viewed}
-use Rattle.rules_evaluation.specs.Operating.{view_run}
-use Rattle.rules_evaluation.specs.Evaluation.{node}
-use Rattle.laws_evaluation.proofs.ForCallers.{eval_is}
+use Rattle.rules_code.specs.instructions.Straight.{Straight, OperationRow, on_operations}
+use Rattle.rules_code.specs.instructions.Same.{same_kinds}
+use Rattle.rules_data.specs.values.Tickets.{tickets}
+use Rattle.rules_code.specs.steps.Changes.{burns}
+use Rattle.rules_code.specs.steps.Costs.{kind_of, weight_of}
+use Rattle.rules_code.specs.evaluation.Outcome.{with_changes}
+use Rattle.rules_code.specs.evaluation.Shapes.{on_top}
+use Rattle.rules_code.specs.evaluation.Contracts.{Viewed, viewed}
+use Rattle.rules_code.specs.evaluation.Operating.{view_run}
+use Rattle.rules_code.specs.evaluation.Evaluation.{node}
+use Rattle.laws_code.proofs.evaluation_lemmas.ForCallers.{eval_is}
 use Rattle.mich_instr.specs.Typed.{AreCode}
 use Rattle.mich_frames.specs.Around.{viewing_at, returned}
-use Rattle.rules_instructions.specs.Straight as i
-use Rattle.rules_steps.specs.Step.{optional}
+use Rattle.rules_code.specs.instructions.Straight as i
+use Rattle.rules_code.specs.steps.Step.{optional}
 use Rattle.mich_frames.specs.Rows.{does, view_row, view_paid}
 use Rattle.std.specs.Prelude.{option_map, pos, ◌<◌, ◌≤◌}
-use Rattle.rules_forms.specs.Spelling.{implicit_place}
-use Rattle.rules_evaluation.specs.Operations.{transfer, event}
-use Rattle.rules_evaluation.specs.Contracts.{contract_of}
-use Rattle.rules_evaluation.specs.Issuing.{with_operation}
+use Rattle.rules_data.specs.forms.Spelling.{implicit_place}
+use Rattle.rules_code.specs.evaluation.Operations.{transfer, event}
+use Rattle.rules_code.specs.evaluation.Contracts.{contract_of}
+use Rattle.rules_code.specs.evaluation.Issuing.{with_operation}
 use Rattle.mich_frames.specs.Shapes.{HasTop, HasBytes, HasTransfer, HasViewing}
 use Rattle.mich_frames.specs.Rows.{IsPlace, placed}
 use Rattle.mich_frames.proofs.Creating.{issue_is, issue_over}
 use Rattle.mich_frames.proofs.Straights.{row_by, row_same, row_acts, row_fails, row_sound}
 use Rattle.std.specs.Prelude.{if◌then◌else◌}
-use Rattle.rules_base.specs.Tree.{size}
-use Rattle.rules_types.specs.Attributes.{packable}
-use Rattle.rules_instructions.specs.Types as t
-use Rattle.rules_instructions.specs.Same.{same_kind}
-use Rattle.rules_instructions.specs.Change.{makes}
-use Rattle.rules_instructions.specs.Change.{after as after_change}
-use Rattle.rules_instructions.specs.OtherChanges.{operation_change}
-use Rattle.rules_typing.specs.Nodes.{tree_type}
-use Rattle.rules_typing.specs.Fits.{Leads}
-use Rattle.laws_types.proofs.ForCallers.{same_kind_true}
-use Rattle.laws_stacks.specs.Sound.{AllTypes}
-use Rattle.laws_typed.proofs.ForCallers.{Taken}
-use Rattle.laws_safety.proofs.ForCallers.{Seeing, SeesIf, sees}
-use Rattle.laws_code.proofs.ForCallers.{seq_leads}
+use Rattle.rules_text.specs.nodes.Tree.{size}
+use Rattle.rules_data.specs.types.Attributes.{packable}
+use Rattle.rules_code.specs.instructions.Types as t
+use Rattle.rules_code.specs.instructions.Same.{same_kind}
+use Rattle.rules_code.specs.instructions.Change.{makes}
+use Rattle.rules_code.specs.instructions.Change.{after as after_change}
+use Rattle.rules_code.specs.instructions.OtherChanges.{operation_change}
+use Rattle.rules_code.specs.typing.Nodes.{tree_type}
+use Rattle.rules_code.specs.typing.Fits.{Leads}
+use Rattle.laws_data.proofs.types_lemmas.ForCallers.{same_kind_true}
+use Rattle.laws_code.specs.stacks.Sound.{AllTypes}
+use Rattle.laws_code.proofs.typed.ForCallers.{Taken}
+use Rattle.laws_code.proofs.safety_lemmas.ForCallers.{Seeing, SeesIf, sees}
+use Rattle.mich_instr.proofs.bodies.ForCallers.{seq_leads}
 use Rattle.mich_frames.specs.Frames.{IsBlock}
 use Rattle.mich_frames.specs.Fine.{IsFine}
 use Rattle.mich_frames.proofs.Fine.{in_view}

@@ -2,17 +2,17 @@
 use Rattle.std.proofs.Common.{◌≡◌, ℕ, suc, List, [], ◌∷◌, ◌++◌, length, refl, sym, ap, ◌∙◌, append_assoc}
 use Rattle.std.proofs.Math.Path.{fun_ext}
 use Rattle.std.proofs.lemmas.List.{append-nil}
-use Rattle.rules_gas.specs.declared.Kind.TheVariants as priced
-use Rattle.rules_types.specs.Kind.{Kind}
-use Rattle.rules_instructions.specs.Context.{Context}
-use Rattle.rules_instructions.specs.Same.{same_kinds}
-use Rattle.rules_values.specs.Val.{Val}
-use Rattle.rules_evaluation.specs.Surroundings.{Surroundings}
-use Rattle.rules_evaluation.specs.Operations.{Tally}
-use Rattle.rules_evaluation.specs.Outcome.{Outcome, Run, stack, after, only_if, charge}
-use Rattle.rules_evaluation.specs.Shapes.{on_top}
-use Rattle.rules_evaluation.specs.Items.{with_items, rebuilt}
-use Rattle.rules_evaluation.specs.Loops.{map_each_run}
+use Rattle.rules_data.specs.declared.gas.Kind.TheVariants as priced
+use Rattle.rules_data.specs.types.Kind.{Kind}
+use Rattle.rules_code.specs.instructions.Context.{Context}
+use Rattle.rules_code.specs.instructions.Same.{same_kinds}
+use Rattle.rules_data.specs.values.Val.{Val}
+use Rattle.rules_code.specs.evaluation.Surroundings.{Surroundings}
+use Rattle.rules_code.specs.evaluation.Operations.{Tally}
+use Rattle.rules_code.specs.evaluation.Outcome.{Outcome, Run, stack, after, only_if, charge}
+use Rattle.rules_code.specs.evaluation.Shapes.{on_top}
+use Rattle.rules_code.specs.evaluation.Items.{with_items, rebuilt}
+use Rattle.rules_code.specs.evaluation.Loops.{map_each_run}
 use Rattle.mich_instr.specs.Code.{Codes}
 use Rattle.mich_frames.specs.Around.{Around, at}
 use Rattle.mich_frames.specs.Pending.{Pending, Mapping, depth_of, block_run, resume}

@@ -1,15 +1,15 @@
 -- How large literals, bodies and scripts of typed code that runs are, and what EXEC and APPLY find on the stack.
 use Rattle.std.proofs.Common.{◌≡◌, ◌<◌, ◌+◌, ◌^◌, ℕ, Bool, List, ◌∷◌, arith}
-use Rattle.rules_base.specs.Tree.{Tree, int, str, bytes, prim, seq, Trees, none, more, size, sizes}
-use Rattle.rules_types.specs.Kind.{Kind}
-use Rattle.rules_types.specs.Kind as k
-use Rattle.rules_types.specs.Entrypoints.{Entry}
-use Rattle.rules_values.specs.Val.{Val}
-use Rattle.rules_values.specs.Val as v
-use Rattle.rules_typing.specs.Fits.{Fits}
-use Rattle.rules_evaluation.specs.Operations.{Tally}
-use Rattle.rules_evaluation.specs.Outcome.{Outcome}
-use Rattle.laws_evaluation.specs.Laws.{known}
+use Rattle.rules_text.specs.nodes.Tree.{Tree, int, str, bytes, prim, seq, Trees, none, more, size, sizes}
+use Rattle.rules_data.specs.types.Kind.{Kind}
+use Rattle.rules_data.specs.types.Kind as k
+use Rattle.rules_data.specs.types.Entrypoints.{Entry}
+use Rattle.rules_data.specs.values.Val.{Val}
+use Rattle.rules_data.specs.values.Val as v
+use Rattle.rules_code.specs.typing.Fits.{Fits}
+use Rattle.rules_code.specs.evaluation.Operations.{Tally}
+use Rattle.rules_code.specs.evaluation.Outcome.{Outcome}
+use Rattle.laws_code.specs.evaluation.Laws.{known}
 use Rattle.mich_instr.specs.Code.{Codes, ViewCodes}
 use Rattle.mich_instr.specs.Code as made
 use Rattle.mich_instr.specs.Plain.{bare, bares}

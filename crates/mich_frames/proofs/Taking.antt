@@ -1,13 +1,13 @@
 -- The row of an instruction without bodies is the one that typing takes.
 use Rattle.std.proofs.Common.{◌≡◌, ℕ, List, subst}
-use Rattle.rules_base.specs.Tree.{Tree, Trees}
-use Rattle.rules_base.specs.Primitives.{primitive_of_name}
-use Rattle.rules_types.specs.Kind.{Kind}
-use Rattle.rules_instructions.specs.Context.{Context}
-use Rattle.rules_instructions.specs.Rules.{rule, ruled}
-use Rattle.rules_instructions.specs.Straight.{Straight}
-use Rattle.laws_stacks.specs.Sound.{AllTypes}
-use Rattle.laws_typed.proofs.ForCallers.{Taken, RuledTypes, rule_taken}
+use Rattle.rules_text.specs.nodes.Tree.{Tree, Trees}
+use Rattle.rules_text.specs.nodes.Primitives.{primitive_of_name}
+use Rattle.rules_data.specs.types.Kind.{Kind}
+use Rattle.rules_code.specs.instructions.Context.{Context}
+use Rattle.rules_code.specs.instructions.Rules.{rule, ruled}
+use Rattle.rules_code.specs.instructions.Straight.{Straight}
+use Rattle.laws_code.specs.stacks.Sound.{AllTypes}
+use Rattle.laws_code.proofs.typed.ForCallers.{Taken, RuledTypes, rule_taken}
 use Rattle.mich_instr.specs.Code as made
 use Rattle.mich_instr.specs.Typed.{IsCode, is_straight, is_transfer}
 

@@ -3,18 +3,18 @@ use Rattle.std.proofs.Common.{◌≡◌, ℕ, Bool, true, false, List, [], ◌�
 use Rattle.std.specs.Prelude.{◌&&◌, if◌then◌else◌, option_and_then}
 use Rattle.std.specs.Str.{bytes_eq}
 use Rattle.std.proofs.lemmas.Bool.{and_parts}
-use Rattle.rules_base.specs.Tree.{Tree, int, str, bytes, prim, seq, Trees}
-use Rattle.rules_types.specs.Kind.{Kind}
-use Rattle.rules_types.specs.Kind as k
-use Rattle.rules_types.specs.Entrypoints.{Entry}
-use Rattle.rules_instructions.specs.Context as place
-use Rattle.rules_instructions.specs.Same.{same_kind}
-use Rattle.rules_instructions.specs.Arguments.{Found, found, fault, and_then}
-use Rattle.rules_typing.specs.Scripts.{Script, Outline, View, TypedView, unless_fault, code_fault, view_fault, a_view, with_views, a_script, with_bodies, outline_of}
-use Rattle.rules_typing.specs.Nodes.{sections, outline, script}
-use Rattle.rules_evaluation.specs.Surroundings.{Contract}
-use Rattle.rules_evaluation.specs.Contracts.{if_found, outline_in, view_named, viewed_with, viewed_of}
-use Rattle.laws_types.proofs.ForCallers.{same_kind_true}
+use Rattle.rules_text.specs.nodes.Tree.{Tree, int, str, bytes, prim, seq, Trees}
+use Rattle.rules_data.specs.types.Kind.{Kind}
+use Rattle.rules_data.specs.types.Kind as k
+use Rattle.rules_data.specs.types.Entrypoints.{Entry}
+use Rattle.rules_code.specs.instructions.Context as place
+use Rattle.rules_code.specs.instructions.Same.{same_kind}
+use Rattle.rules_code.specs.instructions.Arguments.{Found, found, fault, and_then}
+use Rattle.rules_code.specs.typing.Scripts.{Script, Outline, View, TypedView, unless_fault, code_fault, view_fault, a_view, with_views, a_script, with_bodies, outline_of}
+use Rattle.rules_code.specs.typing.Nodes.{sections, outline, script}
+use Rattle.rules_code.specs.evaluation.Surroundings.{Contract}
+use Rattle.rules_code.specs.evaluation.Contracts.{if_found, outline_in, view_named, viewed_with, viewed_of}
+use Rattle.laws_data.proofs.types_lemmas.ForCallers.{same_kind_true}
 use Rattle.mich_instr.specs.Code.{Codes, ViewCode, ViewCodes, view}
 use Rattle.mich_instr.specs.Code as made
 use Rattle.mich_instr.specs.Typed.{AreCode, IsScript, is_script, AreViews, no_views, one_more}

@@ -2,19 +2,19 @@
 -- of issued operations and those that were burnt, are within what was minted (Octez "Tickets").
 use Rattle.std.specs.Prelude.{true, ◌≡◌, ◌+◌, ◌++◌, ℕ, suc, ℤ, pos, ◌+ℤ◌, ◌≤ℤ◌, List, [], ◌∷◌, length}
 use Rattle.std.specs.List.{AllByRecursion}
-use Rattle.rules_types.specs.Kind.{Kind}
-use Rattle.rules_types.specs.Kind as k
-use Rattle.rules_types.specs.Attributes.{packable}
-use Rattle.rules_instructions.specs.Context.{Context}
-use Rattle.rules_values.specs.Val.{Val}
-use Rattle.rules_values.specs.Tickets.{Identity}
-use Rattle.rules_typing.specs.Fits.{Known, Fits, AllFit}
-use Rattle.rules_steps.specs.Changes.{Change, minted_in, burnt_in}
-use Rattle.rules_evaluation.specs.Surroundings.{Surroundings}
-use Rattle.rules_evaluation.specs.Operations.{Issued}
-use Rattle.rules_evaluation.specs.Items.{with_items, rebuilt}
-use Rattle.laws_evaluation.specs.Laws.{known, IsType, IsGood, most_tickets, amount_on, amount_issued}
-use Rattle.laws_stacks.specs.Sound.{seen, AllTypes, IsWell}
+use Rattle.rules_data.specs.types.Kind.{Kind}
+use Rattle.rules_data.specs.types.Kind as k
+use Rattle.rules_data.specs.types.Attributes.{packable}
+use Rattle.rules_code.specs.instructions.Context.{Context}
+use Rattle.rules_data.specs.values.Val.{Val}
+use Rattle.rules_data.specs.values.Tickets.{Identity}
+use Rattle.rules_code.specs.typing.Fits.{Known, Fits, AllFit}
+use Rattle.rules_code.specs.steps.Changes.{Change, minted_in, burnt_in}
+use Rattle.rules_code.specs.evaluation.Surroundings.{Surroundings}
+use Rattle.rules_code.specs.evaluation.Operations.{Issued}
+use Rattle.rules_code.specs.evaluation.Items.{with_items, rebuilt}
+use Rattle.laws_code.specs.evaluation.Laws.{known, IsType, IsGood, most_tickets, amount_on, amount_issued}
+use Rattle.laws_code.specs.stacks.Sound.{seen, AllTypes, IsWell}
 use Rattle.mich_instr.specs.Typed.{IsMapped}
 use Rattle.mich_frames.specs.Around.{Around, at}
 use Rattle.mich_frames.specs.Pending.{Mapping, Pending}

@@ -1,18 +1,18 @@
 -- Where a run with frames stands: the outcome of what is pending is the outcome of the whole, which is never stuck, and values
 -- and tickets are as typed code leaves them.
 use Rattle.std.specs.Prelude.{◌≡◌, ◌<◌, ◌≤◌, ◌+◌, ◌^◌, ℕ, List, ◌∷◌, Option, Some, None}
-use Rattle.rules_base.specs.Limits.{block_limit}
-use Rattle.rules_base.specs.Tree.{Tree, Trees, size}
-use Rattle.rules_types.specs.Kind.{Kind}
-use Rattle.rules_instructions.specs.Context.{Context}
-use Rattle.rules_values.specs.Val.{Val}
-use Rattle.rules_typing.specs.Nodes.{tree_type}
-use Rattle.rules_typing.specs.Fits.{Leads}
-use Rattle.rules_evaluation.specs.Operations.{Tally}
-use Rattle.rules_steps.specs.Failure.{Failure, depth_limit}
-use Rattle.rules_evaluation.specs.Outcome.{Outcome, failed, stuck, after}
-use Rattle.rules_evaluation.specs.Evaluation.{tree_run, eval_task}
-use Rattle.laws_evaluation.specs.Laws.{IsCharged}
+use Rattle.rules_text.specs.nodes.Limits.{block_limit}
+use Rattle.rules_text.specs.nodes.Tree.{Tree, Trees, size}
+use Rattle.rules_data.specs.types.Kind.{Kind}
+use Rattle.rules_code.specs.instructions.Context.{Context}
+use Rattle.rules_data.specs.values.Val.{Val}
+use Rattle.rules_code.specs.typing.Nodes.{tree_type}
+use Rattle.rules_code.specs.typing.Fits.{Leads}
+use Rattle.rules_code.specs.evaluation.Operations.{Tally}
+use Rattle.rules_code.specs.steps.Failure.{Failure, depth_limit}
+use Rattle.rules_code.specs.evaluation.Outcome.{Outcome, failed, stuck, after}
+use Rattle.rules_code.specs.evaluation.Evaluation.{tree_run, eval_task}
+use Rattle.laws_code.specs.evaluation.Laws.{IsCharged}
 use Rattle.mich_instr.specs.Code.{Code, Codes}
 use Rattle.mich_instr.specs.Typed.{IsCode}
 use Rattle.mich_frames.specs.Around.{Around, at}

@@ -3,9 +3,9 @@ use Rattle.std.proofs.Common.{◌≡◌, ℕ, List, [], ◌∷◌, refl, ap, ◌
 use Rattle.std.specs.Prelude.{Some, None, ◌+◌, ◌&&◌, Bool, IsTrue, codes, is_some, Result}
 use Rattle.std.proofs.lemmas.Bool.{false≢true}
 use Rattle.std.specs.Str.{bytes_eq}
-use Rattle.rules_base.specs.Tree.{Tree, Trees, int, prim, none, more, size, sizes}
-use Rattle.rules_gas.specs.Tables.{Listing, listing, listing_of, are_fields, is_row, are_rows, row_over, rows_over}
-use Rattle.rules_gas.specs.Prices.{Listed, with_price}
+use Rattle.rules_text.specs.nodes.Tree.{Tree, Trees, int, prim, none, more, size, sizes}
+use Rattle.rules_data.specs.gas.Tables.{Listing, listing, listing_of, are_fields, is_row, are_rows, row_over, rows_over}
+use Rattle.rules_data.specs.gas.Prices.{Listed, with_price}
 use Rattle.mich_base.specs.View.{tree, trees}
 use Rattle.mich_base.specs.declared.node.Node.{Node}
 use Rattle.mich_base.specs.Counted.{IsNotThree}

@@ -3,7 +3,7 @@ use Rattle.std.proofs.Common.{◌≡◌, ℕ, List, [], ◌∷◌, refl, Bool, t
 use Rattle.std.specs.Prelude.{map, Option, Some, option_map}
 use Rattle.std.specs.List.{find}
 use Rattle.std.specs.Borrow.{Bor}
-use Rattle.rules_gas.specs.declared.Kind.{Kind}
+use Rattle.rules_data.specs.declared.gas.Kind.{Kind}
 use Rattle.mich_gas.specs.View.{seen_row}
 
 -- the kind of a row, before and after its name is read as bytes

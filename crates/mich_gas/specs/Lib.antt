@@ -1,5 +1,5 @@
-pub use Rattle.rules_base.specs.Tree
-pub use Rattle.rules_gas.specs.Kinds
-pub use Rattle.rules_gas.specs.Prices
-pub use Rattle.rules_gas.specs.Tables
+pub use Rattle.rules_text.specs.nodes.Tree
+pub use Rattle.rules_data.specs.gas.Kinds
+pub use Rattle.rules_data.specs.gas.Prices
+pub use Rattle.rules_data.specs.gas.Tables
 pub mod View

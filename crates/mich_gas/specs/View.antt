@@ -1,11 +1,11 @@
 -- What the types of this crate stand for.
 use Rattle.std.specs.Prelude.{ℕ, List, None, option_map, slice_index_or, Result, Ok, Err}
 use Rattle.std.specs.Borrow.{Bor}
-use Rattle.rules_gas.specs.declared.Kind.{Kind}
-use Rattle.rules_gas.specs.Kinds.{place}
-use Rattle.rules_gas.specs.Prices.{Listed}
-use Rattle.rules_gas.specs.Prices as rules
-use Rattle.rules_gas.specs.Tables as tables
+use Rattle.rules_data.specs.declared.gas.Kind.{Kind}
+use Rattle.rules_data.specs.gas.Kinds.{place}
+use Rattle.rules_data.specs.gas.Prices.{Listed}
+use Rattle.rules_data.specs.gas.Prices as rules
+use Rattle.rules_data.specs.gas.Tables as tables
 use Rattle.mich_gas.specs.declared.costs.Price.{Price}
 use Rattle.mich_gas.specs.declared.costs.Costs.{Costs}
 use Rattle.mich_gas.specs.declared.costs.BadCosts.{BadCosts}

@@ -1,16 +1,16 @@
 // Tables of prices.
 ghost use Rattle.std.specs.Prelude.{◌≡◌, ◌^◌, ◌<◌, pos, ◌≤ℤ◌, option_map, is_some, true, false, IsTrue, MatchOption};
-ghost use Rattle.rules_base.specs.Limits.{most_price};
-ghost use Rattle.rules_base.specs.Tree.{size};
-ghost use Rattle.rules_gas.specs.Kinds.{place};
-ghost use Rattle.rules_gas.specs.Prices.{nothing_listed, with_price, price_of, standard_price};
-ghost use Rattle.rules_gas.specs.Tables.{are_fields, is_row, is_table, is_between, price_from, listing, listing_of, table_of};
+ghost use Rattle.rules_text.specs.nodes.Limits.{most_price};
+ghost use Rattle.rules_text.specs.nodes.Tree.{size};
+ghost use Rattle.rules_data.specs.gas.Kinds.{place};
+ghost use Rattle.rules_data.specs.gas.Prices.{nothing_listed, with_price, price_of, standard_price};
+ghost use Rattle.rules_data.specs.gas.Tables.{are_fields, is_row, is_table, is_between, price_from, listing, listing_of, table_of};
 ghost use Rattle.mich_base.specs.View.{tree};
 ghost use Rattle.mich_gas.specs.View.{seen_price, listed, seen_listing, reading};
 
 use crate::names::kind_of_name;
 use mich_base::{MOST_PRICE, Node};
-use rules_gas::Kind;
+use rules_data::gas::Kind;
 use thiserror::Error;
 
 /// The nodes of a row: itself, its name and two numbers.

@@ -7,4 +7,4 @@ mod names;
 
 pub use costs::{BadCosts, Costs, Price, is_table, read_costs};
 pub use meter::{Meter, OutOfGas};
-pub use rules_gas::Kind;
+pub use rules_data::gas::Kind;

@@ -1,10 +1,10 @@
 // The meter of gas.
 ghost use Rattle.std.specs.Prelude.{◌≡◌, ◌+◌, ◌<◌, OnOk, OnErr, IfErr};
-ghost use Rattle.rules_gas.specs.Prices.{cost};
+ghost use Rattle.rules_data.specs.gas.Prices.{cost};
 ghost use Rattle.mich_gas.specs.View.{listed};
 
 use crate::costs::Costs;
-use rules_gas::Kind;
+use rules_data::gas::Kind;
 use std::marker::Model;
 use thiserror::Error;
 

@@ -3,10 +3,10 @@ ghost use Rattle.std.specs.Prelude.{◌≡◌, map, option_map};
 ghost use Rattle.std.specs.List.{find};
 ghost use Rattle.std.specs.Str.{bytes_eq};
 ghost use Rattle.mich_gas.specs.View.{seen_row};
-ghost use Rattle.rules_gas.specs.Kinds.{kind_named};
+ghost use Rattle.rules_data.specs.gas.Kinds.{kind_named};
 
 use mich_base::Text;
-use rules_gas::Kind;
+use rules_data::gas::Kind;
 
 /// Each kind beside its name, in the order of the bytes of the names.
 static KINDS: [(&str, Kind); 96] = [

@@ -1,7 +1,7 @@
 -- Calls, one by one.
 use Rattle.std.proofs.Common.{◌≡◌, ◌+◌, ◌-◌, ◌<◌, ℕ, suc, List, [], ◌++◌, ap, sym, ◌∙◌, arith}
 use mathlib.Core.List.{append_assoc}
-use Rattle.rules_generate.specs.Workload.{call, calls, next}
+use Rattle.rules_files.specs.workload.Workload.{call, calls, next}
 
 -- the first of those that are left, and the others
 first_left : (n i x : ℕ) → i < n → calls (n - i) x ≡ call (next x) ++ calls (n - (i + 1)) (next x)

@@ -1,6 +1,6 @@
 // The text of a workload.
 ghost use Rattle.std.specs.Prelude.{◌≡◌, ◌≤◌, ◌++◌, ℕ, IfOk, string_bytes};
-ghost use Rattle.rules_generate.specs.Workload.{amount, beginning, call, calls, content, destination, next, scenario};
+ghost use Rattle.rules_files.specs.workload.Workload.{amount, beginning, call, calls, content, destination, next, scenario};
 
 use mich_base::{Bytes, Memory};
 use std::alloc::{AllocError, Global};

@@ -4,17 +4,17 @@ use Rattle.std.specs.Prelude.{IfOk, Result, Ok, Err, nat_lt, not, unwrap_or, if�
 use Rattle.std.specs.declared.option.Option.{Option}
 use Rattle.std.specs.List.{list_any}
 use Rattle.std.proofs.lemmas.Bool.Decides.{nat_tests}
-use Rattle.rules_forms.specs.Spelling.{implicit_place, is_implicit, is_key_hash, is_place}
-use Rattle.rules_gas.specs.Prices.{Listed}
-use Rattle.rules_world.specs.Balances as rules
-use Rattle.rules_world.specs.Contents.{Content}
-use Rattle.rules_world.specs.Groups.{all_fees, is_over_gas, refusal_of, fees_taken, setting_of, settled_by, group, unless_refused, admitted, in_turn}
-use Rattle.rules_world.specs.Laws.{IsGroup}
-use Rattle.rules_world.specs.Outcomes.{no_counts, Setting}
-use Rattle.rules_world.specs.Receipts.{GroupFault, UnknownSource, GasTooHigh, FeeTooHigh, Refused, Done}
-use Rattle.rules_world.specs.World.{World as PlainWorld, account_at, Account}
+use Rattle.rules_data.specs.forms.Spelling.{implicit_place, is_implicit, is_key_hash, is_place}
+use Rattle.rules_data.specs.gas.Prices.{Listed}
+use Rattle.rules_world.specs.world.Balances as rules
+use Rattle.rules_world.specs.world.Contents.{Content}
+use Rattle.rules_world.specs.world.Groups.{all_fees, is_over_gas, refusal_of, fees_taken, setting_of, settled_by, group, unless_refused, admitted, in_turn}
+use Rattle.rules_world.specs.world.Laws.{IsGroup}
+use Rattle.rules_world.specs.world.Outcomes.{no_counts, Setting}
+use Rattle.rules_world.specs.world.Receipts.{GroupFault, UnknownSource, GasTooHigh, FeeTooHigh, Refused, Done}
+use Rattle.rules_world.specs.world.World.{World as PlainWorld, account_at, Account}
 use Rattle.mich_forms.specs.declared.places.Place.TheVariants as place
-use Rattle.laws_world.proofs.ForCallers.{setting, fees_going, fees_there}
+use Rattle.laws_world.proofs.groups_lemmas.ForCallers.{setting, fees_going, fees_there}
 use Rattle.mich_group.specs.Settled.{IsSettled}
 use Rattle.mich_group.specs.Trees.{Goes}
 use Rattle.mich_group.specs.Turns.{AreBroken}
@@ -48,7 +48,7 @@ module _ (v : World) (w : PlainWorld) (source : List ℕ) (contents : List Conte
   found_same : is_some (balance_at v.funds.present (place.Implicit source)) ≡ is_some (account_at w source)
   found_same =
       ap is_some balance_same
-      ∙ ap (λ (b : Bool). is_some (if b then option_map (λ (a : Account). a.balance) (account_at w source) else option_map (λ (c : Rattle.rules_evaluation.specs.Surroundings.Contract). c.balance) (Rattle.rules_world.specs.World.contract_at w (Rattle.rules_evaluation.specs.Contracts.hash_in (implicit_place source))))) here
+      ∙ ap (λ (b : Bool). is_some (if b then option_map (λ (a : Account). a.balance) (account_at w source) else option_map (λ (c : Rattle.rules_code.specs.evaluation.Surroundings.Contract). c.balance) (Rattle.rules_world.specs.world.World.contract_at w (Rattle.rules_code.specs.evaluation.Contracts.hash_in (implicit_place source))))) here
       ∙ by (account_at w source)
     where
       by : (o : Option Account) → is_some (option_map (λ (a : Account). a.balance) o) ≡ is_some o

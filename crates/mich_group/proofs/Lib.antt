@@ -3,3 +3,4 @@ pub mod Stepping
 pub mod Turns
 pub mod Walks
 pub mod Fees
+pub mod course_lemmas

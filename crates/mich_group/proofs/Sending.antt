@@ -3,10 +3,10 @@ use Rattle.std.proofs.Common.{◌≡◌, ℕ, true, is_some, List, [], ◌∷◌
 use Rattle.std.specs.Prelude.{reverse}
 use Rattle.std.specs.List.{AllByRecursion}
 use Rattle.std.proofs.lemmas.List.{append-nil, append_assoc, map-append, reverse-append, reverse-reverse}
-use Rattle.rules_forms.specs.Spelling.{contract_place}
-use Rattle.rules_evaluation.specs.Operations.{transfer, origination, event}
-use Rattle.rules_values.specs.Val.{Val}
-use Rattle.rules_world.specs.Outcomes.{issued}
+use Rattle.rules_data.specs.forms.Spelling.{contract_place}
+use Rattle.rules_code.specs.evaluation.Operations.{transfer, origination, event}
+use Rattle.rules_data.specs.values.Val.{Val}
+use Rattle.rules_world.specs.world.Outcomes.{issued}
 use Rattle.mich_base.specs.TypeView.{kind}
 use Rattle.mich_forms.specs.Spelled.{address_bytes}
 use Rattle.mich_bigmap.specs.Bases.{Bases}

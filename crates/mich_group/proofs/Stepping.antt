@@ -2,10 +2,10 @@
 use Rattle.std.proofs.Common.{◌≡◌, ℕ, List, [], ◌∷◌, ◌++◌, map, refl, ap, ◌∙◌, subst, Err}
 use Rattle.std.specs.Prelude.{reverse}
 use Rattle.std.proofs.lemmas.List.{map-append}
-use Rattle.rules_steps.specs.Failure.{Failure}
-use Rattle.rules_world.specs.World.{World as PlainWorld}
-use Rattle.rules_world.specs.Outcomes.{Setting, Waiting, Counts as PlainCounts, Outcome, applied, failed, stuck}
-use Rattle.rules_world.specs.Application.{apply}
+use Rattle.rules_code.specs.steps.Failure.{Failure}
+use Rattle.rules_world.specs.world.World.{World as PlainWorld}
+use Rattle.rules_world.specs.world.Outcomes.{Setting, Waiting, Counts as PlainCounts, Outcome, applied, failed, stuck}
+use Rattle.rules_world.specs.world.Application.{apply}
 use Rattle.mich_bigmap.specs.Extended.{Extends}
 use Rattle.mich_machine.specs.Calls.{counts_of}
 use Rattle.mich_interpreter.specs.declared.state.Counts.{Counts}

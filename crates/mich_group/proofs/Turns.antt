@@ -6,17 +6,17 @@ use Rattle.std.specs.Prelude.{◌||◌, ◌≤ℤ◌, ◌<ℤ◌}
 use Rattle.std.proofs.lemmas.Int.{ints}
 use Rattle.std.proofs.lemmas.List.Elements.{All-head, All-tail}
 use Rattle.std.proofs.lemmas.List.{append_assoc, append-nil, map-append, replicate-append-replicate}
-use Rattle.rules_base.specs.Limits.{most_gas}
-use Rattle.rules_world.specs.Contents.{Content}
-use Rattle.rules_world.specs.Forms.{IsContent}
-use Rattle.rules_gas.specs.Prices.{Listed}
-use Rattle.rules_world.specs.Groups.{setting_of, is_over_gas, Turn, all_applied, one_failed, stuck_turn, behind_applied, with_tree, skipped, in_turn}
-use Rattle.rules_world.specs.Outcomes.{Setting, Waiting, ordered, Counts as PlainCounts}
-use Rattle.rules_world.specs.Receipts.{Status, Applied, Backtracked, Failed}
-use Rattle.rules_world.specs.Trees.{Walk, completed, broken_off, stuck_walk, tree}
-use Rattle.rules_world.specs.World.{World as PlainWorld}
-use Rattle.laws_runs.specs.Going.{IsGoing}
-use Rattle.laws_world.proofs.ForCallers.{KeepsWalk, tree_keeps, begins}
+use Rattle.rules_text.specs.nodes.Limits.{most_gas}
+use Rattle.rules_world.specs.world.Contents.{Content}
+use Rattle.rules_world.specs.world.Forms.{IsContent}
+use Rattle.rules_data.specs.gas.Prices.{Listed}
+use Rattle.rules_world.specs.world.Groups.{setting_of, is_over_gas, Turn, all_applied, one_failed, stuck_turn, behind_applied, with_tree, skipped, in_turn}
+use Rattle.rules_world.specs.world.Outcomes.{Setting, Waiting, ordered, Counts as PlainCounts}
+use Rattle.rules_world.specs.world.Receipts.{Status, Applied, Backtracked, Failed}
+use Rattle.rules_world.specs.world.Trees.{Walk, completed, broken_off, stuck_walk, tree}
+use Rattle.rules_world.specs.world.World.{World as PlainWorld}
+use Rattle.laws_world.specs.runs.Going.{IsGoing}
+use Rattle.laws_world.proofs.groups_lemmas.ForCallers.{KeepsWalk, tree_keeps, begins}
 use Rattle.mich_machine.specs.Calls.{counts_of}
 use Rattle.mich_interpreter.specs.declared.state.Counts.{Counts}
 use Rattle.mich_ops.specs.Told.{told, told_status}

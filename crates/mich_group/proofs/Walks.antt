@@ -3,16 +3,16 @@ use Rattle.std.proofs.Common.{◌≡◌, ◌<◌, ◌+◌, ◌-◌, ℕ, suc, Li
 use Rattle.std.proofs.lemmas.List.{append_assoc, append-nil, length-map, length-reverse}
 use Rattle.std.specs.Prelude.{reverse}
 use Rattle.mich_base.specs.Counted.{IsNotEmpty}
-use Rattle.rules_gas.specs.Prices.{Listed}
-use Rattle.rules_world.specs.Groups.{setting_of}
-use Rattle.rules_world.specs.Receipts.{Effect}
-use Rattle.rules_world.specs.World.{World as PlainWorld}
-use Rattle.rules_world.specs.Outcomes.{Setting, Waiting, Counts as PlainCounts, Outcome, applied, failed}
-use Rattle.rules_world.specs.Application.{apply}
-use Rattle.rules_world.specs.Trees.{Walk, completed, broken_off, stuck_walk, behind_one, with_emitted, tree_within, tree}
-use Rattle.rules_steps.specs.Failure.{Failure, out_of_gas}
-use Rattle.laws_runs.specs.Going.{IsGoing, KeepsGoing}
-use Rattle.laws_world.proofs.ForCallers.{apply_keeps}
+use Rattle.rules_data.specs.gas.Prices.{Listed}
+use Rattle.rules_world.specs.world.Groups.{setting_of}
+use Rattle.rules_world.specs.world.Receipts.{Effect}
+use Rattle.rules_world.specs.world.World.{World as PlainWorld}
+use Rattle.rules_world.specs.world.Outcomes.{Setting, Waiting, Counts as PlainCounts, Outcome, applied, failed}
+use Rattle.rules_world.specs.world.Application.{apply}
+use Rattle.rules_world.specs.world.Trees.{Walk, completed, broken_off, stuck_walk, behind_one, with_emitted, tree_within, tree}
+use Rattle.rules_code.specs.steps.Failure.{Failure, out_of_gas}
+use Rattle.laws_world.specs.runs.Going.{IsGoing, KeepsGoing}
+use Rattle.laws_world.proofs.groups_lemmas.ForCallers.{apply_keeps}
 use Rattle.mich_machine.specs.Calls.{counts_of}
 use Rattle.mich_interpreter.specs.declared.state.Counts.{Counts}
 use Rattle.mich_operations.specs.declared.applied.ApplyError.{ApplyError}

@@ -2,3 +2,4 @@ pub mod Waiting
 pub mod Trees
 pub mod Turns
 pub mod Settled
+pub mod course

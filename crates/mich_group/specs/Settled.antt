@@ -1,6 +1,6 @@
 -- What becomes of a group (Octez "Operations", batches).
 use Rattle.std.specs.Prelude.{◌≡◌, Option, Some}
-use Rattle.rules_world.specs.Groups.{Settled}
+use Rattle.rules_world.specs.world.Groups.{Settled}
 use Rattle.mich_ops.specs.Told.{told_receipt}
 use Rattle.mich_ops.specs.View.{receipt}
 use Rattle.mich_ops.specs.declared.receipt.GroupReceipt.{GroupReceipt}

@@ -1,12 +1,12 @@
 -- Operations with all that they emit, on their way and at their end (Octez "Operations", the order of internal operations).
 use Rattle.std.specs.Prelude.{◌≡◌, ◌≤◌, ◌+◌, ℕ, List, ◌∷◌, ◌++◌, map, Result, Ok, Err, Bool, true, false}
-use Rattle.rules_world.specs.Receipts.{Effect}
-use Rattle.rules_world.specs.World.{World as PlainWorld}
-use Rattle.rules_world.specs.Outcomes.{Setting, Waiting, Counts as PlainCounts, Success, applied, failed}
-use Rattle.rules_world.specs.Application.{apply}
-use Rattle.rules_world.specs.Trees.{Walk, completed, broken_off, stuck_walk}
-use Rattle.rules_steps.specs.Failure.{Failure}
-use Rattle.laws_runs.specs.Going.{IsSetting, IsGoing}
+use Rattle.rules_world.specs.world.Receipts.{Effect}
+use Rattle.rules_world.specs.world.World.{World as PlainWorld}
+use Rattle.rules_world.specs.world.Outcomes.{Setting, Waiting, Counts as PlainCounts, Success, applied, failed}
+use Rattle.rules_world.specs.world.Application.{apply}
+use Rattle.rules_world.specs.world.Trees.{Walk, completed, broken_off, stuck_walk}
+use Rattle.rules_code.specs.steps.Failure.{Failure}
+use Rattle.laws_world.specs.runs.Going.{IsSetting, IsGoing}
 use Rattle.mich_machine.specs.Calls.{counts_of}
 use Rattle.mich_interpreter.specs.declared.state.Counts.{Counts}
 use Rattle.mich_operations.specs.declared.applied.ApplyError.{ApplyError}

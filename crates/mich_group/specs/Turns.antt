@@ -1,11 +1,11 @@
 -- The contents of a group in turn (Octez "Operations", batches).
 use Rattle.std.specs.Prelude.{◌≡◌, ◌-◌, ℕ, List, map, Result, Ok, Err}
-use Rattle.rules_steps.specs.Failure.{Failure}
-use Rattle.rules_world.specs.Groups.{all_applied, one_failed}
-use Rattle.rules_world.specs.Groups as rules
-use Rattle.rules_world.specs.Receipts as r
-use Rattle.rules_world.specs.Trees.{Walk, Last, completed, broken_off}
-use Rattle.rules_world.specs.World.{World as PlainWorld}
+use Rattle.rules_code.specs.steps.Failure.{Failure}
+use Rattle.rules_world.specs.world.Groups.{all_applied, one_failed}
+use Rattle.rules_world.specs.world.Groups as rules
+use Rattle.rules_world.specs.world.Receipts as r
+use Rattle.rules_world.specs.world.Trees.{Walk, Last, completed, broken_off}
+use Rattle.rules_world.specs.world.World.{World as PlainWorld}
 use Rattle.mich_machine.specs.Calls.{counts_of}
 use Rattle.mich_interpreter.specs.declared.state.Counts.{Counts}
 use Rattle.mich_ops.specs.Told.{told, told_status}

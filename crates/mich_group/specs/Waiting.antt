@@ -1,7 +1,7 @@
 -- Operations that wait for their turn (Octez "Operations", the order of internal operations).
 use Rattle.std.specs.Prelude.{◌≡◌, ℕ, true, is_some, List, map, reverse}
 use Rattle.std.specs.List.{AllByRecursion}
-use Rattle.rules_world.specs.Outcomes.{Waiting}
+use Rattle.rules_world.specs.world.Outcomes.{Waiting}
 use Rattle.mich_bigmap.specs.Bases.{Bases}
 use Rattle.mich_machine.specs.Calls.{IsHanded}
 use Rattle.mich_world.specs.Holders.{contract_at}

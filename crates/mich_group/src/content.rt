@@ -1,10 +1,10 @@
 // One content.
 ghost use Rattle.std.specs.Prelude.{◌≡◌, ◌∷◌, [], ◌≤◌, pos, ◌≤ℤ◌, unsigned_abs, IfOk, OnOk, ℕ};
-ghost use Rattle.rules_base.specs.Limits.{most_gas};
-ghost use Rattle.rules_world.specs.Groups.{setting_of};
-ghost use Rattle.rules_world.specs.Outcomes.{ordered};
-ghost use Rattle.rules_world.specs.Trees.{tree};
-ghost use Rattle.rules_world.specs.World.{World as PlainWorld};
+ghost use Rattle.rules_text.specs.nodes.Limits.{most_gas};
+ghost use Rattle.rules_world.specs.world.Groups.{setting_of};
+ghost use Rattle.rules_world.specs.world.Outcomes.{ordered};
+ghost use Rattle.rules_world.specs.world.Trees.{tree};
+ghost use Rattle.rules_world.specs.world.World.{World as PlainWorld};
 ghost use Rattle.mich_gas.specs.View.{listed};
 ghost use Rattle.mich_machine.specs.Calls.{counts_of, IsHosting};
 ghost use Rattle.mich_ops.specs.View.{action as action_of};

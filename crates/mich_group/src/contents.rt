@@ -1,9 +1,9 @@
 // The contents of a group in turn.
 ghost use Rattle.std.specs.Prelude.{◌≡◌, ◌∷◌, [], ◌++◌, ◌≤◌, ◌<◌, ◌-◌, ◌+◌, length, map, replicate, false, IfOk, OnOk, ℕ};
 ghost use Rattle.std.specs.List.{All, list_any};
-ghost use Rattle.rules_world.specs.Forms.{IsContent};
-ghost use Rattle.rules_world.specs.Groups.{setting_of, in_turn, is_over_gas};
-ghost use Rattle.rules_world.specs.World.{World as PlainWorld};
+ghost use Rattle.rules_world.specs.world.Forms.{IsContent};
+ghost use Rattle.rules_world.specs.world.Groups.{setting_of, in_turn, is_over_gas};
+ghost use Rattle.rules_world.specs.world.World.{World as PlainWorld};
 ghost use Rattle.mich_gas.specs.View.{listed};
 ghost use Rattle.mich_machine.specs.Calls.{counts_of, IsHosting};
 ghost use Rattle.mich_ops.specs.View.{content as content_of};

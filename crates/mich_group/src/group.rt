@@ -1,12 +1,12 @@
 // Groups.
 ghost use Rattle.std.specs.Prelude.{◌≡◌, ◌≢◌, ◌≤◌, [], length, false, None, IfOk, OnOk, Ok, ℕ};
 ghost use Rattle.std.specs.List.{All, list_any};
-ghost use Rattle.rules_gas.specs.Prices.{Listed};
-ghost use Rattle.rules_world.specs.Forms.{IsContent};
-ghost use Rattle.rules_world.specs.Groups.{admitted, all_fees, fees_taken, group as settled_group, is_over_gas, refusal_of, setting_of};
-ghost use Rattle.rules_world.specs.Laws.{IsGroup};
-ghost use Rattle.rules_world.specs.Outcomes.{no_counts};
-ghost use Rattle.rules_world.specs.World.{World as PlainWorld};
+ghost use Rattle.rules_data.specs.gas.Prices.{Listed};
+ghost use Rattle.rules_world.specs.world.Forms.{IsContent};
+ghost use Rattle.rules_world.specs.world.Groups.{admitted, all_fees, fees_taken, group as settled_group, is_over_gas, refusal_of, setting_of};
+ghost use Rattle.rules_world.specs.world.Laws.{IsGroup};
+ghost use Rattle.rules_world.specs.world.Outcomes.{no_counts};
+ghost use Rattle.rules_world.specs.world.World.{World as PlainWorld};
 ghost use Rattle.mich_gas.specs.View.{listed};
 ghost use Rattle.mich_machine.specs.Calls.{IsHosting};
 ghost use Rattle.mich_ops.specs.View.{contents as contents_of};

@@ -3,6 +3,7 @@
 
 mod content;
 mod contents;
+pub mod course;
 mod group;
 mod refusal;
 mod steps;
@@ -10,6 +11,3 @@ mod tree;
 mod waiting;
 
 pub use group::apply_group;
-
-#[cfg(test)]
-mod tests;

@@ -1,9 +1,9 @@
 // Why a group is refused.
 ghost use Rattle.std.specs.Prelude.{◌≡◌, ◌≤◌, true, false, map, IfOk, MatchResult, Some, None};
-ghost use Rattle.rules_forms.specs.Spelling.{implicit_place, is_place};
+ghost use Rattle.rules_data.specs.forms.Spelling.{implicit_place, is_place};
 ghost use Rattle.std.specs.List.{list_any};
-ghost use Rattle.rules_world.specs.Groups.{all_fees, is_over_gas, refusal_of};
-ghost use Rattle.rules_world.specs.World.{World as PlainWorld};
+ghost use Rattle.rules_world.specs.world.Groups.{all_fees, is_over_gas, refusal_of};
+ghost use Rattle.rules_world.specs.world.World.{World as PlainWorld};
 ghost use Rattle.mich_forms.specs.declared.places.Place.TheVariants as place;
 ghost use Rattle.mich_ops.specs.View.{content as content_of, contents as contents_of, fault as fault_of};
 ghost use Rattle.mich_world.specs.Holders.{balance_or_none};

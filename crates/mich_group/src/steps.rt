@@ -1,8 +1,8 @@
 // The next operation.
 ghost use Rattle.std.specs.Prelude.{◌≡◌, ◌∷◌, [], Ok, true, false, IfOk, OnOk, ℕ};
-ghost use Rattle.rules_world.specs.Groups.{setting_of};
-ghost use Rattle.rules_world.specs.Outcomes.{ordered};
-ghost use Rattle.rules_world.specs.World.{World as PlainWorld};
+ghost use Rattle.rules_world.specs.world.Groups.{setting_of};
+ghost use Rattle.rules_world.specs.world.Outcomes.{ordered};
+ghost use Rattle.rules_world.specs.world.World.{World as PlainWorld};
 ghost use Rattle.mich_gas.specs.View.{listed};
 ghost use Rattle.mich_machine.specs.Calls.{counts_of, IsHosting};
 ghost use Rattle.mich_ops.specs.View.{action as action_of};

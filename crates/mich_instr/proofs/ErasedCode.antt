@@ -1,15 +1,15 @@
 -- Typed code is erased to the node that it is the code of, without the annotations that have no effect.
 use Rattle.std.proofs.Common.{◌≡◌, ℕ, Bool, true, false, List, [], Some, refl, sym, ap, ◌∙◌}
 use Rattle.std.specs.Prelude.{codes}
-use Rattle.rules_base.specs.Tree.{Tree, int, str, bytes, prim, seq, Trees, none, more}
-use Rattle.rules_base.specs.Primitives.{primitive_names, code_of_primitive, primitive_of_name}
-use Rattle.rules_base.specs.declared.Primitive.{Primitive}
-use Rattle.rules_base.specs.declared.Primitive.TheVariants as p
-use Rattle.rules_types.specs.Kind.{Kind}
-use Rattle.rules_instructions.specs.Arguments.{found, count_argument}
-use Rattle.rules_instructions.specs.Context.{Context}
-use Rattle.rules_instructions.specs.Forms.{form_of}
-use Rattle.rules_instructions.specs.Forms as f
+use Rattle.rules_text.specs.nodes.Tree.{Tree, int, str, bytes, prim, seq, Trees, none, more}
+use Rattle.rules_text.specs.nodes.Primitives.{primitive_names, code_of_primitive, primitive_of_name}
+use Rattle.rules_text.specs.declared.nodes.Primitive.{Primitive}
+use Rattle.rules_text.specs.declared.nodes.Primitive.TheVariants as p
+use Rattle.rules_data.specs.types.Kind.{Kind}
+use Rattle.rules_code.specs.instructions.Arguments.{found, count_argument}
+use Rattle.rules_code.specs.instructions.Context.{Context}
+use Rattle.rules_code.specs.instructions.Forms.{form_of}
+use Rattle.rules_code.specs.instructions.Forms as f
 use Rattle.mich_instr.specs.Code.{Code, Codes}
 use Rattle.mich_instr.specs.Erased.{erased, all_erased, one, two, lambda_name}
 use Rattle.mich_instr.specs.Plain.{bare, kept, plain, plains, plain_arguments, plain_application}

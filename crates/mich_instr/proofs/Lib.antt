@@ -1,3 +1,4 @@
 pub mod Names
 pub mod ErasedCode
 pub mod Shown
+pub mod bodies

@@ -6,11 +6,11 @@ use Rattle.std.specs.Str.{bytes_eq}
 use Rattle.std.proofs.lemmas.Bool.{eqb-true}
 use Rattle.std.proofs.lemmas.List.Quantifiers.{position-Some}
 use Rattle.std.proofs.lemmas.Slice.Eq.{bytes_eq-Decides}
-use Rattle.rules_base.specs.Primitives.{primitive_names, primitives, code_of_name, code_of_primitive, primitive_of_code, primitive_of_name}
-use Rattle.rules_base.specs.declared.Primitive.{Primitive}
-use Rattle.rules_base.specs.declared.Primitive.TheVariants as p
-use Rattle.rules_instructions.specs.Forms.{Form, form_of}
-use Rattle.rules_instructions.specs.Forms as f
+use Rattle.rules_text.specs.nodes.Primitives.{primitive_names, primitives, code_of_name, code_of_primitive, primitive_of_code, primitive_of_name}
+use Rattle.rules_text.specs.declared.nodes.Primitive.{Primitive}
+use Rattle.rules_text.specs.declared.nodes.Primitive.TheVariants as p
+use Rattle.rules_code.specs.instructions.Forms.{Form, form_of}
+use Rattle.rules_code.specs.instructions.Forms as f
 
 -- each of these primitives stands at its code, from i on
 abbrev all_coded : ℕ → List Primitive → Bool

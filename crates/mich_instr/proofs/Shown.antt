@@ -1,7 +1,7 @@
 -- The nodes of lists of instructions.
 use Rattle.std.proofs.Common.{◌≡◌, ℕ, ◌≤◌, List, [], ◌∷◌, ◌++◌, length, map, take, rules, refl, sym, ap, ◌∙◌}
 use Rattle.std.proofs.lemmas.List.{take_all}
-use Rattle.rules_base.specs.Tree.{prim, seq, more, trees_of}
+use Rattle.rules_text.specs.nodes.Tree.{prim, seq, more, trees_of}
 use Rattle.mich_base.specs.declared.node.Node.{Node}
 use Rattle.mich_base.specs.declared.node.Node as nodes
 use Rattle.mich_base.specs.declared.node.Node.TheVariants as node

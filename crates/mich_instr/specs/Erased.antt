@@ -1,8 +1,8 @@
 -- The node that typed code came from, without the annotations that have no effect (Michelson reference, "Annotations").
 use Rattle.std.specs.Prelude.{ℕ, Bool, true, false, List, codes}
-use Rattle.rules_base.specs.Tree.{Tree, prim, Trees, none, more}
-use Rattle.rules_base.specs.Tree as node
-use Rattle.rules_types.specs.Printing.{named}
+use Rattle.rules_text.specs.nodes.Tree.{Tree, prim, Trees, none, more}
+use Rattle.rules_text.specs.nodes.Tree as node
+use Rattle.rules_data.specs.types.Printing.{named}
 use Rattle.mich_instr.specs.Code.{Code, Codes}
 use Rattle.mich_instr.specs.Code as made
 use Rattle.mich_instr.specs.View.{node_of}

@@ -1,7 +1,7 @@
 -- The operations that issued ones stand for.
 use Rattle.std.specs.Prelude.{ℕ, List, map}
-use Rattle.rules_evaluation.specs.Operations.{Operation, transfer, origination, event}
-use Rattle.rules_evaluation.specs.Operations as rules
+use Rattle.rules_code.specs.evaluation.Operations.{Operation, transfer, origination, event}
+use Rattle.rules_code.specs.evaluation.Operations as rules
 use Rattle.mich_base.specs.TypeView.{kind}
 use Rattle.mich_forms.specs.Spelled.{address_bytes}
 use Rattle.mich_term.specs.ValueView.{val}

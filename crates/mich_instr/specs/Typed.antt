@@ -1,26 +1,26 @@
 -- What code is the typed code of a node in a context, from these types to those: each instruction is the rule that the node has
 -- there. What fails leads to any types (Michelson reference, "Instructions").
 use Rattle.std.specs.Prelude.{◌≡◌, ℕ, Bool, true, false, List, [], ◌∷◌, ◌++◌, length, take, drop, ◌≤◌, Some}
-use Rattle.rules_base.specs.Limits.{count_limit}
-use Rattle.rules_base.specs.Tree.{Tree, prim, seq, Trees, none, more}
-use Rattle.rules_base.specs.Primitives.{primitive_of_name}
-use Rattle.rules_types.specs.Kind.{Kind, operation, option, or, pair, list, lambda}
-use Rattle.rules_types.specs.Kind as k
-use Rattle.rules_types.specs.Entrypoints.{Entry, find_entry}
-use Rattle.rules_instructions.specs.Types.{bool, address, mutez, key_hash}
-use Rattle.rules_instructions.specs.Types as t
-use Rattle.rules_instructions.specs.Straight.{Straight}
-use Rattle.rules_instructions.specs.Context.{Context, main}
-use Rattle.rules_instructions.specs.Context as place
-use Rattle.rules_instructions.specs.Arguments.{found, count_argument}
-use Rattle.rules_instructions.specs.Rules.{ruled, rule}
-use Rattle.rules_instructions.specs.Control.{Pushed, push_of, Arrow, lambda_of, call_kinds, self_of}
-use Rattle.rules_instructions.specs.Forms.{Form, form_of}
-use Rattle.rules_instructions.specs.Forms as f
-use Rattle.rules_typing.specs.Typing.{goes, part_kind}
-use Rattle.rules_typing.specs.Nodes.{tree_type, trees_type}
-use Rattle.rules_typing.specs.Nodes as rules
-use Rattle.rules_typing.specs.Scripts.{View}
+use Rattle.rules_text.specs.nodes.Limits.{count_limit}
+use Rattle.rules_text.specs.nodes.Tree.{Tree, prim, seq, Trees, none, more}
+use Rattle.rules_text.specs.nodes.Primitives.{primitive_of_name}
+use Rattle.rules_data.specs.types.Kind.{Kind, operation, option, or, pair, list, lambda}
+use Rattle.rules_data.specs.types.Kind as k
+use Rattle.rules_data.specs.types.Entrypoints.{Entry, find_entry}
+use Rattle.rules_code.specs.instructions.Types.{bool, address, mutez, key_hash}
+use Rattle.rules_code.specs.instructions.Types as t
+use Rattle.rules_code.specs.instructions.Straight.{Straight}
+use Rattle.rules_code.specs.instructions.Context.{Context, main}
+use Rattle.rules_code.specs.instructions.Context as place
+use Rattle.rules_code.specs.instructions.Arguments.{found, count_argument}
+use Rattle.rules_code.specs.instructions.Rules.{ruled, rule}
+use Rattle.rules_code.specs.instructions.Control.{Pushed, push_of, Arrow, lambda_of, call_kinds, self_of}
+use Rattle.rules_code.specs.instructions.Forms.{Form, form_of}
+use Rattle.rules_code.specs.instructions.Forms as f
+use Rattle.rules_code.specs.typing.Typing.{goes, part_kind}
+use Rattle.rules_code.specs.typing.Nodes.{tree_type, trees_type}
+use Rattle.rules_code.specs.typing.Nodes as rules
+use Rattle.rules_code.specs.typing.Scripts.{View}
 use Rattle.mich_instr.specs.Plain.{bare, kept, plain}
 use Rattle.mich_instr.specs.Code.{Code, Codes, ScriptCode, ViewCodes, no_view, more_views}
 use Rattle.mich_instr.specs.Code as made

@@ -1,8 +1,8 @@
 -- The plain code that typed code stands for.
 use Rattle.std.specs.Prelude.{List}
 use Rattle.std.specs.Prelude as p
-use Rattle.rules_base.specs.Tree.{Tree}
-use Rattle.rules_types.specs.Kind.{Kind}
+use Rattle.rules_text.specs.nodes.Tree.{Tree}
+use Rattle.rules_data.specs.types.Kind.{Kind}
 use Rattle.mich_base.specs.View.{tree, trees, app_tree}
 use Rattle.mich_base.specs.TypeView.{kind}
 use Rattle.mich_types.specs.Entered.{entry_of}

@@ -1,9 +1,9 @@
 // Nodes from typed code.
 ghost use Rattle.std.specs.Prelude.{◌≡◌, List, IfOk, codes};
-ghost use Rattle.rules_base.specs.Tree.{Trees, prim, seq, none};
-ghost use Rattle.rules_types.specs.Kind.{Kind};
-ghost use Rattle.rules_types.specs.Printing.{named};
-ghost use Rattle.rules_instructions.specs.Context.{Context};
+ghost use Rattle.rules_text.specs.nodes.Tree.{Trees, prim, seq, none};
+ghost use Rattle.rules_data.specs.types.Kind.{Kind};
+ghost use Rattle.rules_data.specs.types.Printing.{named};
+ghost use Rattle.rules_code.specs.instructions.Context.{Context};
 ghost use Rattle.mich_base.specs.View.{app_tree, tree, trees};
 ghost use Rattle.mich_instr.specs.Erased.{all_erased, and_last, erased, lambda_name, one, two};
 ghost use Rattle.mich_instr.specs.Plain.{plain};

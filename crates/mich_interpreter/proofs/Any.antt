@@ -1,12 +1,12 @@
 -- Steps on any stack that is met.
 use Rattle.std.proofs.Common.{◌≡◌, ℕ, Bool, true, false, List, [], ◌∷◌, sym, ap, ◌∙◌, subst}
-use Rattle.rules_gas.specs.declared.Kind.TheVariants as g
-use Rattle.rules_types.specs.Kind.{Kind}
-use Rattle.rules_values.specs.Val.{Val, no_val, more_vals}
-use Rattle.rules_values.specs.Val as v
-use Rattle.rules_steps.specs.Failure as f
-use Rattle.rules_evaluation.specs.Operations.{Tally}
-use Rattle.rules_evaluation.specs.Outcome.{Outcome, failed}
+use Rattle.rules_data.specs.declared.gas.Kind.TheVariants as g
+use Rattle.rules_data.specs.types.Kind.{Kind}
+use Rattle.rules_data.specs.values.Val.{Val, no_val, more_vals}
+use Rattle.rules_data.specs.values.Val as v
+use Rattle.rules_code.specs.steps.Failure as f
+use Rattle.rules_code.specs.evaluation.Operations.{Tally}
+use Rattle.rules_code.specs.evaluation.Outcome.{Outcome, failed}
 use Rattle.mich_instr.specs.Code.{Codes}
 use Rattle.mich_instr.specs.Code as made
 use Rattle.mich_frames.specs.Around.{Around, less, Pays, Lacks}

@@ -1,9 +1,9 @@
 -- Blocks that open.
 use Rattle.std.proofs.Common.{◌≡◌, ◌≤◌, ◌+◌, ℕ, List, ◌∷◌, ◌++◌, drop, Option, sym, subst}
-use Rattle.rules_base.specs.Limits.{block_limit}
-use Rattle.rules_types.specs.Kind.{Kind}
-use Rattle.rules_evaluation.specs.Outcome.{Outcome, failed}
-use Rattle.rules_steps.specs.Failure as f
+use Rattle.rules_text.specs.nodes.Limits.{block_limit}
+use Rattle.rules_data.specs.types.Kind.{Kind}
+use Rattle.rules_code.specs.evaluation.Outcome.{Outcome, failed}
+use Rattle.rules_code.specs.steps.Failure as f
 use Rattle.mich_gas.specs.declared.costs.Costs.{Costs}
 use Rattle.mich_instr.specs.View.{codes}
 use Rattle.mich_instr.specs.declared.instr.Instr.{Instr}

@@ -3,30 +3,30 @@ use Rattle.std.proofs.Common.{◌≡◌, ◌≤◌, ◌-◌, ◌&&◌, ℕ, Bool
 use Rattle.std.specs.List.{flat_map}
 use Rattle.std.proofs.lemmas.Bool.{and_parts}
 use Rattle.std.proofs.lemmas.List.{append-nil}
-use Rattle.rules_base.specs.Tree.{Tree}
-use Rattle.rules_gas.specs.Prices.{cost}
-use Rattle.rules_types.specs.Attributes.{comparable, big_value}
-use Rattle.rules_types.specs.Kind.{Kind}
-use Rattle.rules_types.specs.Kind as k
-use Rattle.rules_instructions.specs.Same.{same_kind}
-use Rattle.rules_instructions.specs.Change.{Change, where_true}
-use Rattle.rules_instructions.specs.DataChanges.{collection_change}
-use Rattle.rules_instructions.specs.Straight.{CollectionRow, on_collections}
-use Rattle.rules_instructions.specs.Straight as i
-use Rattle.rules_values.specs.Val.{Val, nothing, some, big_table}
-use Rattle.rules_values.specs.Tickets.{tickets}
-use Rattle.rules_typing.specs.Fits.{Known, Fits, AllFit}
-use Rattle.rules_steps.specs.Changes.{burns}
-use Rattle.rules_steps.specs.Collections.{collection_step}
-use Rattle.rules_steps.specs.Costs.{collection_kind, collection_weight}
-use Rattle.rules_steps.specs.Step.{done}
-use Rattle.rules_evaluation.specs.Outcome.{Outcome, finish, with_changes}
-use Rattle.laws_evaluation.specs.Laws.{known}
-use Rattle.laws_stacks.specs.Sound.{AllTypes}
-use Rattle.laws_stacks.proofs.ForCallers.{comparable_value}
-use Rattle.laws_typed.proofs.ForCallers.{Taken}
-use Rattle.laws_types.proofs.ForCallers.{same_kind_true}
-use Rattle.mich_entries.specs.Operands.{IsPlainOption, IsBigMapOnTop, HasBigMap, HasKey}
+use Rattle.rules_text.specs.nodes.Tree.{Tree}
+use Rattle.rules_data.specs.gas.Prices.{cost}
+use Rattle.rules_data.specs.types.Attributes.{comparable, big_value}
+use Rattle.rules_data.specs.types.Kind.{Kind}
+use Rattle.rules_data.specs.types.Kind as k
+use Rattle.rules_code.specs.instructions.Same.{same_kind}
+use Rattle.rules_code.specs.instructions.Change.{Change, where_true}
+use Rattle.rules_code.specs.instructions.DataChanges.{collection_change}
+use Rattle.rules_code.specs.instructions.Straight.{CollectionRow, on_collections}
+use Rattle.rules_code.specs.instructions.Straight as i
+use Rattle.rules_data.specs.values.Val.{Val, nothing, some, big_table}
+use Rattle.rules_data.specs.values.Tickets.{tickets}
+use Rattle.rules_code.specs.typing.Fits.{Known, Fits, AllFit}
+use Rattle.rules_code.specs.steps.Changes.{burns}
+use Rattle.rules_code.specs.steps.Collections.{collection_step}
+use Rattle.rules_code.specs.steps.Costs.{collection_kind, collection_weight}
+use Rattle.rules_code.specs.steps.Step.{done}
+use Rattle.rules_code.specs.evaluation.Outcome.{Outcome, finish, with_changes}
+use Rattle.laws_code.specs.evaluation.Laws.{known}
+use Rattle.laws_code.specs.stacks.Sound.{AllTypes}
+use Rattle.laws_code.proofs.stacks.ForCallers.{comparable_value}
+use Rattle.laws_code.proofs.typed.ForCallers.{Taken}
+use Rattle.laws_data.proofs.types_lemmas.ForCallers.{same_kind_true}
+use Rattle.mich_store_steps.specs.big_maps.Operands.{IsPlainOption, IsBigMapOnTop, HasBigMap, HasKey}
 use Rattle.mich_frames.specs.Around.{less}
 use Rattle.mich_frames.specs.Frames.{Frame}
 use Rattle.mich_frames.specs.Stands.{StandsAt}

@@ -4,15 +4,15 @@ use Rattle.std.specs.Prelude.{ℤ, pos, ◌+ℤ◌, ◌-ℤ◌, option_map}
 use Rattle.std.specs.declared.option.Option.{Option}
 use Rattle.std.specs.Map.{lookup}
 use Rattle.std.proofs.lemmas.List.{append-nil}
-use Rattle.rules_base.specs.Limits.{block_limit}
-use Rattle.rules_types.specs.Kind.{Kind}
-use Rattle.rules_values.specs.Tickets.{Identity}
-use Rattle.rules_values.specs.Val.{some}
-use Rattle.rules_steps.specs.Changes.{burnt_in, minted_in}
-use Rattle.rules_steps.specs.Failure as f
-use Rattle.rules_evaluation.specs.Operations.{Tally}
-use Rattle.rules_evaluation.specs.Outcome.{Outcome, failed, stack}
-use Rattle.laws_evaluation.specs.Laws.{amount_issued}
+use Rattle.rules_text.specs.nodes.Limits.{block_limit}
+use Rattle.rules_data.specs.types.Kind.{Kind}
+use Rattle.rules_data.specs.values.Tickets.{Identity}
+use Rattle.rules_data.specs.values.Val.{some}
+use Rattle.rules_code.specs.steps.Changes.{burnt_in, minted_in}
+use Rattle.rules_code.specs.steps.Failure as f
+use Rattle.rules_code.specs.evaluation.Operations.{Tally}
+use Rattle.rules_code.specs.evaluation.Outcome.{Outcome, failed, stack}
+use Rattle.laws_code.specs.evaluation.Laws.{amount_issued}
 use Rattle.mich_frames.specs.Around.{Around}
 use Rattle.mich_frames.specs.Frames as fr
 use Rattle.mich_frames.specs.Shapes.{HasTop}

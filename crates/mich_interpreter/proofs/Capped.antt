@@ -4,9 +4,9 @@ use Rattle.std.specs.Prelude.{◌⊎◌, min}
 use Rattle.std.proofs.Common.{inl, inr}
 use Rattle.std.proofs.lemmas.Bool.{cases_lt}
 use Rattle.std.proofs.Math.Nat.{mul-le-mul_left, mul-le-mul_right, min-le_left, min-eq_left, min-eq_right}
-use Rattle.rules_gas.specs.declared.Kind.{Kind as Priced}
-use Rattle.rules_gas.specs.Prices.{Listed, cost, price_of}
-use Rattle.laws_evaluation.specs.Laws.{IsCharged}
+use Rattle.rules_data.specs.declared.gas.Kind.{Kind as Priced}
+use Rattle.rules_data.specs.gas.Prices.{Listed, cost, price_of}
+use Rattle.laws_code.specs.evaluation.Laws.{IsCharged}
 use Rattle.mich_term.specs.Weights.{capped}
 use Rattle.mich_interpreter.specs.Ends.{IsPaid}
 

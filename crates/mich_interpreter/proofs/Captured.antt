@@ -1,23 +1,23 @@
 -- Values that lambdas capture.
 use Rattle.std.proofs.Common.{◌≡◌, ◌<◌, ◌≤◌, ℕ, Bool, true, false, List, [], ◌∷◌, ap, sym, ◌∙◌}
-use Rattle.rules_base.specs.Limits.{applied_size, applied_depth}
-use Rattle.rules_base.specs.Tree.{Tree, seq, Trees, none, size}
-use Rattle.rules_base.specs.Tree.{depth as levels}
-use Rattle.rules_gas.specs.declared.Kind.TheVariants as g
-use Rattle.rules_types.specs.Kind.{Kind}
-use Rattle.rules_types.specs.Kind as k
-use Rattle.rules_types.specs.Attributes.{pushable}
-use Rattle.rules_values.specs.Val.{Val}
-use Rattle.rules_values.specs.Val as v
-use Rattle.rules_values.specs.Weight.{weight}
-use Rattle.rules_steps.specs.Failure as f
-use Rattle.rules_typing.specs.Fits.{Fits}
-use Rattle.rules_evaluation.specs.Calls.{applied, within_bounds}
-use Rattle.rules_evaluation.specs.Operations.{Tally}
-use Rattle.rules_evaluation.specs.Outcome.{Outcome, stack, failed, after, only_if, charge}
-use Rattle.laws_evaluation.specs.Laws.{known}
-use Rattle.laws_types.proofs.ForCallers.{same_kind_refl}
-use Rattle.laws_sights.proofs.ForCallers.{pushable_seen}
+use Rattle.rules_text.specs.nodes.Limits.{applied_size, applied_depth}
+use Rattle.rules_text.specs.nodes.Tree.{Tree, seq, Trees, none, size}
+use Rattle.rules_text.specs.nodes.Tree.{depth as levels}
+use Rattle.rules_data.specs.declared.gas.Kind.TheVariants as g
+use Rattle.rules_data.specs.types.Kind.{Kind}
+use Rattle.rules_data.specs.types.Kind as k
+use Rattle.rules_data.specs.types.Attributes.{pushable}
+use Rattle.rules_data.specs.values.Val.{Val}
+use Rattle.rules_data.specs.values.Val as v
+use Rattle.rules_data.specs.values.Weight.{weight}
+use Rattle.rules_code.specs.steps.Failure as f
+use Rattle.rules_code.specs.typing.Fits.{Fits}
+use Rattle.rules_code.specs.evaluation.Calls.{applied, within_bounds}
+use Rattle.rules_code.specs.evaluation.Operations.{Tally}
+use Rattle.rules_code.specs.evaluation.Outcome.{Outcome, stack, failed, after, only_if, charge}
+use Rattle.laws_code.specs.evaluation.Laws.{known}
+use Rattle.laws_data.proofs.types_lemmas.ForCallers.{same_kind_refl}
+use Rattle.mich_store_steps.proofs.seen.ForCallers.{pushable_seen}
 use Rattle.mich_term.specs.ValueView.{val}
 use Rattle.mich_term.specs.declared.value.Value.{Value}
 use Rattle.mich_stack.specs.Views.{Sight, seen}

@@ -1,7 +1,7 @@
 -- Changes that a ledger was told, one after another.
 use Rattle.std.proofs.Common.{List, ◌++◌, map, append_assoc, ap, ◌∙◌}
-use Rattle.rules_steps.specs.Changes.{Change}
-use Rattle.mich_standing.proofs.ForCallers.{adds_then}
+use Rattle.rules_code.specs.steps.Changes.{Change}
+use Rattle.mich_world.proofs.simulation_lemmas.ForCallers.{adds_then}
 use Rattle.mich_tickets.specs.Books.{State as Ledger}
 use Rattle.mich_tickets.specs.Effects.{change, Tells}
 

@@ -1,18 +1,18 @@
 -- Calls of lambdas, whatever their bodies are.
 use Rattle.std.proofs.Common.{◌≡◌, ◌<◌, ◌^◌, ℕ, Bool, true, false, List, [], ◌∷◌, Option, Some, None, refl, subst}
 use Rattle.std.specs.Prelude.{is_none}
-use Rattle.rules_base.specs.Tree.{Tree, seq, Trees, size}
-use Rattle.rules_gas.specs.declared.Kind.TheVariants as g
-use Rattle.rules_types.specs.Kind.{Kind}
-use Rattle.rules_instructions.specs.Context as place
-use Rattle.rules_instructions.specs.Control.{call_kinds}
-use Rattle.rules_values.specs.Val.{Val}
-use Rattle.rules_values.specs.Val as v
-use Rattle.rules_steps.specs.Failure as f
-use Rattle.rules_typing.specs.Literals.{lambda_fault}
-use Rattle.rules_evaluation.specs.Calls.{call_values}
-use Rattle.rules_evaluation.specs.Operations.{Tally}
-use Rattle.rules_evaluation.specs.Outcome.{Outcome, failed}
+use Rattle.rules_text.specs.nodes.Tree.{Tree, seq, Trees, size}
+use Rattle.rules_data.specs.declared.gas.Kind.TheVariants as g
+use Rattle.rules_data.specs.types.Kind.{Kind}
+use Rattle.rules_code.specs.instructions.Context as place
+use Rattle.rules_code.specs.instructions.Control.{call_kinds}
+use Rattle.rules_data.specs.values.Val.{Val}
+use Rattle.rules_data.specs.values.Val as v
+use Rattle.rules_code.specs.steps.Failure as f
+use Rattle.rules_code.specs.typing.Literals.{lambda_fault}
+use Rattle.rules_code.specs.evaluation.Calls.{call_values}
+use Rattle.rules_code.specs.evaluation.Operations.{Tally}
+use Rattle.rules_code.specs.evaluation.Outcome.{Outcome, failed}
 use Rattle.mich_control.specs.Answers.{inside}
 use Rattle.mich_instr.specs.Code.{Codes}
 use Rattle.mich_instr.specs.Code as made

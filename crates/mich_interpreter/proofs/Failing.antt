@@ -1,13 +1,13 @@
 -- What FAILWITH fails with: it can be pushed, and is seen alike by all.
 use Rattle.std.proofs.Common.{◌≡◌, ℕ, true, List, ◌∷◌, sym, ap, ◌∙◌}
-use Rattle.rules_types.specs.Attributes.{pushable}
-use Rattle.rules_types.specs.Kind.{Kind}
-use Rattle.rules_typing.specs.Fits.{Fits}
-use Rattle.rules_values.specs.Val.{Val}
-use Rattle.rules_evaluation.specs.Operations.{Tally}
-use Rattle.rules_evaluation.specs.Outcome.{Outcome, after}
-use Rattle.laws_evaluation.specs.Laws.{known}
-use Rattle.laws_sights.proofs.ForCallers.{pushable_seen}
+use Rattle.rules_data.specs.types.Attributes.{pushable}
+use Rattle.rules_data.specs.types.Kind.{Kind}
+use Rattle.rules_code.specs.typing.Fits.{Fits}
+use Rattle.rules_data.specs.values.Val.{Val}
+use Rattle.rules_code.specs.evaluation.Operations.{Tally}
+use Rattle.rules_code.specs.evaluation.Outcome.{Outcome, after}
+use Rattle.laws_code.specs.evaluation.Laws.{known}
+use Rattle.mich_store_steps.proofs.seen.ForCallers.{pushable_seen}
 use Rattle.mich_term.specs.ValueView.{val}
 use Rattle.mich_term.specs.declared.value.Value.{Value}
 use Rattle.mich_stack.specs.Views.{Sight, seen}

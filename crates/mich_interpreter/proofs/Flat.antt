@@ -1,8 +1,8 @@
 -- Values in which there is no big map: they are the same however big maps are seen.
 use Rattle.std.proofs.Common.{◌≡◌, true, List, [], ◌∷◌, map, refl, sym, ap, ◌∙◌, subst}
 use Rattle.std.proofs.lemmas.Bool.{and_parts, and_from}
-use Rattle.rules_values.specs.Val.{Val, Vals, Pairs, no_val, more_vals, no_pair, more_pairs, is_comparable}
-use Rattle.rules_values.specs.Val as v
+use Rattle.rules_data.specs.values.Val.{Val, Vals, Pairs, no_val, more_vals, no_pair, more_pairs, is_comparable}
+use Rattle.rules_data.specs.values.Val as v
 use Rattle.mich_term.specs.View.{datum, datum_step, vals_of, pairs_of}
 use Rattle.mich_term.specs.ValueView.{val, value_step, big_step, big_pairs}
 use Rattle.mich_term.specs.declared.datum.Datum.{Datum, ind-Datum, fold-roll-Datum, roll-Datum, map-Datum}

@@ -1,16 +1,16 @@
 -- Originations by scripts.
 use Rattle.std.proofs.Common.{◌≡◌, ◌≤◌, ◌<◌, ℕ, List, [], ◌∷◌, Option, Some, None}
 use Rattle.std.specs.Prelude.{pos}
-use Rattle.rules_base.specs.Limits.{operation_limit}
-use Rattle.rules_gas.specs.declared.Kind.TheVariants as g
-use Rattle.rules_types.specs.Kind.{Kind}
-use Rattle.rules_values.specs.Val.{Val}
-use Rattle.rules_values.specs.Val as v
-use Rattle.rules_forms.specs.Spelling.{contract_place}
-use Rattle.rules_steps.specs.Failure as f
-use Rattle.rules_evaluation.specs.Issuing.{with_operation, with_origination}
-use Rattle.rules_evaluation.specs.Operations.{Tally, new_contract}
-use Rattle.rules_evaluation.specs.Outcome.{Outcome, failed}
+use Rattle.rules_text.specs.nodes.Limits.{operation_limit}
+use Rattle.rules_data.specs.declared.gas.Kind.TheVariants as g
+use Rattle.rules_data.specs.types.Kind.{Kind}
+use Rattle.rules_data.specs.values.Val.{Val}
+use Rattle.rules_data.specs.values.Val as v
+use Rattle.rules_data.specs.forms.Spelling.{contract_place}
+use Rattle.rules_code.specs.steps.Failure as f
+use Rattle.rules_code.specs.evaluation.Issuing.{with_operation, with_origination}
+use Rattle.rules_code.specs.evaluation.Operations.{Tally, new_contract}
+use Rattle.rules_code.specs.evaluation.Outcome.{Outcome, failed}
 use Rattle.mich_instr.specs.Code.{ScriptCode}
 use Rattle.mich_instr.specs.Code as made
 use Rattle.mich_instr.specs.Typed.{IsScript, is_create}

@@ -1,16 +1,16 @@
 -- A run behind PACK, UNPACK or a hash.
 use Rattle.std.proofs.Common.{◌≡◌, ◌≤◌, ◌-◌, ℕ, List, [], ap}
-use Rattle.rules_base.specs.Tree.{Tree}
-use Rattle.rules_gas.specs.Prices.{cost}
-use Rattle.rules_types.specs.Kind.{Kind}
-use Rattle.rules_instructions.specs.Straight.{HashRow, on_hashes}
-use Rattle.rules_steps.specs.Costs.{hash_kind, hash_weight}
-use Rattle.rules_steps.specs.Failure.{Failure}
-use Rattle.rules_steps.specs.Packing.{Trial, hash_step}
-use Rattle.rules_steps.specs.Step.{kept, fails}
-use Rattle.rules_evaluation.specs.Outcome.{Outcome, failed, finish, with_changes}
-use Rattle.rules_evaluation.specs.Surroundings.{Surroundings}
-use Rattle.rules_evaluation.specs.Trying.{trial}
+use Rattle.rules_text.specs.nodes.Tree.{Tree}
+use Rattle.rules_data.specs.gas.Prices.{cost}
+use Rattle.rules_data.specs.types.Kind.{Kind}
+use Rattle.rules_code.specs.instructions.Straight.{HashRow, on_hashes}
+use Rattle.rules_code.specs.steps.Costs.{hash_kind, hash_weight}
+use Rattle.rules_code.specs.steps.Failure.{Failure}
+use Rattle.rules_code.specs.steps.Packing.{Trial, hash_step}
+use Rattle.rules_code.specs.steps.Step.{kept, fails}
+use Rattle.rules_code.specs.evaluation.Outcome.{Outcome, failed, finish, with_changes}
+use Rattle.rules_code.specs.evaluation.Surroundings.{Surroundings}
+use Rattle.rules_code.specs.evaluation.Trying.{trial}
 use Rattle.mich_frames.specs.Around.{at, less}
 use Rattle.mich_frames.specs.Frames.{Frame}
 use Rattle.mich_frames.specs.Stands.{StandsAt}

@@ -1,16 +1,16 @@
 -- A run behind an instruction that issues an operation.
 use Rattle.std.proofs.Common.{◌≡◌, ◌<◌, ◌≤◌, ◌-◌, ◌+◌, ℕ, suc, Option, Some, None, List, [], ◌∷◌, ◌++◌, map, append_assoc, refl, sym, ap, ◌∙◌, subst, arith, rules}
 use Rattle.std.proofs.lemmas.List.{map-append}
-use Rattle.rules_gas.specs.declared.Kind.{Kind as Priced}
-use Rattle.rules_gas.specs.Prices.{cost}
-use Rattle.rules_types.specs.Kind.{Kind}
-use Rattle.rules_values.specs.Val.{Val, operation}
+use Rattle.rules_data.specs.declared.gas.Kind.{Kind as Priced}
+use Rattle.rules_data.specs.gas.Prices.{cost}
+use Rattle.rules_data.specs.types.Kind.{Kind}
+use Rattle.rules_data.specs.values.Val.{Val, operation}
 use Rattle.std.specs.Prelude.{MatchOption}
-use Rattle.rules_base.specs.Limits.{operation_limit}
-use Rattle.rules_evaluation.specs.Operations.{Operation}
-use Rattle.rules_evaluation.specs.Operations as rules
-use Rattle.rules_evaluation.specs.Issuing.{with_operation}
-use Rattle.rules_evaluation.specs.Outcome.{Outcome}
+use Rattle.rules_text.specs.nodes.Limits.{operation_limit}
+use Rattle.rules_code.specs.evaluation.Operations.{Operation}
+use Rattle.rules_code.specs.evaluation.Operations as rules
+use Rattle.rules_code.specs.evaluation.Issuing.{with_operation}
+use Rattle.rules_code.specs.evaluation.Outcome.{Outcome}
 use Rattle.mich_gas.specs.declared.costs.Costs.{Costs}
 use Rattle.mich_gas.specs.View.{listed}
 use Rattle.mich_instr.specs.declared.issued.Issued.{Issued}

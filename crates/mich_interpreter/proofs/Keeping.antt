@@ -3,8 +3,8 @@ use Rattle.std.proofs.Common.{◌≡◌, List, [], ◌∷◌, ◌++◌, ◌∙�
 use Rattle.std.specs.List.{AllByRecursion}
 use Rattle.mich_instr.specs.declared.issued.Issued.{Issued}
 use Rattle.mich_step.proofs.ForCallers.{tells_equal}
-use Rattle.mich_undo.specs.History.{Keeps}
-use Rattle.mich_undo.proofs.ForCallers.{keeps_same, keeps_trans}
+use Rattle.mich_base.specs.undo.History.{Keeps}
+use Rattle.mich_base.proofs.undo_lemmas.ForCallers.{keeps_same, keeps_trans}
 use Rattle.mich_interpreter.specs.Ends.{KeepsPast, KeepsState, KeepsAct}
 use Rattle.mich_interpreter.specs.Issues.{IsScripted, KeepsScripts}
 use Rattle.mich_interpreter.specs.Runs.{KeepsStep}

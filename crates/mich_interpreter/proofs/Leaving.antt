@@ -1,8 +1,8 @@
 -- Frames that are taken off.
 use Rattle.std.proofs.Common.{◌≡◌, ◌-◌, ℕ, List, [], ◌∷◌, ◌++◌, length, Some, None, refl, sym, ap, ◌∙◌, subst, arith}
 use Rattle.std.specs.Prelude.{slice_get}
-use Rattle.rules_types.specs.Kind.{Kind}
-use Rattle.rules_evaluation.specs.Outcome.{Outcome}
+use Rattle.rules_data.specs.types.Kind.{Kind}
+use Rattle.rules_code.specs.evaluation.Outcome.{Outcome}
 use Rattle.mich_gas.specs.declared.costs.Costs.{Costs}
 use Rattle.mich_instr.specs.View.{codes}
 use Rattle.mich_instr.specs.declared.instr.Instr.{Instr}

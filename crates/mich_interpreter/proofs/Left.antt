@@ -2,8 +2,8 @@
 use Rattle.std.proofs.Common.{◌≡◌, ◌<◌, ◌≤◌, ◌+◌, ◌-◌, List, ◌∷◌, ◌++◌, length, drop, Some, subst, arith}
 use Rattle.std.specs.List.{slice_get}
 use Rattle.std.proofs.lemmas.List.{drop_all}
-use Rattle.rules_types.specs.Kind.{Kind}
-use Rattle.rules_evaluation.specs.Outcome.{Outcome}
+use Rattle.rules_data.specs.types.Kind.{Kind}
+use Rattle.rules_code.specs.evaluation.Outcome.{Outcome}
 use Rattle.mich_gas.specs.declared.costs.Costs.{Costs}
 use Rattle.mich_instr.specs.Code as made
 use Rattle.mich_instr.specs.View.{code, codes}

@@ -4,8 +4,8 @@ use Rattle.std.specs.List.{slice_get}
 use Rattle.std.proofs.lemmas.List.{reverse-append, length-map, length-reverse, length-drop, take-append-drop, take_at, drop_at}
 use Rattle.std.proofs.lemmas.Option.{get_or_from_slice_get}
 use Rattle.std.proofs.Math.Seq.{drop-cons}
-use Rattle.rules_values.specs.Val.{Val, list}
-use Rattle.rules_evaluation.specs.Items.{elements}
+use Rattle.rules_data.specs.values.Val.{Val, list}
+use Rattle.rules_code.specs.evaluation.Items.{elements}
 use Rattle.mich_term.specs.View.{vals_of}
 use Rattle.mich_term.specs.declared.value.Value.{Value}
 use Rattle.mich_term.specs.declared.value.Value as values

@@ -1,14 +1,14 @@
 -- What a literal is doesn't depend on where it stands.
 use Rattle.std.proofs.Common.{◌≡◌, ℕ, ◌+◌, Bool, true, false, Option, Some, None, List, [], ◌∷◌, refl, sym, ap, ◌∙◌}
 use Rattle.std.specs.Prelude.{option_map, option_and_then, if◌then◌else◌}
-use Rattle.rules_base.specs.Tree.{Tree, bytes, prim, seq, Trees, none, more, size}
-use Rattle.rules_types.specs.Kind.{Kind}
-use Rattle.rules_types.specs.Kind as k
-use Rattle.rules_values.specs.Val.{Val, more_vals, Pairs, more_pairs}
-use Rattle.rules_values.specs.Val as v
-use Rattle.rules_forms.specs.Spelling.{is_address}
-use Rattle.rules_evaluation.specs.Given.{value_of}
-use Rattle.rules_values.specs.Literals.{Word, none_word, some_word, left_word, right_word, entry_word, recursive_word, word_of_name, Pending, claim, Literal, good, bad, with_pending, and_then, mapped, Reader, simple_value, on_value, option_named, read_option, or_named, read_or, read_parts, parts_of, read_elements, read_list, is_behind, read_increasing, read_set, read_binding, entry_named, read_entry, read_entries, read_table, read_body, recursive_named, read_lambda, read_contract, read, read_rest}
+use Rattle.rules_text.specs.nodes.Tree.{Tree, bytes, prim, seq, Trees, none, more, size}
+use Rattle.rules_data.specs.types.Kind.{Kind}
+use Rattle.rules_data.specs.types.Kind as k
+use Rattle.rules_data.specs.values.Val.{Val, more_vals, Pairs, more_pairs}
+use Rattle.rules_data.specs.values.Val as v
+use Rattle.rules_data.specs.forms.Spelling.{is_address}
+use Rattle.rules_code.specs.evaluation.Given.{value_of}
+use Rattle.rules_data.specs.values.Literals.{Word, none_word, some_word, left_word, right_word, entry_word, recursive_word, word_of_name, Pending, claim, Literal, good, bad, with_pending, and_then, mapped, Reader, simple_value, on_value, option_named, read_option, or_named, read_or, read_parts, parts_of, read_elements, read_list, is_behind, read_increasing, read_set, read_binding, entry_named, read_entry, read_entries, read_table, read_body, recursive_named, read_lambda, read_contract, read, read_rest}
 
 -- what is read, without what is still to be tried
 abbrev valued : {A : Type 0} → Literal A → Option A

@@ -2,15 +2,15 @@
 use Rattle.std.proofs.Common.{◌≡◌, ℕ, Bool, true, false, List, Some, None, length, refl, sym, ap, ◌∙◌}
 use Rattle.std.specs.Prelude.{option_and_then, option_map}
 use Rattle.std.specs.declared.option.Option.{Option}
-use Rattle.rules_forms.specs.Spelling.{IsPlace, contract_place, entrypoint_of, spelled_address, is_entrypoint}
-use Rattle.rules_types.specs.Kind.{Kind}
-use Rattle.rules_types.specs.Entrypoints.{find_entry}
-use Rattle.rules_evaluation.specs.Contracts.{Lookup, address_where, chosen_entrypoint, contract_named, contract_of, entry_in, has_kind, hash_in, takes}
-use Rattle.rules_evaluation.specs.Surroundings.{Contract as PlainContract}
-use Rattle.laws_stacks.proofs.ForCallers.{name_back, place_back}
-use Rattle.mich_arguments.specs.Arguments.{HasTypedScripts, entries_in}
-use Rattle.mich_arguments.proofs.ForCallers.{entry_found}
-use Rattle.mich_standing.proofs.ForCallers.{hash_of}
+use Rattle.rules_data.specs.forms.Spelling.{IsPlace, contract_place, entrypoint_of, spelled_address, is_entrypoint}
+use Rattle.rules_data.specs.types.Kind.{Kind}
+use Rattle.rules_data.specs.types.Entrypoints.{find_entry}
+use Rattle.rules_code.specs.evaluation.Contracts.{Lookup, address_where, chosen_entrypoint, contract_named, contract_of, entry_in, has_kind, hash_in, takes}
+use Rattle.rules_code.specs.evaluation.Surroundings.{Contract as PlainContract}
+use Rattle.laws_code.proofs.stacks.ForCallers.{name_back, place_back}
+use Rattle.mich_literals.specs.arguments.Arguments.{HasTypedScripts, entries_in}
+use Rattle.mich_literals.proofs.arguments_lemmas.ForCallers.{entry_found}
+use Rattle.mich_world.proofs.simulation_lemmas.ForCallers.{hash_of}
 use Rattle.mich_world.specs.Holders.{contract_at}
 use Rattle.mich_world.specs.Standing.{plain}
 use Rattle.mich_world.specs.World.{World}

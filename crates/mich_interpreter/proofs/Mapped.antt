@@ -1,8 +1,8 @@
 -- What values of the code stand for, by their form.
 use Rattle.std.proofs.Common.{◌≡◌, Bool, List, [], ◌∷◌, ◌++◌, map, append_assoc, refl, sym, ap, ◌∙◌, rules}
 use Rattle.std.proofs.lemmas.List.{map-append}
-use Rattle.rules_values.specs.Val as v
-use Rattle.rules_evaluation.specs.Items.{elements, entries}
+use Rattle.rules_data.specs.values.Val as v
+use Rattle.rules_code.specs.evaluation.Items.{elements, entries}
 use Rattle.mich_base.specs.View.{tree}
 use Rattle.mich_base.specs.declared.node.Node.{Node}
 use Rattle.mich_term.specs.View.{datum, datums, pairs_of}

@@ -3,19 +3,19 @@ use Rattle.std.proofs.Common.{◌≡◌, ◌≤◌, ◌-◌, ℕ, List, [], ◌�
 use Rattle.std.specs.List.{flat_map}
 use Rattle.std.specs.declared.option.Option.{Option}
 use Rattle.std.proofs.lemmas.List.{append-nil}
-use Rattle.rules_base.specs.Tree.{Tree}
-use Rattle.rules_gas.specs.Prices.{cost}
-use Rattle.rules_gas.specs.declared.Kind.TheVariants as g
-use Rattle.rules_types.specs.Kind.{Kind}
-use Rattle.rules_forms.specs.Spelling.{contract_place}
-use Rattle.rules_values.specs.Tickets.{tickets}
-use Rattle.rules_values.specs.Val.{Val, both, bytes, nothing}
-use Rattle.rules_steps.specs.Changes.{burns}
-use Rattle.rules_steps.specs.Environment.{Environment}
-use Rattle.rules_evaluation.specs.Contracts.{Viewed, viewed}
-use Rattle.rules_evaluation.specs.Operating.{environment_in_view}
-use Rattle.rules_evaluation.specs.Operations.{Tally}
-use Rattle.rules_evaluation.specs.Outcome.{Outcome, with_changes}
+use Rattle.rules_text.specs.nodes.Tree.{Tree}
+use Rattle.rules_data.specs.gas.Prices.{cost}
+use Rattle.rules_data.specs.declared.gas.Kind.TheVariants as g
+use Rattle.rules_data.specs.types.Kind.{Kind}
+use Rattle.rules_data.specs.forms.Spelling.{contract_place}
+use Rattle.rules_data.specs.values.Tickets.{tickets}
+use Rattle.rules_data.specs.values.Val.{Val, both, bytes, nothing}
+use Rattle.rules_code.specs.steps.Changes.{burns}
+use Rattle.rules_code.specs.steps.Environment.{Environment}
+use Rattle.rules_code.specs.evaluation.Contracts.{Viewed, viewed}
+use Rattle.rules_code.specs.evaluation.Operating.{environment_in_view}
+use Rattle.rules_code.specs.evaluation.Operations.{Tally}
+use Rattle.rules_code.specs.evaluation.Outcome.{Outcome, with_changes}
 use Rattle.mich_frames.specs.Around.{Around, less}
 use Rattle.mich_frames.specs.Frames as fr
 use Rattle.mich_frames.specs.Rows.{view_row}

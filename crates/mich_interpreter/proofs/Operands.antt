@@ -1,25 +1,25 @@
 -- What PACK and the hashes find on a stack that fits its types.
 use Rattle.std.proofs.Common.{◌≡◌, ℕ, Bool, true, false, List, [], ◌∷◌, Option, Some, refl}
-use Rattle.rules_base.specs.Tree.{Tree}
-use Rattle.rules_types.specs.declared.Simple.TheVariants as s
-use Rattle.rules_types.specs.Attributes.{packable}
-use Rattle.rules_types.specs.Kind.{Kind}
-use Rattle.rules_instructions.specs.Types as t
-use Rattle.rules_instructions.specs.Change.{Change, where_true}
-use Rattle.rules_instructions.specs.OtherChanges.{hash_change}
-use Rattle.rules_instructions.specs.Straight.{HashRow, on_hashes}
-use Rattle.rules_instructions.specs.Straight as i
-use Rattle.rules_values.specs.Forms.{has_simple_form}
-use Rattle.rules_values.specs.Val.{Val, bytes}
-use Rattle.rules_typing.specs.Fits.{Known, AllFit}
-use Rattle.rules_evaluation.specs.Outcome.{Outcome}
-use Rattle.laws_evaluation.specs.Laws.{known}
-use Rattle.laws_packing.proofs.ForCallers.{fitting}
-use Rattle.laws_typed.proofs.ForCallers.{Taken}
+use Rattle.rules_text.specs.nodes.Tree.{Tree}
+use Rattle.rules_data.specs.declared.types.Simple.TheVariants as s
+use Rattle.rules_data.specs.types.Attributes.{packable}
+use Rattle.rules_data.specs.types.Kind.{Kind}
+use Rattle.rules_code.specs.instructions.Types as t
+use Rattle.rules_code.specs.instructions.Change.{Change, where_true}
+use Rattle.rules_code.specs.instructions.OtherChanges.{hash_change}
+use Rattle.rules_code.specs.instructions.Straight.{HashRow, on_hashes}
+use Rattle.rules_code.specs.instructions.Straight as i
+use Rattle.rules_data.specs.values.Forms.{has_simple_form}
+use Rattle.rules_data.specs.values.Val.{Val, bytes}
+use Rattle.rules_code.specs.typing.Fits.{Known, AllFit}
+use Rattle.rules_code.specs.evaluation.Outcome.{Outcome}
+use Rattle.laws_code.specs.evaluation.Laws.{known}
+use Rattle.laws_typing.proofs.packing_lemmas.ForCallers.{fitting}
+use Rattle.laws_code.proofs.typed.ForCallers.{Taken}
 use Rattle.mich_frames.specs.Frames.{Frame}
 use Rattle.mich_frames.proofs.ForCallers.{row_taken}
 use Rattle.mich_gas.specs.declared.costs.Costs.{Costs}
-use Rattle.mich_hashes.specs.Operands.{HasOperand}
+use Rattle.mich_store_steps.specs.hashes.Operands.{HasOperand}
 use Rattle.mich_instr.specs.Code as made
 use Rattle.mich_stack.specs.Views.{Sight}
 use Rattle.mich_interpreter.specs.View.{Beyond, tops}

@@ -1,12 +1,12 @@
 -- Charges that were paid.
 use Rattle.std.proofs.Common.{◌≡◌, ◌≤◌, ◌<◌, ◌+◌, ◌*◌, ◌-◌, ℕ, List, sym, subst, arith}
-use Rattle.rules_gas.specs.declared.Kind.{Kind as Priced}
-use Rattle.rules_gas.specs.Prices.{Listed, cost, price_of}
-use Rattle.rules_types.specs.Kind.{Kind}
-use Rattle.rules_values.specs.Val.{Val}
-use Rattle.rules_evaluation.specs.Operations.{Tally}
-use Rattle.rules_evaluation.specs.Outcome.{Outcome}
-use Rattle.laws_evaluation.specs.Laws.{IsCharged}
+use Rattle.rules_data.specs.declared.gas.Kind.{Kind as Priced}
+use Rattle.rules_data.specs.gas.Prices.{Listed, cost, price_of}
+use Rattle.rules_data.specs.types.Kind.{Kind}
+use Rattle.rules_data.specs.values.Val.{Val}
+use Rattle.rules_code.specs.evaluation.Operations.{Tally}
+use Rattle.rules_code.specs.evaluation.Outcome.{Outcome}
+use Rattle.laws_code.specs.evaluation.Laws.{IsCharged}
 use Rattle.mich_instr.specs.Code.{Codes}
 use Rattle.mich_frames.specs.Around.{Around, less}
 use Rattle.mich_frames.specs.Frames.{Frame}

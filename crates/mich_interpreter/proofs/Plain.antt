@@ -1,15 +1,15 @@
 -- What can be packed, and what big maps hold, holds no big map.
 use Rattle.std.proofs.Common.{◌≡◌, true, refl}
 use Rattle.std.proofs.lemmas.Bool.{and_parts, and_from}
-use Rattle.rules_types.specs.Attributes.{packable, big_value}
-use Rattle.rules_types.specs.Kind.{Kind}
-use Rattle.rules_types.specs.Kind as k
-use Rattle.rules_values.specs.Forms.{AllEntriesHave}
-use Rattle.rules_values.specs.Val.{Val, Pairs}
-use Rattle.rules_values.specs.Val as v
-use Rattle.rules_typing.specs.Fits.{Known, Fits}
-use Rattle.laws_sights.specs.Sights.{is_plain, entries_plain}
-use Rattle.laws_sights.proofs.ForCallers.{each_entry_plain, each_plain, simple_plain}
+use Rattle.rules_data.specs.types.Attributes.{packable, big_value}
+use Rattle.rules_data.specs.types.Kind.{Kind}
+use Rattle.rules_data.specs.types.Kind as k
+use Rattle.rules_data.specs.values.Forms.{AllEntriesHave}
+use Rattle.rules_data.specs.values.Val.{Val, Pairs}
+use Rattle.rules_data.specs.values.Val as v
+use Rattle.rules_code.specs.typing.Fits.{Known, Fits}
+use Rattle.mich_store_steps.specs.seen.Sights.{is_plain, entries_plain}
+use Rattle.mich_store_steps.proofs.seen.ForCallers.{each_entry_plain, each_plain, simple_plain}
 
 module _ (w : Known) where
   pub packable_plain : (a : Kind) (x : Val) → packable a ≡ true → Fits w a x → is_plain x ≡ true

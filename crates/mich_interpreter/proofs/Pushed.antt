@@ -3,14 +3,14 @@ use Rattle.std.proofs.Common.{ℕ, ◌≡◌, true, List, [], ◌∷◌, map, sy
 use Rattle.std.specs.List.{AllByRecursion}
 use Rattle.std.specs.Prelude.{Some}
 use Rattle.std.proofs.lemmas.Bool.{and_parts}
-use Rattle.rules_base.specs.Tree.{Tree}
-use Rattle.rules_types.specs.Kind.{Kind}
-use Rattle.rules_types.specs.Kind as k
-use Rattle.rules_types.specs.Attributes.{pushable}
-use Rattle.rules_types.specs.declared.Simple.{Simple}
-use Rattle.rules_values.specs.Val.{Val, Pairs}
-use Rattle.rules_values.specs.Literals.{Pending, good, on_value, read, simple_value}
-use Rattle.rules_evaluation.specs.Given.{value_of}
+use Rattle.rules_text.specs.nodes.Tree.{Tree}
+use Rattle.rules_data.specs.types.Kind.{Kind}
+use Rattle.rules_data.specs.types.Kind as k
+use Rattle.rules_data.specs.types.Attributes.{pushable}
+use Rattle.rules_data.specs.declared.types.Simple.{Simple}
+use Rattle.rules_data.specs.values.Val.{Val, Pairs}
+use Rattle.rules_data.specs.values.Literals.{Pending, good, on_value, read, simple_value}
+use Rattle.rules_code.specs.evaluation.Given.{value_of}
 use Rattle.mich_data.specs.Whole.{Layer, IsSimple, IsOption, IsEither, IsPair, IsListOf, IsSet, IsMapTo, IsLambda, IsWhole}
 use Rattle.mich_term.specs.View.{vals_of, pairs_of}
 use Rattle.mich_term.specs.ValueView.{val, value_step, big_step, big_pairs}

@@ -1,9 +1,9 @@
 -- Collections that are rebuilt.
 use Rattle.std.proofs.Common.{◌≡◌, List, [], ◌∷◌, ◌++◌, map, refl, ap, ◌∙◌, rules}
 use Rattle.std.proofs.lemmas.List.{append-nil}
-use Rattle.rules_values.specs.Val.{Val, Vals, no_val, more_vals, more_pairs}
-use Rattle.rules_values.specs.Val as v
-use Rattle.rules_evaluation.specs.Items.{list_of, with_values, rebuilt}
+use Rattle.rules_data.specs.values.Val.{Val, Vals, no_val, more_vals, more_pairs}
+use Rattle.rules_data.specs.values.Val as v
+use Rattle.rules_code.specs.evaluation.Items.{list_of, with_values, rebuilt}
 use Rattle.mich_term.specs.View.{datum, vals_of}
 use Rattle.mich_term.specs.declared.value.Value.{Value}
 use Rattle.mich_term.specs.declared.value.Value as values

@@ -2,15 +2,15 @@
 use Rattle.std.proofs.Common.{◌≡◌, ℕ, suc, List, [], ◌∷◌, ◌++◌, length, map, reverse, refl, ap, ◌∙◌, subst}
 use Rattle.std.specs.declared.cmp.Ordering.TheVariants.{Less, Greater}
 use Rattle.std.specs.Ordering.{match_ordering, ordering_reverse}
-use Rattle.rules_types.specs.Kind.{Kind}
-use Rattle.rules_instructions.specs.Context.{Context}
-use Rattle.rules_values.specs.Val.{Val, Pairs, no_pair, more_pairs}
-use Rattle.rules_values.specs.Val as v
-use Rattle.rules_values.specs.Tables.{AreKeysAbove, AreIncreasingKeys}
-use Rattle.rules_typing.specs.Fits.{Known, Fits}
-use Rattle.rules_evaluation.specs.Operations.{Tally}
-use Rattle.rules_evaluation.specs.Outcome.{Outcome}
-use Rattle.rules_evaluation.specs.Items.{with_items, with_values, rebuilt}
+use Rattle.rules_data.specs.types.Kind.{Kind}
+use Rattle.rules_code.specs.instructions.Context.{Context}
+use Rattle.rules_data.specs.values.Val.{Val, Pairs, no_pair, more_pairs}
+use Rattle.rules_data.specs.values.Val as v
+use Rattle.rules_data.specs.values.Tables.{AreKeysAbove, AreIncreasingKeys}
+use Rattle.rules_code.specs.typing.Fits.{Known, Fits}
+use Rattle.rules_code.specs.evaluation.Operations.{Tally}
+use Rattle.rules_code.specs.evaluation.Outcome.{Outcome}
+use Rattle.rules_code.specs.evaluation.Items.{with_items, with_values, rebuilt}
 use Rattle.mich_term.specs.View.{datum}
 use Rattle.mich_term.specs.Keyed.{by, with}
 use Rattle.mich_term.specs.declared.datum.Datum.{Datum}

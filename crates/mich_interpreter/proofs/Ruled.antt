@@ -1,19 +1,19 @@
 -- Instructions without bodies that ask for nothing but the stack, the tickets and what surrounds the run, by their rules.
 use Rattle.std.proofs.Common.{◌≡◌, ℕ, true, List, [], ◌∷◌, refl, sym, ap, ◌∙◌}
 use Rattle.std.proofs.lemmas.List.{append-nil}
-use Rattle.rules_base.specs.Tree.{Tree}
-use Rattle.rules_types.specs.Kind.{Kind}
-use Rattle.rules_instructions.specs.Context.{Context}
-use Rattle.rules_instructions.specs.Straight.{Straight, on_stack, on_pairs, on_unions, on_collections, on_numbers, on_truth, on_text, on_hashes, on_environment, on_operations, on_tickets}
-use Rattle.rules_instructions.specs.Straight as i
-use Rattle.rules_forms.specs.Spelling.{implicit_place}
-use Rattle.rules_values.specs.Val.{Val, bytes}
-use Rattle.rules_steps.specs.Changes.{Change}
-use Rattle.rules_steps.specs.Costs.{kind_of, weight_of}
-use Rattle.rules_steps.specs.Failure.{Failure}
-use Rattle.rules_steps.specs.Step.{Step, done, fails, wrong}
-use Rattle.rules_evaluation.specs.Operations.{Tally}
-use Rattle.rules_evaluation.specs.Outcome.{Outcome, stack, failed, with_changes, finish}
+use Rattle.rules_text.specs.nodes.Tree.{Tree}
+use Rattle.rules_data.specs.types.Kind.{Kind}
+use Rattle.rules_code.specs.instructions.Context.{Context}
+use Rattle.rules_code.specs.instructions.Straight.{Straight, on_stack, on_pairs, on_unions, on_collections, on_numbers, on_truth, on_text, on_hashes, on_environment, on_operations, on_tickets}
+use Rattle.rules_code.specs.instructions.Straight as i
+use Rattle.rules_data.specs.forms.Spelling.{implicit_place}
+use Rattle.rules_data.specs.values.Val.{Val, bytes}
+use Rattle.rules_code.specs.steps.Changes.{Change}
+use Rattle.rules_code.specs.steps.Costs.{kind_of, weight_of}
+use Rattle.rules_code.specs.steps.Failure.{Failure}
+use Rattle.rules_code.specs.steps.Step.{Step, done, fails, wrong}
+use Rattle.rules_code.specs.evaluation.Operations.{Tally}
+use Rattle.rules_code.specs.evaluation.Outcome.{Outcome, stack, failed, with_changes, finish}
 use Rattle.mich_overload.specs.Steps.{in_step}
 use Rattle.mich_instr.specs.Code as made
 use Rattle.mich_stack.specs.Ends.{IsFitting}

@@ -3,26 +3,26 @@ use Rattle.std.proofs.Common.{◌≡◌, ◌<◌, ◌+◌, ◌^◌, ℕ, true, i
 use Rattle.std.specs.Prelude.{pos, negsuc}
 use Rattle.std.proofs.lemmas.Bool.Decides.{nat_tests}
 use Rattle.std.proofs.lemmas.Int.{ints}
-use Rattle.rules_base.specs.Tree.{Tree, more, none, prim, size}
-use Rattle.rules_types.specs.declared.Simple.{Simple}
-use Rattle.rules_types.specs.declared.Simple.TheVariants as s
-use Rattle.rules_types.specs.Kind.{Kind}
-use Rattle.rules_types.specs.Kind as k
-use Rattle.rules_instructions.specs.Change.{Change}
-use Rattle.rules_instructions.specs.OtherChanges.{operation_change}
-use Rattle.rules_instructions.specs.Straight.{on_operations}
-use Rattle.rules_instructions.specs.Straight as i
-use Rattle.rules_instructions.specs.Types as t
-use Rattle.rules_values.specs.Forms.{has_simple_form}
-use Rattle.rules_values.specs.Literals.{is_amount, on_value, read, simple_value}
-use Rattle.rules_values.specs.Val.{Val}
-use Rattle.rules_values.specs.Val as v
-use Rattle.rules_typing.specs.Fits.{Known, Fits, AllFit}
-use Rattle.rules_evaluation.specs.Given.{value_of}
-use Rattle.rules_evaluation.specs.Operations.{Tally}
-use Rattle.rules_evaluation.specs.Outcome.{Outcome}
-use Rattle.laws_evaluation.specs.Laws.{known}
-use Rattle.laws_typed.proofs.ForCallers.{Taken}
+use Rattle.rules_text.specs.nodes.Tree.{Tree, more, none, prim, size}
+use Rattle.rules_data.specs.declared.types.Simple.{Simple}
+use Rattle.rules_data.specs.declared.types.Simple.TheVariants as s
+use Rattle.rules_data.specs.types.Kind.{Kind}
+use Rattle.rules_data.specs.types.Kind as k
+use Rattle.rules_code.specs.instructions.Change.{Change}
+use Rattle.rules_code.specs.instructions.OtherChanges.{operation_change}
+use Rattle.rules_code.specs.instructions.Straight.{on_operations}
+use Rattle.rules_code.specs.instructions.Straight as i
+use Rattle.rules_code.specs.instructions.Types as t
+use Rattle.rules_data.specs.values.Forms.{has_simple_form}
+use Rattle.rules_data.specs.values.Literals.{is_amount, on_value, read, simple_value}
+use Rattle.rules_data.specs.values.Val.{Val}
+use Rattle.rules_data.specs.values.Val as v
+use Rattle.rules_code.specs.typing.Fits.{Known, Fits, AllFit}
+use Rattle.rules_code.specs.evaluation.Given.{value_of}
+use Rattle.rules_code.specs.evaluation.Operations.{Tally}
+use Rattle.rules_code.specs.evaluation.Outcome.{Outcome}
+use Rattle.laws_code.specs.evaluation.Laws.{known}
+use Rattle.laws_code.proofs.typed.ForCallers.{Taken}
 use Rattle.mich_instr.specs.Code.{ScriptCode}
 use Rattle.mich_instr.specs.Code as made
 use Rattle.mich_instr.specs.Typed.{is_create, is_push}

@@ -1,13 +1,13 @@
 -- A run before and behind an instruction without bodies.
 use Rattle.std.proofs.Common.{◌≡◌, ◌≤◌, ◌-◌, ℕ, true, List, ap, ◌∙◌, subst}
-use Rattle.rules_base.specs.Tree.{Tree}
-use Rattle.rules_gas.specs.Prices.{cost}
-use Rattle.rules_types.specs.Kind.{Kind}
-use Rattle.rules_instructions.specs.Straight.{Straight}
-use Rattle.rules_steps.specs.Costs.{kind_of, weight_of}
-use Rattle.rules_steps.specs.Failure.{Failure}
-use Rattle.rules_steps.specs.Step.{Step, done, fails}
-use Rattle.rules_evaluation.specs.Outcome.{Outcome, failed}
+use Rattle.rules_text.specs.nodes.Tree.{Tree}
+use Rattle.rules_data.specs.gas.Prices.{cost}
+use Rattle.rules_data.specs.types.Kind.{Kind}
+use Rattle.rules_code.specs.instructions.Straight.{Straight}
+use Rattle.rules_code.specs.steps.Costs.{kind_of, weight_of}
+use Rattle.rules_code.specs.steps.Failure.{Failure}
+use Rattle.rules_code.specs.steps.Step.{Step, done, fails}
+use Rattle.rules_code.specs.evaluation.Outcome.{Outcome, failed}
 use Rattle.mich_gas.specs.declared.costs.Costs.{Costs}
 use Rattle.mich_gas.specs.View.{listed}
 use Rattle.mich_overload.specs.Steps.{in_step}

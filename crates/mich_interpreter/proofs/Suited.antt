@@ -4,16 +4,16 @@ use Rattle.std.specs.Prelude.{ℤ, pos, ◌+ℤ◌, ◌≤ℤ◌}
 use Rattle.std.specs.List.{All, flat_map}
 use Rattle.std.proofs.lemmas.Int.{ints}
 use Rattle.std.proofs.lemmas.List.Elements.{All-tail}
-use Rattle.rules_base.specs.Tree.{Tree}
-use Rattle.rules_types.specs.Kind.{Kind}
-use Rattle.rules_instructions.specs.Straight.{Straight}
-use Rattle.rules_values.specs.Tickets.{Identity, tickets}
-use Rattle.rules_steps.specs.Changes.{amount_among}
-use Rattle.rules_evaluation.specs.Operations.{Issued, operation_tickets}
-use Rattle.rules_evaluation.specs.Outcome.{Outcome}
-use Rattle.laws_evaluation.specs.Laws.{amount_issued}
-use Rattle.laws_stacks.specs.Sound.{IsSoundIssue}
-use Rattle.laws_suits.proofs.ForCallers.{issued_positive, tickets_handed, row_suits, row_positive}
+use Rattle.rules_text.specs.nodes.Tree.{Tree}
+use Rattle.rules_data.specs.types.Kind.{Kind}
+use Rattle.rules_code.specs.instructions.Straight.{Straight}
+use Rattle.rules_data.specs.values.Tickets.{Identity, tickets}
+use Rattle.rules_code.specs.steps.Changes.{amount_among}
+use Rattle.rules_code.specs.evaluation.Operations.{Issued, operation_tickets}
+use Rattle.rules_code.specs.evaluation.Outcome.{Outcome}
+use Rattle.laws_code.specs.evaluation.Laws.{amount_issued}
+use Rattle.laws_code.specs.stacks.Sound.{IsSoundIssue}
+use Rattle.mich_frames.proofs.operands.ForCallers.{issued_positive, tickets_handed, row_suits, row_positive}
 use Rattle.mich_gas.specs.declared.costs.Costs.{Costs}
 use Rattle.mich_instr.specs.Code as made
 use Rattle.mich_frames.specs.Fine.{minted_by, burnt_by}

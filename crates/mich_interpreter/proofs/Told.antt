@@ -2,13 +2,13 @@
 use Rattle.std.proofs.Common.{◌≡◌, ◌-◌, ℕ, List, ◌++◌, map, append_assoc, sym, ap, ◌∙◌, subst, arith}
 use Rattle.std.specs.Prelude.{ℤ, ◌+ℤ◌, ◌-ℤ◌}
 use Rattle.std.proofs.lemmas.Int.{ints}
-use Rattle.rules_gas.specs.declared.Kind.{Kind as Priced}
-use Rattle.rules_gas.specs.Prices.{cost}
-use Rattle.rules_types.specs.Kind.{Kind}
-use Rattle.rules_values.specs.Tickets.{Identity}
-use Rattle.rules_steps.specs.Changes.{Change, minted_in, burnt_in}
-use Rattle.rules_evaluation.specs.Outcome.{Outcome, with_changes}
-use Rattle.laws_agreement.proofs.ForCallers.{minted_append, burnt_append}
+use Rattle.rules_data.specs.declared.gas.Kind.{Kind as Priced}
+use Rattle.rules_data.specs.gas.Prices.{cost}
+use Rattle.rules_data.specs.types.Kind.{Kind}
+use Rattle.rules_data.specs.values.Tickets.{Identity}
+use Rattle.rules_code.specs.steps.Changes.{Change, minted_in, burnt_in}
+use Rattle.rules_code.specs.evaluation.Outcome.{Outcome, with_changes}
+use Rattle.laws_tickets.proofs.totals.ForCallers.{minted_append, burnt_append}
 use Rattle.mich_gas.specs.declared.costs.Costs.{Costs}
 use Rattle.mich_gas.specs.View.{listed}
 use Rattle.mich_term.specs.declared.value.Value.{Value}
@@ -19,7 +19,7 @@ use Rattle.mich_frames.specs.Around.{less}
 use Rattle.mich_frames.specs.Frames.{Frame}
 use Rattle.mich_frames.specs.Rows.{minted_at}
 use Rattle.mich_frames.specs.Stands.{StandsAt}
-use Rattle.laws_evaluation.specs.Laws.{amount_issued}
+use Rattle.laws_code.specs.evaluation.Laws.{amount_issued}
 use Rattle.mich_interpreter.specs.View.{Before, Beyond, tops, all_changes, minted_before, burnt_before, around, tally}
 use Rattle.mich_interpreter.specs.declared.state.State.{State}
 

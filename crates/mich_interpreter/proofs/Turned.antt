@@ -1,9 +1,9 @@
 -- Turns of a run, through views that open and end.
 use Rattle.std.proofs.Common.{◌≡◌, ◌≤◌, ◌<◌, ◌++◌, List, [], ◌∷◌, refl, sym, ◌∙◌, subst}
-use Rattle.rules_base.specs.Limits.{block_limit}
-use Rattle.rules_types.specs.Kind.{Kind}
-use Rattle.rules_steps.specs.Failure as f
-use Rattle.rules_evaluation.specs.Outcome.{Outcome, failed, stack}
+use Rattle.rules_text.specs.nodes.Limits.{block_limit}
+use Rattle.rules_data.specs.types.Kind.{Kind}
+use Rattle.rules_code.specs.steps.Failure as f
+use Rattle.rules_code.specs.evaluation.Outcome.{Outcome, failed, stack}
 use Rattle.mich_frames.specs.Frames as fr
 use Rattle.mich_frames.specs.Shapes.{HasTop}
 use Rattle.mich_frames.proofs.ForCallers.{all_done}

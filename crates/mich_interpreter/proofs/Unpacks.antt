@@ -2,29 +2,29 @@
 use Rattle.std.proofs.Common.{◌≡◌, ◌<◌, ◌≤◌, ◌^◌, ℕ, true, false, List, [], ◌∷◌, Option, Some, None, length, refl, sym, ap, ◌∙◌, subst, arith}
 use Rattle.std.specs.Prelude.{IfSome, option_map}
 use Rattle.std.proofs.lemmas.Bool.{leb-true}
-use Rattle.rules_base.specs.Limits.{byte_limit}
-use Rattle.rules_base.specs.Tree.{Tree}
-use Rattle.rules_gas.specs.declared.Kind.TheVariants as g
-use Rattle.rules_gas.specs.Prices.{cost}
-use Rattle.rules_types.specs.Attributes.{pushable}
-use Rattle.rules_types.specs.Kind.{Kind}
-use Rattle.rules_instructions.specs.Types as t
-use Rattle.rules_instructions.specs.Change.{Change}
-use Rattle.rules_instructions.specs.OtherChanges.{hash_change}
-use Rattle.rules_instructions.specs.Straight.{on_hashes}
-use Rattle.rules_instructions.specs.Straight as i
-use Rattle.rules_values.specs.Literals.{is_short}
-use Rattle.rules_values.specs.Val.{Val, bytes}
-use Rattle.rules_typing.specs.Fits.{Known, AllFit}
-use Rattle.rules_steps.specs.Costs.{hash_weight}
-use Rattle.rules_steps.specs.Failure as f
-use Rattle.rules_steps.specs.Packing.{hash_step, unpacked}
-use Rattle.rules_steps.specs.Step.{kept, optional}
-use Rattle.rules_evaluation.specs.Outcome.{Outcome, failed}
-use Rattle.rules_evaluation.specs.Surroundings.{Surroundings}
-use Rattle.rules_evaluation.specs.Trying.{trial}
-use Rattle.laws_evaluation.specs.Laws.{known}
-use Rattle.laws_typed.proofs.ForCallers.{Taken}
+use Rattle.rules_text.specs.nodes.Limits.{byte_limit}
+use Rattle.rules_text.specs.nodes.Tree.{Tree}
+use Rattle.rules_data.specs.declared.gas.Kind.TheVariants as g
+use Rattle.rules_data.specs.gas.Prices.{cost}
+use Rattle.rules_data.specs.types.Attributes.{pushable}
+use Rattle.rules_data.specs.types.Kind.{Kind}
+use Rattle.rules_code.specs.instructions.Types as t
+use Rattle.rules_code.specs.instructions.Change.{Change}
+use Rattle.rules_code.specs.instructions.OtherChanges.{hash_change}
+use Rattle.rules_code.specs.instructions.Straight.{on_hashes}
+use Rattle.rules_code.specs.instructions.Straight as i
+use Rattle.rules_data.specs.values.Literals.{is_short}
+use Rattle.rules_data.specs.values.Val.{Val, bytes}
+use Rattle.rules_code.specs.typing.Fits.{Known, AllFit}
+use Rattle.rules_code.specs.steps.Costs.{hash_weight}
+use Rattle.rules_code.specs.steps.Failure as f
+use Rattle.rules_code.specs.steps.Packing.{hash_step, unpacked}
+use Rattle.rules_code.specs.steps.Step.{kept, optional}
+use Rattle.rules_code.specs.evaluation.Outcome.{Outcome, failed}
+use Rattle.rules_code.specs.evaluation.Surroundings.{Surroundings}
+use Rattle.rules_code.specs.evaluation.Trying.{trial}
+use Rattle.laws_code.specs.evaluation.Laws.{known}
+use Rattle.laws_code.proofs.typed.ForCallers.{Taken}
 use Rattle.mich_frames.specs.Frames.{Frame}
 use Rattle.mich_frames.specs.Shapes.{HasBytes}
 use Rattle.mich_frames.specs.Stands.{StandsAt}
@@ -32,12 +32,12 @@ use Rattle.mich_frames.proofs.ForCallers.{row_broke, row_taken}
 use Rattle.mich_gas.specs.declared.costs.Costs.{Costs}
 use Rattle.mich_gas.specs.View.{listed}
 use Rattle.mich_data.specs.Whole.{IsWhole}
-use Rattle.mich_hashes.specs.Operands.{HasOperand}
+use Rattle.mich_store_steps.specs.hashes.Operands.{HasOperand}
 use Rattle.mich_instr.specs.Code as made
 use Rattle.mich_stack.specs.Views.{Sight, seen}
 use Rattle.mich_term.specs.ValueView.{val}
 use Rattle.mich_term.specs.declared.value.Value.{Value}
-use Rattle.mich_unpack.specs.Unpacked.{IsUnpacked}
+use Rattle.mich_literals.specs.unpacking.Unpacked.{IsUnpacked}
 use Rattle.mich_interpreter.specs.Ends.{IsPaid, Meets}
 use Rattle.mich_interpreter.specs.View.{Beyond, tops, around, tally}
 use Rattle.mich_interpreter.specs.declared.state.State.{State}

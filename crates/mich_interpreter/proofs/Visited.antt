@@ -5,18 +5,18 @@ use Rattle.std.specs.declared.option.Option.{Option}
 use Rattle.std.specs.BTreeMap.{is_at}
 use Rattle.std.specs.List.{AllByRecursion}
 use Rattle.std.specs.Map.{lookup}
-use Rattle.rules_types.specs.Kind.{Kind}
-use Rattle.rules_types.specs.Kind as k
-use Rattle.rules_instructions.specs.Context as place
-use Rattle.rules_instructions.specs.Same.{same_kind}
-use Rattle.rules_forms.specs.Spelling.{contract_place, implicit_place, spelled_address, is_key_hash}
-use Rattle.rules_typing.specs.Scripts.{Outline, TypedView}
-use Rattle.rules_evaluation.specs.Contracts.{Viewed, contract_in, hash_in, outline_in, view_named, viewed, viewed_of, viewed_with}
-use Rattle.rules_evaluation.specs.Surroundings.{Contract as PlainContract}
-use Rattle.laws_sights.specs.Sights.{sight}
-use Rattle.laws_sights.proofs.ForCallers.{sound_of, sound_seen}
-use Rattle.laws_stacks.proofs.ForCallers.{place_back}
-use Rattle.mich_arguments.proofs.ForCallers.{account_place, contract_place_is}
+use Rattle.rules_data.specs.types.Kind.{Kind}
+use Rattle.rules_data.specs.types.Kind as k
+use Rattle.rules_code.specs.instructions.Context as place
+use Rattle.rules_code.specs.instructions.Same.{same_kind}
+use Rattle.rules_data.specs.forms.Spelling.{contract_place, implicit_place, spelled_address, is_key_hash}
+use Rattle.rules_code.specs.typing.Scripts.{Outline, TypedView}
+use Rattle.rules_code.specs.evaluation.Contracts.{Viewed, contract_in, hash_in, outline_in, view_named, viewed, viewed_of, viewed_with}
+use Rattle.rules_code.specs.evaluation.Surroundings.{Contract as PlainContract}
+use Rattle.mich_store_steps.specs.seen.Sights.{sight}
+use Rattle.mich_store_steps.proofs.seen.ForCallers.{sound_of, sound_seen}
+use Rattle.laws_code.proofs.stacks.ForCallers.{place_back}
+use Rattle.mich_literals.proofs.arguments_lemmas.ForCallers.{account_place, contract_place_is}
 use Rattle.mich_base.specs.TypeView.{kind}
 use Rattle.mich_bigmap.specs.Bases.{Bases}
 use Rattle.mich_bigmap.specs.Layers.{AreSettled, SettledLayer}
@@ -32,7 +32,7 @@ use Rattle.mich_instr.specs.View.{codes, script_code, script_node, view_codes}
 use Rattle.mich_instr.specs.declared.instr.Script.{Script, out-Script}
 use Rattle.mich_instr.specs.declared.instr.Script as scripts
 use Rattle.mich_stack.specs.Views.{seen}
-use Rattle.mich_standing.proofs.ForCallers.{hash_of}
+use Rattle.mich_world.proofs.simulation_lemmas.ForCallers.{hash_of}
 use Rattle.mich_term.specs.Layers.{AreFormed, FormedLayer}
 use Rattle.mich_term.specs.declared.value.Value.{Value}
 use Rattle.mich_types.specs.Entered.{entry_of}

@@ -2,30 +2,30 @@
 use Rattle.std.proofs.Common.{◌≡◌, ℕ, ℤ, true, List, [], ◌∷◌, Some, arith}
 use Rattle.std.specs.Prelude.{◌≤ℤ◌, pos}
 use Rattle.std.proofs.lemmas.Int.{ints}
-use Rattle.rules_base.specs.Tree.{Tree}
-use Rattle.rules_types.specs.declared.Simple.TheVariants as s
-use Rattle.rules_types.specs.Kind.{Kind}
-use Rattle.rules_types.specs.Kind as k
-use Rattle.rules_instructions.specs.Types as t
-use Rattle.rules_instructions.specs.Change.{Change}
-use Rattle.rules_instructions.specs.DataChanges.{collection_change}
-use Rattle.rules_instructions.specs.Effect.{change}
-use Rattle.rules_instructions.specs.OtherChanges.{text_change}
-use Rattle.rules_instructions.specs.Straight.{Straight, CollectionRow, TextRow, on_collections, on_text}
-use Rattle.rules_instructions.specs.Straight as i
-use Rattle.rules_values.specs.Forms.{has_simple_form}
-use Rattle.rules_values.specs.Literals.{is_nat}
-use Rattle.rules_values.specs.Val.{Val, Vals, number, text, bytes, list, table}
-use Rattle.rules_typing.specs.Fits.{Known, AllFit}
-use Rattle.rules_evaluation.specs.Outcome.{Outcome}
-use Rattle.laws_evaluation.specs.Laws.{known}
-use Rattle.laws_suits.proofs.ForCallers.{row_suits}
-use Rattle.laws_typed.proofs.ForCallers.{Taken}
+use Rattle.rules_text.specs.nodes.Tree.{Tree}
+use Rattle.rules_data.specs.declared.types.Simple.TheVariants as s
+use Rattle.rules_data.specs.types.Kind.{Kind}
+use Rattle.rules_data.specs.types.Kind as k
+use Rattle.rules_code.specs.instructions.Types as t
+use Rattle.rules_code.specs.instructions.Change.{Change}
+use Rattle.rules_code.specs.instructions.DataChanges.{collection_change}
+use Rattle.rules_code.specs.instructions.Effect.{change}
+use Rattle.rules_code.specs.instructions.OtherChanges.{text_change}
+use Rattle.rules_code.specs.instructions.Straight.{Straight, CollectionRow, TextRow, on_collections, on_text}
+use Rattle.rules_code.specs.instructions.Straight as i
+use Rattle.rules_data.specs.values.Forms.{has_simple_form}
+use Rattle.rules_data.specs.values.Literals.{is_nat}
+use Rattle.rules_data.specs.values.Val.{Val, Vals, number, text, bytes, list, table}
+use Rattle.rules_code.specs.typing.Fits.{Known, AllFit}
+use Rattle.rules_code.specs.evaluation.Outcome.{Outcome}
+use Rattle.laws_code.specs.evaluation.Laws.{known}
+use Rattle.mich_frames.proofs.operands.ForCallers.{row_suits}
+use Rattle.laws_code.proofs.typed.ForCallers.{Taken}
 use Rattle.mich_frames.specs.Frames.{Frame}
 use Rattle.mich_frames.proofs.ForCallers.{row_taken}
 use Rattle.mich_gas.specs.declared.costs.Costs.{Costs}
 use Rattle.mich_instr.specs.Code as made
-use Rattle.mich_prices.specs.Operands.{HasKey, HasText, HasOperands}
+use Rattle.mich_step.specs.prices.Operands.{HasKey, HasText, HasOperands}
 use Rattle.mich_stack.specs.Keys.{IsKeyOnTop}
 use Rattle.mich_stack.specs.Views.{Sight}
 use Rattle.mich_step.specs.Rule.{Suits}

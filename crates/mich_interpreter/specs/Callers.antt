@@ -1,10 +1,10 @@
 -- Callers of views: the frames that they stand for, and what was before the views that they called. The first one is outermost.
 use Rattle.std.specs.Prelude.{◌≡◌, ◌≤◌, ◌<◌, ◌+◌, ◌++◌, ℤ, Bool, true, false, List, [], ◌∷◌, drop}
-use Rattle.rules_base.specs.Limits.{block_limit}
-use Rattle.rules_types.specs.Kind.{Kind}
-use Rattle.rules_values.specs.Tickets.{Identity}
-use Rattle.rules_values.specs.Val.{some}
-use Rattle.rules_evaluation.specs.Outcome.{Outcome}
+use Rattle.rules_text.specs.nodes.Limits.{block_limit}
+use Rattle.rules_data.specs.types.Kind.{Kind}
+use Rattle.rules_data.specs.values.Tickets.{Identity}
+use Rattle.rules_data.specs.values.Val.{some}
+use Rattle.rules_code.specs.evaluation.Outcome.{Outcome}
 use Rattle.mich_gas.specs.declared.costs.Costs.{Costs}
 use Rattle.mich_frames.specs.Frames as fr
 use Rattle.mich_instr.specs.View.{codes}

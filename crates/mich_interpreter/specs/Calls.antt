@@ -1,8 +1,8 @@
 -- Lambdas on top of a stack, and the values that their bodies begin with.
 use Rattle.std.specs.Prelude.{Bool, true, false, List, [], ◌∷◌}
-use Rattle.rules_base.specs.Tree.{Tree, seq}
-use Rattle.rules_values.specs.Val.{Val}
-use Rattle.rules_values.specs.Val as v
+use Rattle.rules_text.specs.nodes.Tree.{Tree, seq}
+use Rattle.rules_data.specs.values.Val.{Val}
+use Rattle.rules_data.specs.values.Val as v
 
 -- a lambda on top, whose body is a sequence
 abbrev pub HasLambda : List Val → Type 0

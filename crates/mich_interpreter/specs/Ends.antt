@@ -1,20 +1,20 @@
 -- How an instruction ends.
 use Rattle.std.specs.Prelude.{◌≡◌, ◌≤◌, ◌<◌, ◌-◌, ℕ, pos, ◌+ℤ◌, ◌-ℤ◌, Bool, true, false, List, [], ◌∷◌, Option, Some, None, Result, IfOk}
 use Rattle.mich_base.specs.declared.memory.Memory.{Memory}
-use Rattle.rules_gas.specs.declared.Kind.{Kind as Priced}
-use Rattle.rules_gas.specs.Prices.{Listed, cost}
-use Rattle.rules_types.specs.Kind.{Kind}
-use Rattle.rules_values.specs.Val.{Val}
-use Rattle.rules_steps.specs.Changes.{Change, burnt_in}
-use Rattle.rules_steps.specs.Environment.{Environment}
-use Rattle.laws_evaluation.specs.Laws.{amount_issued}
-use Rattle.rules_steps.specs.Failure.{Failure}
-use Rattle.rules_steps.specs.Failure as f
-use Rattle.rules_evaluation.specs.Operations.{Tally}
-use Rattle.rules_evaluation.specs.Outcome.{Outcome, failed}
+use Rattle.rules_data.specs.declared.gas.Kind.{Kind as Priced}
+use Rattle.rules_data.specs.gas.Prices.{Listed, cost}
+use Rattle.rules_data.specs.types.Kind.{Kind}
+use Rattle.rules_data.specs.values.Val.{Val}
+use Rattle.rules_code.specs.steps.Changes.{Change, burnt_in}
+use Rattle.rules_code.specs.steps.Environment.{Environment}
+use Rattle.laws_code.specs.evaluation.Laws.{amount_issued}
+use Rattle.rules_code.specs.steps.Failure.{Failure}
+use Rattle.rules_code.specs.steps.Failure as f
+use Rattle.rules_code.specs.evaluation.Operations.{Tally}
+use Rattle.rules_code.specs.evaluation.Outcome.{Outcome, failed}
 use Rattle.mich_gas.specs.declared.costs.Costs.{Costs}
 use Rattle.mich_base.specs.TypeView.{kind}
-use Rattle.mich_undo.specs.History.{Keeps as KeepsBooks}
+use Rattle.mich_base.specs.undo.History.{Keeps as KeepsBooks}
 use Rattle.mich_stack.specs.Views.{Sight, seen}
 use Rattle.mich_step.specs.Views.{environment}
 use Rattle.mich_instr.specs.Code.{Code}

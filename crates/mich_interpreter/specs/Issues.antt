@@ -1,8 +1,8 @@
 -- The operations that issued ones stand for, however big maps are seen.
 use Rattle.std.specs.Prelude.{List}
 use Rattle.std.specs.List.{AllByRecursion}
-use Rattle.rules_evaluation.specs.Operations.{transfer, origination, event}
-use Rattle.rules_evaluation.specs.Operations as rules
+use Rattle.rules_code.specs.evaluation.Operations.{transfer, origination, event}
+use Rattle.rules_code.specs.evaluation.Operations as rules
 use Rattle.mich_base.specs.TypeView.{kind}
 use Rattle.mich_forms.specs.Spelled.{address_bytes}
 use Rattle.mich_instr.specs.Issued.{numbered}

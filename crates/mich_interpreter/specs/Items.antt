@@ -1,6 +1,6 @@
 -- The items that are left of what ITER and MAP go over.
 use Rattle.std.specs.Prelude.{List, [], ◌∷◌, map, reverse}
-use Rattle.rules_values.specs.Val.{Val, both}
+use Rattle.rules_data.specs.values.Val.{Val, both}
 use Rattle.mich_term.specs.View.{datum}
 use Rattle.mich_term.specs.declared.datum.Datum.{Datum}
 use Rattle.mich_term.specs.declared.value.Value.{Value}

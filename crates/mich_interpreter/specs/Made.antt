@@ -1,8 +1,8 @@
 -- What MAP goes over, as frames. A collection is one that is rebuilt alike: with the same keys.
 use Rattle.std.specs.Prelude.{◌≡◌, List, [], ◌∷◌, ◌++◌, map, reverse}
 use Rattle.std.specs.declared.cmp.Ordering.TheVariants.{Less}
-use Rattle.rules_values.specs.Val.{Val, Vals, Pairs, no_val, no_pair, more_pairs}
-use Rattle.rules_values.specs.Val as v
+use Rattle.rules_data.specs.values.Val.{Val, Vals, Pairs, no_val, no_pair, more_pairs}
+use Rattle.rules_data.specs.values.Val as v
 use Rattle.mich_term.specs.View.{datum, vals_of, pairs_of}
 use Rattle.mich_term.specs.Keyed.{by}
 use Rattle.mich_term.specs.declared.datum.Datum.{Datum}

@@ -1,8 +1,8 @@
 -- Truth values, unions, options and lists on top of a stack.
 use Rattle.std.specs.Prelude.{◌≡◌, ◌<◌, ◌^◌, pos, Bool, true, false, List, ◌∷◌}
-use Rattle.rules_forms.specs.Spelling.{is_address, is_key_hash}
-use Rattle.rules_values.specs.Val.{Val, no_val, more_vals}
-use Rattle.rules_values.specs.Val as v
+use Rattle.rules_data.specs.forms.Spelling.{is_address, is_key_hash}
+use Rattle.rules_data.specs.values.Val.{Val, no_val, more_vals}
+use Rattle.rules_data.specs.values.Val as v
 
 abbrev pub is_true_top : List Val → Bool
 is_true_top (v.truth b ∷ V) = b

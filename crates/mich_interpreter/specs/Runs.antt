@@ -1,8 +1,8 @@
 -- Where a run stands, and how its steps end.
 use Rattle.std.specs.Prelude.{◌≡◌, ◌≤◌, ◌<◌, ◌+◌, ◌++◌, ℕ, Bool, true, false, List, [], ◌∷◌, drop, Option, Some, None}
-use Rattle.rules_base.specs.Limits.{block_limit}
-use Rattle.rules_types.specs.Kind.{Kind}
-use Rattle.rules_evaluation.specs.Outcome.{Outcome, stack, failed}
+use Rattle.rules_text.specs.nodes.Limits.{block_limit}
+use Rattle.rules_data.specs.types.Kind.{Kind}
+use Rattle.rules_code.specs.evaluation.Outcome.{Outcome, stack, failed}
 use Rattle.mich_gas.specs.declared.costs.Costs.{Costs}
 use Rattle.mich_instr.specs.Code.{Codes}
 use Rattle.mich_instr.specs.View.{codes}

@@ -1,8 +1,8 @@
 -- What a run sees of the world in which it began.
 use Rattle.std.specs.Prelude.{◌≡◌, ℕ, List, option_map}
-use Rattle.laws_sights.specs.Sights.{sight}
-use Rattle.rules_evaluation.specs.Contracts.{Lookup}
-use Rattle.mich_arguments.specs.Arguments.{HasTypedScripts}
+use Rattle.mich_store_steps.specs.seen.Sights.{sight}
+use Rattle.rules_code.specs.evaluation.Contracts.{Lookup}
+use Rattle.mich_literals.specs.arguments.Arguments.{HasTypedScripts}
 use Rattle.mich_world.specs.Holders.{contract_at}
 use Rattle.mich_world.specs.Standing.{plain}
 use Rattle.mich_world.specs.Storages.{AreStored}

@@ -1,11 +1,11 @@
 -- The plain frames, values and counts that those of the code stand for.
 use Rattle.std.specs.Prelude.{ℕ, ℤ, ◌+ℤ◌, ◌-ℤ◌, List, ◌++◌, map, reverse, drop, Option}
-use Rattle.rules_values.specs.Val.{Val}
-use Rattle.rules_values.specs.Tickets.{Identity}
-use Rattle.rules_evaluation.specs.Surroundings.{Contract}
-use Rattle.rules_evaluation.specs.Operations.{Tally}
-use Rattle.rules_evaluation.specs.Operations as rules
-use Rattle.laws_evaluation.specs.Laws.{amount_issued}
+use Rattle.rules_data.specs.values.Val.{Val}
+use Rattle.rules_data.specs.values.Tickets.{Identity}
+use Rattle.rules_code.specs.evaluation.Surroundings.{Contract}
+use Rattle.rules_code.specs.evaluation.Operations.{Tally}
+use Rattle.rules_code.specs.evaluation.Operations as rules
+use Rattle.laws_code.specs.evaluation.Laws.{amount_issued}
 use Rattle.mich_gas.specs.declared.costs.Costs.{Costs}
 use Rattle.mich_gas.specs.View.{listed}
 use Rattle.mich_term.specs.declared.value.Value.{Value}
@@ -13,7 +13,7 @@ use Rattle.mich_stack.specs.Views.{Sight, seen}
 use Rattle.mich_instr.specs.View.{codes}
 use Rattle.mich_frames.specs.Around.{Around}
 use Rattle.mich_frames.specs.Frames as fr
-use Rattle.rules_steps.specs.Changes.{Change, minted_in, burnt_in}
+use Rattle.rules_code.specs.steps.Changes.{Change, minted_in, burnt_in}
 use Rattle.mich_step.specs.Shown.{ShowsTickets}
 use Rattle.mich_step.specs.Views.{environment}
 use Rattle.mich_tickets.specs.Books.{State as Ledger}

@@ -1,10 +1,10 @@
 -- Views that are there.
 use Rattle.std.specs.Prelude.{◌≡◌, ℕ, List, [], ◌∷◌, Option, Some, None}
-use Rattle.rules_base.specs.Tree.{Trees, seq}
-use Rattle.rules_types.specs.Kind.{Kind}
-use Rattle.rules_types.specs.Kind as k
-use Rattle.rules_instructions.specs.Context as place
-use Rattle.rules_evaluation.specs.Contracts.{Viewed}
+use Rattle.rules_text.specs.nodes.Tree.{Trees, seq}
+use Rattle.rules_data.specs.types.Kind.{Kind}
+use Rattle.rules_data.specs.types.Kind as k
+use Rattle.rules_code.specs.instructions.Context as place
+use Rattle.rules_code.specs.evaluation.Contracts.{Viewed}
 use Rattle.mich_frames.specs.Views.{view_code}
 use Rattle.mich_instr.specs.Typed.{AreCode}
 use Rattle.mich_instr.specs.View.{codes, view_codes}

@@ -1,9 +1,9 @@
 // APPLY.
 ghost use Rattle.std.specs.Prelude.{◌≡◌, ◌∷◌, [], true, codes, IfOk};
-ghost use Rattle.rules_base.specs.Tree.{none, seq, trees_of};
-ghost use Rattle.rules_types.specs.Kind.{pair};
-ghost use Rattle.rules_types.specs.Printing.{named};
-ghost use Rattle.rules_evaluation.specs.Calls.{applied, push_node, rec_node};
+ghost use Rattle.rules_text.specs.nodes.Tree.{none, seq, trees_of};
+ghost use Rattle.rules_data.specs.types.Kind.{pair};
+ghost use Rattle.rules_data.specs.types.Printing.{named};
+ghost use Rattle.rules_code.specs.evaluation.Calls.{applied, push_node, rec_node};
 ghost use Rattle.mich_base.specs.TypeView.{kind};
 ghost use Rattle.mich_base.specs.View.{tree};
 ghost use Rattle.mich_instr.specs.Code as made;

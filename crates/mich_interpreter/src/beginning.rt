@@ -1,7 +1,7 @@
 // A run of code from its beginning.
 ghost use Rattle.std.specs.Prelude.{List, IfOk};
-ghost use Rattle.rules_types.specs.Kind.{Kind};
-ghost use Rattle.rules_evaluation.specs.Outcome.{Outcome};
+ghost use Rattle.rules_data.specs.types.Kind.{Kind};
+ghost use Rattle.rules_code.specs.evaluation.Outcome.{Outcome};
 ghost use Rattle.mich_interpreter.specs.View.{Beyond};
 ghost use Rattle.mich_interpreter.specs.Begins.{Opens};
 ghost use Rattle.mich_interpreter.specs.Runs.{IsEnd, KeepsEnd};
@@ -10,7 +10,7 @@ ghost use Rattle.mich_interpreter.specs.Sees.{Sees};
 use crate::machine::{Ended, Machine, work};
 use crate::state::State;
 use mich_base::{Memory, Rows};
-use mich_bodies::Bodies;
+use mich_check::cache::Bodies;
 use mich_gas::Costs;
 use mich_instr::Block;
 use mich_world::World;

@@ -1,7 +1,7 @@
 // Instructions on big maps.
 ghost use Rattle.std.specs.Prelude.{◌≡◌, true, IfOk};
-ghost use Rattle.rules_base.specs.Tree.{Tree};
-ghost use Rattle.rules_instructions.specs.Straight.{on_collections};
+ghost use Rattle.rules_text.specs.nodes.Tree.{Tree};
+ghost use Rattle.rules_code.specs.instructions.Straight.{on_collections};
 ghost use Rattle.mich_instr.specs.Code as made;
 ghost use Rattle.mich_overload.specs.Steps.{is_on_big_map};
 ghost use Rattle.mich_overload.specs.View.{collection_row};
@@ -12,10 +12,10 @@ use crate::burning::burn_value;
 use crate::paying::pay_capped;
 use crate::state::State;
 use mich_base::Memory;
-use mich_entries::{big_map_step, big_map_weight};
 use mich_gas::Costs;
 use mich_overload::CollectionRow;
-use mich_prices::collection_price;
+use mich_step::prices::collection_price;
+use mich_store_steps::big_maps::{big_map_step, big_map_weight};
 use mich_world::World;
 use std::alloc::Global;
 

@@ -1,6 +1,6 @@
 // EXEC, FAILWITH and NEVER.
 ghost use Rattle.std.specs.Prelude.{◌≡◌, ◌∷◌, IfOk};
-ghost use Rattle.rules_values.specs.Val.{lambda};
+ghost use Rattle.rules_data.specs.values.Val.{lambda};
 ghost use Rattle.mich_base.specs.TypeView.{kind};
 ghost use Rattle.mich_base.specs.View.{tree};
 ghost use Rattle.mich_instr.specs.Code as made;
@@ -15,7 +15,7 @@ use crate::paying::pay;
 use crate::stack::{pop, push};
 use crate::state::State;
 use mich_base::{Link, Memory, Node, Rows, Shared, Ty, copy_type};
-use mich_bodies::Bodies;
+use mich_check::cache::Bodies;
 use mich_gas::{Costs, Kind};
 use mich_term::Value;
 use std::alloc::Global;

@@ -1,6 +1,6 @@
 // The addresses of contracts that are made.
 ghost use Rattle.std.specs.Prelude.{◌≡◌};
-ghost use Rattle.rules_evaluation.specs.Operations.{new_contract};
+ghost use Rattle.rules_code.specs.evaluation.Operations.{new_contract};
 
 /// The 20 bytes of a new contract, by its group's number and how many originations the group had before: the number in 8 bytes and the
 /// count in 4, the greatest byte first, and zeros (this host's own).

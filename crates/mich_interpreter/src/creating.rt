@@ -1,9 +1,9 @@
 // CREATE_CONTRACT.
 ghost use Rattle.std.specs.Prelude.{◌≡◌, ◌<◌, ◌+◌, ◌∷◌, IfOk};
-ghost use Rattle.rules_base.specs.Limits.{most_contents};
-ghost use Rattle.rules_forms.specs.Spelling.{contract_place};
-ghost use Rattle.rules_values.specs.Val.{bytes};
-ghost use Rattle.rules_evaluation.specs.Operations.{new_contract};
+ghost use Rattle.rules_text.specs.nodes.Limits.{most_contents};
+ghost use Rattle.rules_data.specs.forms.Spelling.{contract_place};
+ghost use Rattle.rules_data.specs.values.Val.{bytes};
+ghost use Rattle.rules_code.specs.evaluation.Operations.{new_contract};
 ghost use Rattle.mich_instr.specs.Code as made;
 ghost use Rattle.mich_instr.specs.View.{script_code};
 ghost use Rattle.mich_frames.specs.Shapes.{delegate_value};

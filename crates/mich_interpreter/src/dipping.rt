@@ -1,6 +1,6 @@
 // DIP.
 ghost use Rattle.std.specs.Prelude.{◌≡◌, IfOk, take, drop, ◌≤◌, length};
-ghost use Rattle.rules_base.specs.Tree.{Trees};
+ghost use Rattle.rules_text.specs.nodes.Tree.{Trees};
 ghost use Rattle.mich_stack.specs.Views.{Sight};
 ghost use Rattle.mich_instr.specs.Code as made;
 ghost use Rattle.mich_instr.specs.View.{codes};

@@ -1,12 +1,12 @@
 // PUSH, LAMBDA, LAMBDA_REC and SELF.
 ghost use Rattle.std.specs.Prelude.{◌≡◌, ◌<◌, ◌^◌, ℕ, List, true, is_some, Some, IfOk, IfSome};
-ghost use Rattle.rules_base.specs.Tree.{Tree, Trees, size};
-ghost use Rattle.rules_types.specs.Kind.{Kind as TypeKind, simple};
-ghost use Rattle.rules_types.specs.Attributes.{pushable};
-ghost use Rattle.rules_forms.specs.Spelling.{contract_place, spelled_address};
-ghost use Rattle.rules_values.specs.Val.{bytes};
-ghost use Rattle.rules_values.specs.Literals.{read, simple_value};
-ghost use Rattle.rules_evaluation.specs.Given.{value_of};
+ghost use Rattle.rules_text.specs.nodes.Tree.{Tree, Trees, size};
+ghost use Rattle.rules_data.specs.types.Kind.{Kind as TypeKind, simple};
+ghost use Rattle.rules_data.specs.types.Attributes.{pushable};
+ghost use Rattle.rules_data.specs.forms.Spelling.{contract_place, spelled_address};
+ghost use Rattle.rules_data.specs.values.Val.{bytes};
+ghost use Rattle.rules_data.specs.values.Literals.{read, simple_value};
+ghost use Rattle.rules_code.specs.evaluation.Given.{value_of};
 ghost use Rattle.mich_base.specs.TypeView.{kind};
 ghost use Rattle.mich_base.specs.View.{tree};
 ghost use Rattle.mich_data.specs.Whole.{IsSimple};
@@ -27,7 +27,7 @@ use mich_data::{ValueError, read_value, simple_value};
 use mich_forms::{Address, Entrypoint, Place};
 use mich_gas::{Costs, Kind};
 use mich_term::{Value, weight};
-use rules_types::Simple;
+use rules_data::types::Simple;
 use std::alloc::Global;
 
 // The type without arguments that a type is, where it is one that has literals of its own.

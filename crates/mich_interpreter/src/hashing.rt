@@ -1,8 +1,8 @@
 // PACK, UNPACK and the hashes.
 ghost use Rattle.std.specs.Prelude.{◌≡◌, false, IfOk};
-ghost use Rattle.rules_base.specs.Tree.{Tree};
-ghost use Rattle.rules_instructions.specs.Straight.{on_hashes};
-ghost use Rattle.mich_hashes.specs.Operands.{is_unpack};
+ghost use Rattle.rules_text.specs.nodes.Tree.{Tree};
+ghost use Rattle.rules_code.specs.instructions.Straight.{on_hashes};
+ghost use Rattle.mich_store_steps.specs.hashes.Operands.{is_unpack};
 ghost use Rattle.mich_instr.specs.Code as made;
 ghost use Rattle.mich_overload.specs.View.{hash_row};
 ghost use Rattle.mich_interpreter.specs.Ends.{Comes, Carries, Spends, KeepsAct};
@@ -13,12 +13,12 @@ use crate::state::State;
 use crate::straights::failed;
 use crate::unpacking::act_unpack;
 use mich_base::Memory;
-use mich_bodies::Bodies;
+use mich_check::cache::Bodies;
 use mich_gas::Costs;
-use mich_hashes::{hash_step, hash_weight};
 use mich_overload::HashRow;
-use mich_prices::hash_price;
 use mich_stack::StepError;
+use mich_step::prices::hash_price;
+use mich_store_steps::hashes::{hash_step, hash_weight};
 use std::alloc::Global;
 
 // Not for UNPACK.

@@ -1,11 +1,11 @@
 // TRANSFER_TOKENS, EMIT, CONTRACT and VIEW.
 ghost use Rattle.std.specs.Prelude.{false, ◌≡◌, ◌≤◌, ◌<◌, ◌+◌, ◌∷◌, pos, MatchOption, IfOk, option_map};
-ghost use Rattle.rules_base.specs.Limits.{operation_limit};
-ghost use Rattle.rules_base.specs.Tree.{Tree};
-ghost use Rattle.rules_values.specs.Val.{number, bytes};
-ghost use Rattle.rules_instructions.specs.Straight.{on_operations};
-ghost use Rattle.rules_instructions.specs.Straight as i;
-ghost use Rattle.rules_steps.specs.Step.{optional};
+ghost use Rattle.rules_text.specs.nodes.Limits.{operation_limit};
+ghost use Rattle.rules_text.specs.nodes.Tree.{Tree};
+ghost use Rattle.rules_data.specs.values.Val.{number, bytes};
+ghost use Rattle.rules_code.specs.instructions.Straight.{on_operations};
+ghost use Rattle.rules_code.specs.instructions.Straight as i;
+ghost use Rattle.rules_code.specs.steps.Step.{optional};
 ghost use Rattle.mich_base.specs.TypeView.{kind};
 ghost use Rattle.mich_forms.specs.Spelled.{address_bytes};
 ghost use Rattle.mich_instr.specs.Code as made;
@@ -24,7 +24,7 @@ use crate::stack::{pop, pop_address, push};
 use crate::state::{Counts, State};
 use crate::viewing::act_view;
 use mich_base::{Bytes, Link, Memory, OPERATION_LIMIT, Rows, Text, Ty, copy_type};
-use mich_bodies::Bodies;
+use mich_check::cache::Bodies;
 use mich_forms::{Address, Entrypoint};
 use mich_gas::{Costs, Kind};
 use mich_instr::Issued;

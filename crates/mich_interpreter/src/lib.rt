@@ -35,5 +35,5 @@ pub use act::Failed;
 pub use beginning::run_code;
 pub use contracts::new_contract;
 pub use machine::Ended;
-pub use mich_bodies::{Bodies, Uses};
+pub use mich_check::cache::{Bodies, Uses};
 pub use state::{Counts, State};

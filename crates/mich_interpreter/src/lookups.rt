@@ -1,15 +1,15 @@
 // Contracts that code names.
 ghost use Rattle.std.specs.Prelude.{◌≡◌, option_map};
-ghost use Rattle.rules_evaluation.specs.Contracts.{Lookup, chosen_entrypoint, contract_of, takes};
-ghost use Rattle.rules_forms.specs.Spelling.{contract_place, implicit_place, spelled_address};
-ghost use Rattle.mich_arguments.specs.Arguments.{HasTypedScripts};
+ghost use Rattle.rules_code.specs.evaluation.Contracts.{Lookup, chosen_entrypoint, contract_of, takes};
+ghost use Rattle.rules_data.specs.forms.Spelling.{contract_place, implicit_place, spelled_address};
+ghost use Rattle.mich_literals.specs.arguments.Arguments.{HasTypedScripts};
 ghost use Rattle.mich_base.specs.TypeView.{kind};
 ghost use Rattle.mich_forms.specs.Spelled.{address_bytes, place_bytes};
 ghost use Rattle.mich_interpreter.specs.Sees.{LooksInto};
 
-use mich_arguments::{has_entrypoint, is_taken_by_account};
 use mich_base::Ty;
 use mich_forms::{Address, Entrypoint, KeyHash, Place};
+use mich_literals::arguments::{has_entrypoint, is_taken_by_account};
 use mich_world::World;
 
 // The entrypoint that an address and an annotation name together. None where neither is the default one.

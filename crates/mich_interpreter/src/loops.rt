@@ -1,7 +1,7 @@
 // LOOP and LOOP_LEFT.
 ghost use Rattle.std.specs.Prelude.{◌≡◌, ℕ, List, IfOk};
-ghost use Rattle.rules_types.specs.Kind.{Kind as TypeKind};
-ghost use Rattle.rules_evaluation.specs.Outcome.{Outcome};
+ghost use Rattle.rules_data.specs.types.Kind.{Kind as TypeKind};
+ghost use Rattle.rules_code.specs.evaluation.Outcome.{Outcome};
 ghost use Rattle.mich_frames.specs.Frames.{Frame as PlainFrame};
 ghost use Rattle.mich_instr.specs.Code as made;
 ghost use Rattle.mich_instr.specs.View.{codes};

@@ -1,7 +1,7 @@
 // A run: its blocks, its frames and what they come to.
 ghost use Rattle.std.specs.Prelude.{[], ◌∷◌, ◌++◌, ◌≡◌, ◌+◌, ◌^◌, ◌<◌, ℕ, List, length, IfOk, IfSome, MatchOption};
-ghost use Rattle.rules_types.specs.Kind.{Kind};
-ghost use Rattle.rules_evaluation.specs.Outcome.{Outcome};
+ghost use Rattle.rules_data.specs.types.Kind.{Kind};
+ghost use Rattle.rules_code.specs.evaluation.Outcome.{Outcome};
 ghost use Rattle.mich_gas.specs.declared.costs.Costs.{Costs as Prices};
 ghost use Rattle.mich_frames.specs.Frames.{Frame as PlainFrame};
 ghost use Rattle.mich_instr.specs.View.{code};
@@ -28,7 +28,7 @@ use crate::stack::{put_all, put_below};
 use crate::state::State;
 use crate::straights::act_straight;
 use mich_base::{BLOCK_LIMIT, Link, Memory, Rows};
-use mich_bodies::Bodies;
+use mich_check::cache::Bodies;
 use mich_gas::Costs;
 use mich_instr::{Block, Instr};
 use mich_world::World;

@@ -1,6 +1,6 @@
 // MAP.
 ghost use Rattle.std.specs.Prelude.{◌≡◌, ◌∷◌, ◌++◌, [], IfOk};
-ghost use Rattle.rules_values.specs.Val.{some, unit};
+ghost use Rattle.rules_data.specs.values.Val.{some, unit};
 ghost use Rattle.mich_stack.specs.Views.{Sight, seen};
 ghost use Rattle.mich_frames.specs.Frames as fr;
 ghost use Rattle.mich_frames.specs.Shapes.{HasMapped, items_in};

@@ -1,6 +1,6 @@
 // Charges.
 ghost use Rattle.std.specs.Prelude.{◌≡◌, ◌≤◌, ◌<◌, ℕ};
-ghost use Rattle.laws_evaluation.specs.Laws.{IsCharged};
+ghost use Rattle.laws_code.specs.evaluation.Laws.{IsCharged};
 ghost use Rattle.mich_gas.specs.View.{listed};
 ghost use Rattle.mich_term.specs.Weights.{capped};
 ghost use Rattle.mich_interpreter.specs.Ends.{IsPaid};

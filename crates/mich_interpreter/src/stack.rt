@@ -1,6 +1,6 @@
 // Stacks of values, whose last element is on top.
 ghost use Rattle.std.specs.Prelude.{◌≡◌, ◌∷◌, ◌++◌, [], reverse, IfOk, MatchOption};
-ghost use Rattle.rules_values.specs.Val.{bytes, truth};
+ghost use Rattle.rules_data.specs.values.Val.{bytes, truth};
 ghost use Rattle.mich_forms.specs.Spelled.{address_bytes};
 ghost use Rattle.mich_stack.specs.Views.{Sight, seen};
 ghost use Rattle.mich_frames.specs.Shapes.{HasTop, HasTruth, HasOption, HasUnion, HasList};

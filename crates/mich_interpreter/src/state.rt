@@ -1,6 +1,6 @@
 // A run on its way.
 ghost use Rattle.std.specs.Prelude.{◌≤◌, ◌+◌};
-ghost use Rattle.rules_base.specs.Limits.{most_contents, operation_limit};
+ghost use Rattle.rules_text.specs.nodes.Limits.{most_contents, operation_limit};
 
 use mich_base::Rows;
 use mich_gas::Meter;

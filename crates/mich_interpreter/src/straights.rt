@@ -1,6 +1,6 @@
 // Instructions without bodies.
 ghost use Rattle.std.specs.Prelude.{◌≡◌, true, IfOk};
-ghost use Rattle.rules_base.specs.Tree.{Tree};
+ghost use Rattle.rules_text.specs.nodes.Tree.{Tree};
 ghost use Rattle.mich_instr.specs.Code as made;
 ghost use Rattle.mich_overload.specs.View.{straight};
 ghost use Rattle.mich_overload.specs.Steps.{in_step};
@@ -14,11 +14,11 @@ use crate::issuing::act_operation;
 use crate::paying::pay_capped;
 use crate::state::State;
 use mich_base::Memory;
-use mich_bodies::Bodies;
+use mich_check::cache::Bodies;
 use mich_gas::Costs;
 use mich_overload::Simple;
-use mich_prices::{price, weigh};
 use mich_stack::{StepError, StepFailure};
+use mich_step::prices::{price, weigh};
 use mich_step::step;
 use mich_world::World;
 use std::alloc::Global;

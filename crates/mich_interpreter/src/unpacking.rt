@@ -1,14 +1,14 @@
 // UNPACK.
 ghost use Rattle.std.specs.Prelude.{◌≡◌, ◌<◌, ◌^◌, ◌∷◌, true, length, IfOk, option_map};
-ghost use Rattle.rules_base.specs.Tree.{Tree};
-ghost use Rattle.rules_types.specs.Attributes.{pushable};
-ghost use Rattle.rules_values.specs.Val.{bytes};
-ghost use Rattle.rules_instructions.specs.Straight.{on_hashes};
-ghost use Rattle.rules_instructions.specs.Straight as i;
-ghost use Rattle.rules_steps.specs.Packing.{unpacked};
-ghost use Rattle.rules_steps.specs.Step.{optional};
-ghost use Rattle.rules_evaluation.specs.Surroundings.{Surroundings};
-ghost use Rattle.rules_evaluation.specs.Trying.{trial};
+ghost use Rattle.rules_text.specs.nodes.Tree.{Tree};
+ghost use Rattle.rules_data.specs.types.Attributes.{pushable};
+ghost use Rattle.rules_data.specs.values.Val.{bytes};
+ghost use Rattle.rules_code.specs.instructions.Straight.{on_hashes};
+ghost use Rattle.rules_code.specs.instructions.Straight as i;
+ghost use Rattle.rules_code.specs.steps.Packing.{unpacked};
+ghost use Rattle.rules_code.specs.steps.Step.{optional};
+ghost use Rattle.rules_code.specs.evaluation.Surroundings.{Surroundings};
+ghost use Rattle.rules_code.specs.evaluation.Trying.{trial};
 ghost use Rattle.mich_base.specs.TypeView.{kind};
 ghost use Rattle.mich_frames.specs.Shapes.{HasBytes};
 ghost use Rattle.mich_instr.specs.Code as made;
@@ -21,10 +21,10 @@ use crate::paying::pay;
 use crate::stack::push;
 use crate::state::State;
 use mich_base::{Bytes, Link, Memory, Rows, Ty};
-use mich_bodies::Bodies;
+use mich_check::cache::Bodies;
 use mich_gas::{Costs, Kind};
+use mich_literals::unpacking::unpack_value;
 use mich_term::Value;
-use mich_unpack::unpack_value;
 use std::alloc::Global;
 
 // Takes the bytes on top.

@@ -1,8 +1,8 @@
 // VIEW.
 ghost use Rattle.std.specs.Prelude.{◌≡◌, IfOk};
-ghost use Rattle.rules_base.specs.Tree.{Tree};
+ghost use Rattle.rules_text.specs.nodes.Tree.{Tree};
 ghost use Rattle.mich_base.specs.TypeView.{kind};
-ghost use Rattle.rules_values.specs.Val.{both};
+ghost use Rattle.rules_data.specs.values.Val.{both};
 ghost use Rattle.mich_stack.specs.Views.{Sight, seen};
 ghost use Rattle.mich_frames.specs.Rows.{view_row};
 ghost use Rattle.mich_instr.specs.Code as made;

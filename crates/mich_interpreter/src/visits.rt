@@ -1,7 +1,7 @@
 // Views of contracts.
 ghost use Rattle.std.specs.Prelude.{◌≡◌, IfOk, option_map};
-ghost use Rattle.rules_evaluation.specs.Contracts.{viewed};
-ghost use Rattle.rules_forms.specs.Spelling.{contract_place, implicit_place, spelled_address};
+ghost use Rattle.rules_code.specs.evaluation.Contracts.{viewed};
+ghost use Rattle.rules_data.specs.forms.Spelling.{contract_place, implicit_place, spelled_address};
 ghost use Rattle.mich_base.specs.TypeView.{kind};
 ghost use Rattle.mich_forms.specs.Spelled.{address_bytes};
 ghost use Rattle.mich_frames.specs.Views.{code_named, view_code};

@@ -3,7 +3,7 @@ use Rattle.std.proofs.Common.{◌≡◌, ℕ, List, ◌++◌, sym, ap, ◌∙◌
 use Rattle.std.specs.declared.option.Option.{Option}
 use Rattle.std.specs.Io.KnownBytes.{Appends}
 use Rattle.std.proofs.KnownBytes.{Appends-trans}
-use Rattle.rules_io.specs.Known.{AppendsFront}
+use Rattle.rules_text.specs.streams.Known.{AppendsFront}
 
 -- a front was written, and then a front of the rest
 pub AppendsFront-more : (a b c : Option (List ℕ)) (front rest text : List ℕ) → text ≡ front ++ rest → Appends a b front → AppendsFront b c rest → AppendsFront a c text

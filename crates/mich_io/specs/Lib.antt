@@ -1,2 +1,2 @@
-pub use Rattle.rules_io.specs.Causes
-pub use Rattle.rules_io.specs.Known
+pub use Rattle.rules_text.specs.streams.Causes
+pub use Rattle.rules_text.specs.streams.Known

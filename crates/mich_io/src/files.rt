@@ -3,8 +3,8 @@ ghost use Rattle.std.specs.Prelude.{◌≡◌, ◌<◌, ◌≤◌, ℕ, List, le
 ghost use Rattle.std.specs.declared.option.Option.{Option};
 ghost use Rattle.std.specs.Io.{ReadsAtMost};
 ghost use Rattle.std.specs.Io.KnownBytes.{ReadConsumes};
-ghost use Rattle.rules_io.specs.Causes.{HasCause};
-ghost use Rattle.rules_io.specs.Known.{SameFiles};
+ghost use Rattle.rules_text.specs.streams.Causes.{HasCause};
+ghost use Rattle.rules_text.specs.streams.Known.{SameFiles};
 
 use thiserror::Error;
 

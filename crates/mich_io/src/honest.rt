@@ -2,8 +2,8 @@
 ghost use Rattle.std.specs.Prelude.{◌≡◌, ◌<◌, ◌≤◌, ℕ, List, [], ◌∷◌, ◌++◌, drop, take, min, length, IsOk, OnOk, IfOk, OnErr, Contains, Some, IfErr, IsOkAnd, IsErrOf};
 ghost use Rattle.std.specs.Io.{ReadsAtMost, WritesAtMost};
 ghost use Rattle.std.specs.Io.KnownBytes.{Appends, Keeps, ReadConsumes};
-ghost use Rattle.rules_io.specs.Causes.{HasCause};
-ghost use Rattle.rules_io.specs.Known.{AppendsFront, SameFiles, content_at};
+ghost use Rattle.rules_text.specs.streams.Causes.{HasCause};
+ghost use Rattle.rules_text.specs.streams.Known.{AppendsFront, SameFiles, content_at};
 
 use crate::{Files, FilesFault, Sink, SinkFault};
 use mich_base::{Bytes, Text};
@@ -30,7 +30,7 @@ pub struct HonestFiles {
 
 impl Model for HonestFiles {
     ghost use Rattle.std.specs.Prelude.{◌≤◌, drop, length};
-    ghost use Rattle.rules_io.specs.Held.{HeldFile};
+    ghost use Rattle.rules_text.specs.streams.Held.{HeldFile};
 
     ghost Value = { HeldFile };
 

@@ -2,8 +2,8 @@
 ghost use Rattle.std.specs.Prelude.{◌≡◌, ◌<◌, ◌≤◌, ℕ, List, [], None, take, length, Contains, OnOk, OnErr, IfOk, IsErrOf};
 ghost use Rattle.std.specs.declared.option.Option.{Option};
 ghost use Rattle.std.specs.Io.{ReadsAtMost, WritesAtMost};
-ghost use Rattle.rules_io.specs.Causes.{HasCause};
-ghost use Rattle.rules_io.specs.Held.{one_more};
+ghost use Rattle.rules_text.specs.streams.Causes.{HasCause};
+ghost use Rattle.rules_text.specs.streams.Held.{one_more};
 
 use crate::{Files, FilesFault, Sink, SinkFault};
 use mich_base::Texts;
@@ -21,7 +21,7 @@ pub struct HostFiles<R: rt::Files + Clone + Drop> {
 }
 
 impl<R: rt::Files + Clone + Drop> Model for HostFiles<R> {
-    ghost use Rattle.rules_io.specs.Held.{SystemFiles};
+    ghost use Rattle.rules_text.specs.streams.Held.{SystemFiles};
 
     ghost Value = { SystemFiles };
 

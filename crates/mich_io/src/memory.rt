@@ -4,9 +4,9 @@ ghost use Rattle.std.specs.Str.{bytes_eq};
 ghost use Rattle.std.specs.Option.{option_map, option_copied};
 ghost use Rattle.std.specs.Io.{ReadsAtMost, WritesAtMost};
 ghost use Rattle.std.specs.Io.KnownBytes.{Appends, Keeps, ReadConsumes};
-ghost use Rattle.rules_io.specs.Causes.{HasCause};
-ghost use Rattle.rules_io.specs.Known.{AppendsFront, SameFiles, content_in, held_at, known_from};
-ghost use Rattle.rules_io.specs.Held.{is_listed, one_more, start_fails, read_fails, call_failed, started, count_given, read_from, write_fails, write_failed, written_to};
+ghost use Rattle.rules_text.specs.streams.Causes.{HasCause};
+ghost use Rattle.rules_text.specs.streams.Known.{AppendsFront, SameFiles, content_in, held_at, known_from};
+ghost use Rattle.rules_text.specs.streams.Held.{is_listed, one_more, start_fails, read_fails, call_failed, started, count_given, read_from, write_fails, write_failed, written_to};
 
 use crate::honest::copy_front;
 use crate::{Files, FilesFault, Sink, SinkFault};
@@ -85,8 +85,8 @@ pub struct MemFiles {
 }
 
 impl Model for MemFiles {
-    ghost use Rattle.rules_io.specs.Held.{HeldFiles};
-    ghost use Rattle.rules_io.specs.Known.{held_at, known_from};
+    ghost use Rattle.rules_text.specs.streams.Held.{HeldFiles};
+    ghost use Rattle.rules_text.specs.streams.Known.{held_at, known_from};
 
     ghost Value = { HeldFiles };
 
@@ -172,7 +172,7 @@ pub struct MemSink {
 }
 
 impl Model for MemSink {
-    ghost use Rattle.rules_io.specs.Held.{HeldSink};
+    ghost use Rattle.rules_text.specs.streams.Held.{HeldSink};
 
     ghost Value = { HeldSink };
 

@@ -6,32 +6,32 @@ use Rattle.std.specs.BTreeMap.{is_at}
 use Rattle.std.specs.List.{AllByRecursion}
 use Rattle.std.specs.Map.{lookup}
 use Rattle.std.proofs.lemmas.Int.{ints}
-use Rattle.rules_base.specs.Tree.{Tree, seq}
-use Rattle.rules_types.specs.Entrypoints.{Entry, find_entry}
-use Rattle.rules_types.specs.Kind.{Kind}
-use Rattle.rules_instructions.specs.Arguments.{found}
-use Rattle.rules_typing.specs.Nodes.{script}
-use Rattle.rules_typing.specs.Scripts.{Script as PlainScript}
-use Rattle.rules_values.specs.Val.{Val, both}
-use Rattle.rules_steps.specs.Environment.{Environment}
-use Rattle.rules_steps.specs.Changes.{Change}
-use Rattle.rules_steps.specs.Failure.{Failure}
-use Rattle.rules_evaluation.specs.Evaluation.{eval}
-use Rattle.rules_evaluation.specs.Loops.{ending}
-use Rattle.rules_evaluation.specs.Outcome.{Outcome, stack, failed, only_if}
-use Rattle.rules_evaluation.specs.Surroundings.{Contract as PlainContract}
-use Rattle.rules_world.specs.Outcomes.{Setting}
-use Rattle.rules_world.specs.Runs.{surroundings_of, tally_of, type_before, type_after, value_before, returned, with_returned, behind_code, run_of, Ended, finished, run_failed, run_stuck, run_in}
-use Rattle.rules_world.specs.Targets.{Target, wrapped}
-use Rattle.rules_world.specs.World.{World as PlainWorld, contract_at as plain_contract_at}
-use Rattle.rules_world.specs.Holdings.{burnt_ever}
-use Rattle.laws_types.proofs.ForCallers.{same_kinds_refl}
-use Rattle.laws_operations.specs.NewOperations.{AreInTurn, Advances, AdvancesTo}
-use Rattle.laws_operations.proofs.ForCallers.{operations_are_new}
-use Rattle.laws_runs.proofs.ForCallers.{IsMet, is_met}
-use Rattle.laws_calls.proofs.ForCallers.{call_opens}
-use Rattle.laws_sights.specs.Sights.{sight}
-use Rattle.laws_sights.proofs.ForCallers.{sound_of, sound_seen, sight_shows}
+use Rattle.rules_text.specs.nodes.Tree.{Tree, seq}
+use Rattle.rules_data.specs.types.Entrypoints.{Entry, find_entry}
+use Rattle.rules_data.specs.types.Kind.{Kind}
+use Rattle.rules_code.specs.instructions.Arguments.{found}
+use Rattle.rules_code.specs.typing.Nodes.{script}
+use Rattle.rules_code.specs.typing.Scripts.{Script as PlainScript}
+use Rattle.rules_data.specs.values.Val.{Val, both}
+use Rattle.rules_code.specs.steps.Environment.{Environment}
+use Rattle.rules_code.specs.steps.Changes.{Change}
+use Rattle.rules_code.specs.steps.Failure.{Failure}
+use Rattle.rules_code.specs.evaluation.Evaluation.{eval}
+use Rattle.rules_code.specs.evaluation.Loops.{ending}
+use Rattle.rules_code.specs.evaluation.Outcome.{Outcome, stack, failed, only_if}
+use Rattle.rules_code.specs.evaluation.Surroundings.{Contract as PlainContract}
+use Rattle.rules_world.specs.world.Outcomes.{Setting}
+use Rattle.rules_world.specs.world.Runs.{surroundings_of, tally_of, type_before, type_after, value_before, returned, with_returned, behind_code, run_of, Ended, finished, run_failed, run_stuck, run_in}
+use Rattle.rules_world.specs.world.Targets.{Target, wrapped}
+use Rattle.rules_world.specs.world.World.{World as PlainWorld, contract_at as plain_contract_at}
+use Rattle.rules_world.specs.world.Holdings.{burnt_ever}
+use Rattle.laws_data.proofs.types_lemmas.ForCallers.{same_kinds_refl}
+use Rattle.laws_world.specs.operations.NewOperations.{AreInTurn, Advances, AdvancesTo}
+use Rattle.laws_world.proofs.operations.ForCallers.{operations_are_new}
+use Rattle.laws_world.proofs.runs.ForCallers.{IsMet, is_met}
+use Rattle.mich_frames.proofs.called.ForCallers.{call_opens}
+use Rattle.mich_store_steps.specs.seen.Sights.{sight}
+use Rattle.mich_store_steps.proofs.seen.ForCallers.{sound_of, sound_seen, sight_shows}
 use Rattle.mich_base.specs.TypeView.{kind}
 use Rattle.mich_bigmap.specs.Bases.{Bases}
 use Rattle.mich_bigmap.specs.Layers.{HasBases, SettledLayer, AreSettled}
@@ -68,7 +68,7 @@ use Rattle.mich_world.specs.Standing.{plain}
 use Rattle.mich_world.specs.Storages.{IsStored}
 use Rattle.mich_world.specs.World.{World, with_ledger}
 use Rattle.mich_world.specs.declared.contract.Contract.{Contract}
-use Rattle.mich_standing.proofs.ForCallers.{ledgers_run, contracts_agree}
+use Rattle.mich_world.proofs.simulation_lemmas.ForCallers.{ledgers_run, contracts_agree}
 use Rattle.mich_machine.specs.Begins.{entries_of, code_of}
 use Rattle.mich_machine.specs.Calls.{IsHosting, Calls, setting, counts_of, EndsAs, WithMemory}
 use Rattle.mich_machine.specs.Endings.{IsEnding}

@@ -6,26 +6,26 @@ use Rattle.std.specs.List.{All, AllByRecursion}
 use Rattle.std.specs.Map.{values_of}
 use Rattle.std.proofs.lemmas.Int.{ints}
 use Rattle.std.proofs.lemmas.List.Elements.{All-nil, All-cons, All-head, All-tail}
-use Rattle.rules_evaluation.specs.Operations.{operation_tickets}
-use Rattle.rules_evaluation.specs.Operations as rules
-use Rattle.rules_evaluation.specs.Surroundings.{Contract as PlainContract}
-use Rattle.rules_steps.specs.Changes.{Change, burns, burnt, minted_in, burnt_in, amount_in, amount_among}
-use Rattle.rules_steps.specs.Failure.{operation_replay}
-use Rattle.rules_values.specs.Tickets.{Identity, Held, tickets}
-use Rattle.rules_values.specs.Val.{Val}
-use Rattle.rules_world.specs.Forms.{IsTicket, IsChange}
-use Rattle.rules_world.specs.Good.{known_with, FitsIn, IsGoodOperation}
-use Rattle.rules_world.specs.Holdings.{held, minted_ever, burnt_ever}
-use Rattle.rules_world.specs.Runs.{Returned, returned, has_twice, issued_with, unreturned, Finished, finished, run_failed, kept, unless_twice, with_returned}
-use Rattle.rules_world.specs.RunLaws.{amount_returned}
-use Rattle.rules_world.specs.World.{World as PlainWorld, contract_at as plain_contract_at}
-use Rattle.laws_accounts.proofs.ForCallers.{minted_append, burnt_append, among_positive, in_positive}
-use Rattle.laws_agreement.proofs.ForCallers.{burnt_of_burns, minted_of_burns}
-use Rattle.laws_operations.specs.NewOperations.{AreInTurn}
-use Rattle.laws_runs.specs.RunEnds.{IsFinished, EndsWell}
-use Rattle.laws_runs.proofs.ForCallers.{runs_end_well, held_within, orderly, operation_good, set_here}
-use Rattle.laws_sights.specs.Sights.{sight}
-use Rattle.laws_sights.proofs.ForCallers.{Sound, sound_formed, sound_based, sound_seen, fits_sound, seen_tickets}
+use Rattle.rules_code.specs.evaluation.Operations.{operation_tickets}
+use Rattle.rules_code.specs.evaluation.Operations as rules
+use Rattle.rules_code.specs.evaluation.Surroundings.{Contract as PlainContract}
+use Rattle.rules_code.specs.steps.Changes.{Change, burns, burnt, minted_in, burnt_in, amount_in, amount_among}
+use Rattle.rules_code.specs.steps.Failure.{operation_replay}
+use Rattle.rules_data.specs.values.Tickets.{Identity, Held, tickets}
+use Rattle.rules_data.specs.values.Val.{Val}
+use Rattle.rules_world.specs.world.Forms.{IsTicket, IsChange}
+use Rattle.rules_world.specs.world.Good.{known_with, FitsIn, IsGoodOperation}
+use Rattle.rules_world.specs.world.Holdings.{held, minted_ever, burnt_ever}
+use Rattle.rules_world.specs.world.Runs.{Returned, returned, has_twice, issued_with, unreturned, Finished, finished, run_failed, kept, unless_twice, with_returned}
+use Rattle.rules_world.specs.world.RunLaws.{amount_returned}
+use Rattle.rules_world.specs.world.World.{World as PlainWorld, contract_at as plain_contract_at}
+use Rattle.laws_world.proofs.accounts.ForCallers.{minted_append, burnt_append, among_positive, in_positive}
+use Rattle.laws_tickets.proofs.totals.ForCallers.{burnt_of_burns, minted_of_burns}
+use Rattle.laws_world.specs.operations.NewOperations.{AreInTurn}
+use Rattle.laws_world.specs.runs.RunEnds.{IsFinished, EndsWell}
+use Rattle.laws_world.proofs.runs.ForCallers.{runs_end_well, held_within, orderly, operation_good, set_here}
+use Rattle.mich_store_steps.specs.seen.Sights.{sight}
+use Rattle.mich_store_steps.proofs.seen.ForCallers.{Sound, sound_formed, sound_based, sound_seen, fits_sound, seen_tickets}
 use Rattle.mich_bigmap.specs.Bases.{Bases}
 use Rattle.mich_bigmap.specs.Extended.{Extends}
 use Rattle.mich_bigmap.specs.Standing.{val_in}
@@ -48,15 +48,15 @@ use Rattle.mich_tickets.specs.Books.{State}
 use Rattle.mich_tickets.specs.Effects.{change, Tells}
 use Rattle.mich_tickets.specs.Limits.{IsReady}
 use Rattle.mich_tickets.specs.Sums.{minted_of, burnt_of}
-use Rattle.mich_undo.specs.History.{History}
+use Rattle.mich_base.specs.undo.History.{History}
 use Rattle.mich_world.specs.Holders.{Holders, contract_at}
 use Rattle.mich_world.specs.Standing.{plain, StandsFor}
 use Rattle.mich_world.specs.Storages.{AreStored, MayReplace, owner_of, stored_tickets, Commits}
 use Rattle.mich_world.specs.World.{World, with_ledger}
 use Rattle.mich_world.specs.declared.contract.Contract.{Contract}
-use Rattle.mich_standing.specs.Runs.{Runs}
-use Rattle.mich_standing.proofs.ForCallers.{runs_go_on, ledgers_run, contracts_agree, run_ends_agree, runs_keep_stored}
-use Rattle.mich_conditions.proofs.ForCallers.{commits_fit, positives}
+use Rattle.mich_world.specs.simulation.Runs.{Runs}
+use Rattle.mich_world.proofs.simulation_lemmas.ForCallers.{runs_go_on, ledgers_run, contracts_agree, run_ends_agree, runs_keep_stored}
+use Rattle.mich_world.proofs.preconditions_lemmas.ForCallers.{commits_fit, positives}
 use Rattle.mich_machine.specs.Calls.{issued_in, IsHanded}
 use Rattle.mich_machine.specs.Endings.{IsEnding}
 use Rattle.mich_machine.specs.Ends.{run_at}

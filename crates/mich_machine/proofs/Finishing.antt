@@ -4,11 +4,11 @@ use Rattle.std.specs.declared.option.Option.{Option}
 use Rattle.std.specs.BTreeMap.{is_at}
 use Rattle.std.specs.List.{AllByRecursion}
 use Rattle.std.specs.Map.{values_of}
-use Rattle.rules_steps.specs.Changes.{burns}
-use Rattle.rules_values.specs.Tickets.{tickets}
-use Rattle.rules_values.specs.Val.{Val, Vals, both, list}
-use Rattle.rules_world.specs.Runs.{Returned, numbers_in, Ended}
-use Rattle.laws_sights.specs.Sights.{sight}
+use Rattle.rules_code.specs.steps.Changes.{burns}
+use Rattle.rules_data.specs.values.Tickets.{tickets}
+use Rattle.rules_data.specs.values.Val.{Val, Vals, both, list}
+use Rattle.rules_world.specs.world.Runs.{Returned, numbers_in, Ended}
+use Rattle.mich_store_steps.specs.seen.Sights.{sight}
 use Rattle.mich_bigmap.specs.Layers.{HasBases}
 use Rattle.mich_instr.specs.Scripts.{IsTypedScript}
 use Rattle.mich_instr.specs.declared.issued.Issued.{Issued}
@@ -21,7 +21,7 @@ use Rattle.mich_term.specs.declared.ticket.Change.{Change}
 use Rattle.mich_term.specs.declared.value.Value.{Value}
 use Rattle.mich_tickets.specs.Books.{State}
 use Rattle.mich_tickets.specs.Effects.{Tells}
-use Rattle.mich_undo.specs.Undone.{changed_at}
+use Rattle.mich_base.specs.undo.Undone.{changed_at}
 use Rattle.mich_world.specs.Holders.{Holders, by_bytes, restored, contract_at}
 use Rattle.mich_world.specs.Standing.{StandsFor}
 use Rattle.mich_world.specs.Storages.{AreStored, MayReplace, owner_of, stored_tickets, Commits}

@@ -1,8 +1,8 @@
 -- The numbers that a list of operations holds.
 use Rattle.std.proofs.Common.{◌≡◌, ℕ, List, ◌∷◌, map, Some, None, refl, sym, ap, ◌∙◌, subst}
 use Rattle.std.specs.declared.option.Option.{Option}
-use Rattle.rules_values.specs.Val.{Val, Pairs, operation, more_vals}
-use Rattle.rules_world.specs.Runs.{operation_number, with_number, numbers_in}
+use Rattle.rules_data.specs.values.Val.{Val, Pairs, operation, more_vals}
+use Rattle.rules_world.specs.world.Runs.{operation_number, with_number, numbers_in}
 use Rattle.mich_instr.specs.declared.issued.Issued.{Issued}
 use Rattle.mich_stack.specs.Views.{Sight, seen}
 use Rattle.mich_term.specs.View.{vals_of}
@@ -12,7 +12,7 @@ use Rattle.mich_term.specs.declared.value.Value.{Value, roll-Value, out-Value, r
 use Rattle.mich_term.specs.declared.value.Value.TheOpen.{Value-F}
 use Rattle.mich_term.specs.declared.value.Value.TheVariants as v
 use Rattle.mich_term.specs.declared.value.Value.TheVariants.{rolls-Operation}
-use Rattle.laws_sights.proofs.ForCallers.{big_seen}
+use Rattle.mich_store_steps.proofs.seen.ForCallers.{big_seen}
 use Rattle.mich_machine.specs.Returned.{Numbered, Pick}
 use Rattle.mich_machine.proofs.Picking.{IsOnWay}
 

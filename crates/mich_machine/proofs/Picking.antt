@@ -9,8 +9,8 @@ use Rattle.std.specs.Map.{lookup, remove_entry}
 use Rattle.std.specs.Ordering.{nat_cmp, match_ordering}
 use Rattle.std.proofs.lemmas.Bool.{ltb-true, eqb-true}
 use Rattle.std.proofs.lemmas.List.{append-nil}
-use Rattle.rules_values.specs.Val.{Vals, operation, more_vals, no_val}
-use Rattle.rules_world.specs.Runs.{with_number, numbers_in}
+use Rattle.rules_data.specs.values.Val.{Vals, operation, more_vals, no_val}
+use Rattle.rules_world.specs.world.Runs.{with_number, numbers_in}
 use Rattle.mich_instr.specs.declared.issued.Issued.{Issued}
 use Rattle.mich_machine.specs.Returned.{number_of, AreRising, Numbered, numbered, by_number, Pick, with_pick, picks}
 

@@ -2,15 +2,15 @@
 use Rattle.std.proofs.Common.{◌≡◌, ℕ, Bool, true, false, List, [], ◌∷◌, ◌++◌, Some, None, refl, ap, ◌∙◌, ◌⊎◌, inl, inr}
 use Rattle.std.specs.Prelude.{option_map}
 use Rattle.std.specs.declared.option.Option.{Option}
-use Rattle.rules_evaluation.specs.Operations.{Issued, Tally}
-use Rattle.rules_evaluation.specs.Surroundings.{Contract}
-use Rattle.rules_steps.specs.Failure.{operation_replay}
-use Rattle.rules_values.specs.Val.{Val, Vals, both, list}
-use Rattle.rules_world.specs.Outcomes.{Setting, Counts}
-use Rattle.rules_world.specs.Runs.{Returned, numbers_in, returned, has_twice, issued_with, discarded, Finished, finished, run_failed, kept, finished_with, unless_twice, with_returned}
-use Rattle.rules_world.specs.Targets.{Target}
-use Rattle.rules_world.specs.World.{World}
-use Rattle.laws_runs.specs.RunEnds.{EndsWell}
+use Rattle.rules_code.specs.evaluation.Operations.{Issued, Tally}
+use Rattle.rules_code.specs.evaluation.Surroundings.{Contract}
+use Rattle.rules_code.specs.steps.Failure.{operation_replay}
+use Rattle.rules_data.specs.values.Val.{Val, Vals, both, list}
+use Rattle.rules_world.specs.world.Outcomes.{Setting, Counts}
+use Rattle.rules_world.specs.world.Runs.{Returned, numbers_in, returned, has_twice, issued_with, discarded, Finished, finished, run_failed, kept, finished_with, unless_twice, with_returned}
+use Rattle.rules_world.specs.world.Targets.{Target}
+use Rattle.rules_world.specs.world.World.{World}
+use Rattle.laws_world.specs.runs.RunEnds.{EndsWell}
 
 -- operations and a storage
 pub record IsShape (V : List Val) (r : Returned) : Type 0 where

@@ -1,8 +1,8 @@
 -- The numbers of operations in order of issue rise.
 use Rattle.std.proofs.Common.{◌≡◌, ◌<◌, ◌≤◌, ℕ, suc, List, [], ◌∷◌, map, arith}
 use Rattle.std.specs.List.{AllByRecursion}
-use Rattle.rules_evaluation.specs.Operations as rules
-use Rattle.laws_operations.specs.NewOperations.{AreInTurn}
+use Rattle.rules_code.specs.evaluation.Operations as rules
+use Rattle.laws_world.specs.operations.NewOperations.{AreInTurn}
 use Rattle.mich_instr.specs.declared.issued.Issued.{Issued}
 use Rattle.mich_machine.specs.Returned.{number_of, AreRising}
 

@@ -1,8 +1,8 @@
 -- An argument is wrapped from the last step of its path on.
 use Rattle.std.proofs.Common.{◌≡◌, ◌+◌, ℕ, zero, suc, Bool, true, false, List, [], ◌∷◌, Some, length, drop, refl, sym, ap, ◌∙◌, add-one}
 use Rattle.std.specs.Prelude.{slice_get}
-use Rattle.rules_values.specs.Val.{Val}
-use Rattle.rules_world.specs.Targets.{wrapped}
+use Rattle.rules_data.specs.values.Val.{Val}
+use Rattle.rules_world.specs.world.Targets.{wrapped}
 
 drop_none : (xs : List Bool) → drop (length xs) xs ≡ []
 drop_none [] = refl

@@ -1,6 +1,6 @@
 -- What a run needs of a script.
 use Rattle.std.specs.Prelude.{List, map}
-use Rattle.rules_types.specs.Entrypoints.{Entry}
+use Rattle.rules_data.specs.types.Entrypoints.{Entry}
 use Rattle.mich_types.specs.Entered.{entry_of}
 use Rattle.mich_instr.specs.declared.instr.Instr.{Instr}
 use Rattle.mich_instr.specs.declared.instr.Script.{Script, out-Script}

@@ -1,13 +1,13 @@
 -- A call of an entrypoint of a contract, and how its run ends (Michelson reference, "Semantics of smart contracts and transactions").
 use Rattle.std.specs.Prelude.{◌≡◌, ℕ, List, map, Result, Ok, Err}
 use Rattle.std.specs.List.{AllByRecursion}
-use Rattle.rules_evaluation.specs.Operations as rules
-use Rattle.rules_gas.specs.Prices.{Listed}
-use Rattle.rules_world.specs.World.{World as PlainWorld}
-use Rattle.rules_world.specs.Outcomes.{Setting, Counts as PlainCounts}
-use Rattle.rules_world.specs.Targets.{Target}
-use Rattle.rules_world.specs.Runs.{Ended, finished, run_failed, run_in}
-use Rattle.rules_world.specs.RunLaws.{IsCall}
+use Rattle.rules_code.specs.evaluation.Operations as rules
+use Rattle.rules_data.specs.gas.Prices.{Listed}
+use Rattle.rules_world.specs.world.World.{World as PlainWorld}
+use Rattle.rules_world.specs.world.Outcomes.{Setting, Counts as PlainCounts}
+use Rattle.rules_world.specs.world.Targets.{Target}
+use Rattle.rules_world.specs.world.Runs.{Ended, finished, run_failed, run_in}
+use Rattle.rules_world.specs.world.RunLaws.{IsCall}
 use Rattle.mich_base.specs.TypeView.{kind}
 use Rattle.mich_bigmap.specs.Bases.{Bases}
 use Rattle.mich_bigmap.specs.Layers.{HasBases}

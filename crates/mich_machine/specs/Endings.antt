@@ -1,23 +1,23 @@
 -- Where the code of a contract has come to its end, and what is made of it.
 use Rattle.std.specs.Prelude.{◌≡◌, ℕ, List, map, Some}
 use Rattle.std.specs.List.{AllByRecursion}
-use Rattle.rules_evaluation.specs.Operations.{Tally}
-use Rattle.rules_evaluation.specs.Surroundings.{Contract}
-use Rattle.rules_steps.specs.Environment.{Environment}
-use Rattle.rules_values.specs.Val.{Val}
-use Rattle.rules_world.specs.Outcomes.{Setting, Counts}
-use Rattle.rules_world.specs.RunLaws.{IsCall}
-use Rattle.rules_world.specs.Runs.{returned, with_returned, run_in}
-use Rattle.rules_world.specs.Targets.{Target}
-use Rattle.rules_world.specs.World.{World as PlainWorld, contract_at}
-use Rattle.laws_operations.specs.NewOperations.{AreInTurn}
-use Rattle.laws_sights.specs.Sights.{sight}
+use Rattle.rules_code.specs.evaluation.Operations.{Tally}
+use Rattle.rules_code.specs.evaluation.Surroundings.{Contract}
+use Rattle.rules_code.specs.steps.Environment.{Environment}
+use Rattle.rules_data.specs.values.Val.{Val}
+use Rattle.rules_world.specs.world.Outcomes.{Setting, Counts}
+use Rattle.rules_world.specs.world.RunLaws.{IsCall}
+use Rattle.rules_world.specs.world.Runs.{returned, with_returned, run_in}
+use Rattle.rules_world.specs.world.Targets.{Target}
+use Rattle.rules_world.specs.world.World.{World as PlainWorld, contract_at}
+use Rattle.laws_world.specs.operations.NewOperations.{AreInTurn}
+use Rattle.mich_store_steps.specs.seen.Sights.{sight}
 use Rattle.mich_instr.specs.declared.issued.Issued.{Issued}
 use Rattle.mich_term.specs.declared.value.Value.{Value}
 use Rattle.mich_tickets.specs.Effects.{change}
 use Rattle.mich_world.specs.Standing.{StandsFor}
 use Rattle.mich_world.specs.World.{World}
-use Rattle.mich_standing.specs.Runs.{Runs}
+use Rattle.mich_world.specs.simulation.Runs.{Runs}
 use Rattle.mich_interpreter.specs.Issues.{IsScripted, issued_by}
 use Rattle.mich_interpreter.specs.View.{tops}
 use Rattle.mich_machine.specs.Calls.{IsHosting}

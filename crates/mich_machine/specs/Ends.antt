@@ -1,8 +1,8 @@
 -- How a run ends, by the end of its code.
 use Rattle.std.specs.Prelude.{◌≡◌, ℕ, List, map, Result, Ok, Err}
 use Rattle.std.specs.List.{AllByRecursion}
-use Rattle.rules_world.specs.Runs.{Ended, finished, run_failed, run_in}
-use Rattle.rules_world.specs.World.{World as PlainWorld}
+use Rattle.rules_world.specs.world.Runs.{Ended, finished, run_failed, run_in}
+use Rattle.rules_world.specs.world.World.{World as PlainWorld}
 use Rattle.mich_instr.specs.declared.issued.Issued.{Issued}
 use Rattle.mich_ops.specs.Told.{told}
 use Rattle.mich_ops.specs.View.{failure}

@@ -4,8 +4,8 @@ use Rattle.std.specs.BTreeMap.{is_at}
 use Rattle.std.specs.List.{AllByRecursion, flat_map}
 use Rattle.std.specs.Map.{lookup, remove_entry}
 use Rattle.std.specs.Ordering.{nat_cmp}
-use Rattle.rules_evaluation.specs.Operations.{operation_tickets}
-use Rattle.rules_values.specs.Tickets.{Held}
+use Rattle.rules_code.specs.evaluation.Operations.{operation_tickets}
+use Rattle.rules_data.specs.values.Tickets.{Held}
 use Rattle.mich_instr.specs.Issued.{issued}
 use Rattle.mich_instr.specs.declared.issued.Issued.{Issued}
 use Rattle.mich_instr.specs.declared.issued.Issued.TheVariants as i

@@ -1,8 +1,8 @@
 // How a run begins.
 ghost use Rattle.std.specs.Prelude.{◌≡◌, [], ◌∷◌, Bool, IfOk, Some, is_some, true, map};
-ghost use Rattle.rules_types.specs.Entrypoints.{Entry, find_entry};
-ghost use Rattle.rules_values.specs.Val.{both};
-ghost use Rattle.rules_world.specs.Targets.{wrapped};
+ghost use Rattle.rules_data.specs.types.Entrypoints.{Entry, find_entry};
+ghost use Rattle.rules_data.specs.values.Val.{both};
+ghost use Rattle.rules_world.specs.world.Targets.{wrapped};
 ghost use Rattle.mich_types.specs.Entered.{entry_of};
 ghost use Rattle.mich_stack.specs.Views.{Sight, seen};
 ghost use Rattle.mich_tickets.specs.Books.{fresh, no_books};

@@ -1,13 +1,13 @@
 // What a run issued and doesn't return is discarded.
 ghost use Rattle.std.specs.Prelude.{◌≡◌, ◌++◌, IfOk, map};
 ghost use Rattle.std.specs.Map.{values_of};
-ghost use Rattle.rules_evaluation.specs.Operations.{operation_tickets};
-ghost use Rattle.rules_steps.specs.Changes.{burns};
+ghost use Rattle.rules_code.specs.evaluation.Operations.{operation_tickets};
+ghost use Rattle.rules_code.specs.steps.Changes.{burns};
 ghost use Rattle.mich_instr.specs.Issued.{issued};
 ghost use Rattle.mich_term.specs.TicketView.{held};
 ghost use Rattle.mich_tickets.specs.Effects.{Tells};
 ghost use Rattle.mich_tickets.specs.Limits.{IsReady};
-ghost use Rattle.mich_undo.specs.History.{Keeps};
+ghost use Rattle.mich_base.specs.undo.History.{Keeps};
 ghost use Rattle.mich_machine.specs.Returned.{handed};
 
 use crate::returning::Numbered;
@@ -43,7 +43,7 @@ fn discard_all(alloc: Global, operations: Numbered) -> Result<Rows<Ticket>, Memo
 }
 
 // Burns the tickets of operations that are discarded, in the order of their numbers.
-#[tactic(auto, using(mich_undo::proofs::ForCallers::keeps_same))]
+#[tactic(auto, using(mich_base::proofs::undo_lemmas::ForCallers::keeps_same))]
 pub(crate) fn burn_discarded(
     alloc: Global,
     ledger: &mut Ledger,

@@ -1,12 +1,12 @@
 // The ledger of a world in the hands of a run.
 ghost use Rattle.std.specs.Prelude.{◌≡◌, [], IfOk};
 ghost use Rattle.std.specs.Map.{values_of};
-ghost use Rattle.rules_steps.specs.Changes.{burns};
+ghost use Rattle.rules_code.specs.steps.Changes.{burns};
 ghost use Rattle.mich_machine.specs.Returned.{handed};
 ghost use Rattle.mich_tickets.specs.Books.{fresh, no_books};
 ghost use Rattle.mich_tickets.specs.Effects.{Tells};
 ghost use Rattle.mich_tickets.specs.Limits.{IsReady};
-ghost use Rattle.mich_undo.specs.History.{Keeps};
+ghost use Rattle.mich_base.specs.undo.History.{Keeps};
 ghost use Rattle.mich_world.specs.World.{with_ledger};
 
 use crate::burning::burn_discarded;

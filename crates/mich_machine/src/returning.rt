@@ -1,7 +1,7 @@
 // What a run returns.
 ghost use Rattle.std.specs.Prelude.{◌≡◌, ◌∷◌, [], ℕ, List, IfOk, Some, map};
-ghost use Rattle.rules_values.specs.Val.{Val, Vals, both, list};
-ghost use Rattle.rules_world.specs.Runs.{numbers_in};
+ghost use Rattle.rules_data.specs.values.Val.{Val, Vals, both, list};
+ghost use Rattle.rules_world.specs.world.Runs.{numbers_in};
 ghost use Rattle.mich_interpreter.specs.View.{tops};
 ghost use Rattle.mich_stack.specs.Views.{Sight, seen};
 ghost use Rattle.mich_term.specs.View.{vals_of};

@@ -6,8 +6,8 @@ ghost use Rattle.mich_gas.specs.View.{listed};
 ghost use Rattle.mich_machine.specs.Calls.{Calls, EndsAs, IsHosting, WithMemory, run_of};
 ghost use Rattle.mich_term.specs.Layers.{AreFormed};
 ghost use Rattle.mich_world.specs.Marks.{KeepsWorld};
-ghost use Rattle.rules_world.specs.Targets.{Target};
-ghost use Rattle.rules_world.specs.World.{World as PlainWorld};
+ghost use Rattle.rules_world.specs.world.Targets.{Target};
+ghost use Rattle.rules_world.specs.world.World.{World as PlainWorld};
 
 use crate::beginning::{opening, state};
 use crate::ending::finish;

@@ -4,7 +4,7 @@ use Rattle.std.specs.Prelude.{ℤ, pos, negsuc, neg_ℤ, FitsSigned, SomeIff, un
 use Rattle.std.specs.Option.{ok_or}
 use Rattle.std.specs.Int.{w128}
 use Rattle.std.proofs.lemmas.Bool.Decides.{nat_tests}
-use Rattle.rules_numbers.specs.Limits.{is_int, int_or_limit, mutez_or_limit, mutez_overflow}
+use Rattle.rules_data.specs.numbers.Limits.{is_int, int_or_limit, mutez_or_limit, mutez_overflow}
 use Rattle.mich_num.specs.View.{limited}
 use Rattle.mich_num.specs.declared.fault.NumFault.TheVariants.{IntegerLimit}
 

@@ -7,8 +7,8 @@ use Rattle.std.proofs.lemmas.Bool.Decides.{nat_tests}
 use Rattle.std.proofs.lemmas.Nat.{same_from_place, div-add-mod', mod_below}
 use Rattle.std.proofs.Math.Nat.{zero-mul}
 use borrow.Author.Differences.{up, down}
-use Rattle.rules_numbers.specs.Limits.{integer_limit}
-use Rattle.rules_numbers.specs.Integers.{IsDivision, IsOnlyDivision, division}
+use Rattle.rules_data.specs.numbers.Limits.{integer_limit}
+use Rattle.rules_data.specs.numbers.Integers.{IsDivision, IsOnlyDivision, division}
 use Rattle.mich_num.proofs.Checked.{int_fits}
 
 pub by_zero : (a b : ℤ) → FitsSigned w128 b → cast_unsigned w128 b ≡ 0 → Ok None ≡ division a b

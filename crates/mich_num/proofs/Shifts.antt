@@ -6,8 +6,8 @@ use Rattle.std.proofs.lemmas.Int.{to_z-of_z, to_z_pos}
 use Rattle.std.proofs.lemmas.Bool.Decides.{nat_tests}
 use Rattle.std.proofs.Math.Nat.{zero-mul, le-mul_of_pos_right, pow-le-pow_right, div-eq_of_lt, div-le_self}
 use Rattle.std.proofs.lemmas.Nat.{pow_below, one_shl}
-use Rattle.rules_numbers.specs.Limits.{integer_limit, shift_limit, is_int, int_or_limit}
-use Rattle.rules_numbers.specs.Integers.{is_shift, shifted_left, shifted_right}
+use Rattle.rules_data.specs.numbers.Limits.{integer_limit, shift_limit, is_int, int_or_limit}
+use Rattle.rules_data.specs.numbers.Integers.{is_shift, shifted_left, shifted_right}
 
 -- the int of an int's word is that int
 abbrev word : ℤ → ℤ

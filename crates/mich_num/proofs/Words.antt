@@ -8,7 +8,7 @@ use Rattle.std.proofs.Math.Facts.{sfits_to_z, Fits-bits}
 use Rattle.std.proofs.lemmas.Nat.Bits.{bit_at_not, bit_at_above, bit_at_and, bit_at_or, bit_at_xor}
 use Rattle.std.specs.Int.Bits.{and_lt}
 use Rattle.std.proofs.lemmas.Nat.{or_lt, xor_lt}
-use Rattle.rules_numbers.specs.Bits.{bit, IsBitByBit, both, either, one_of, bitwise_and, bitwise_or, bitwise_xor}
+use Rattle.rules_data.specs.numbers.Bits.{bit, IsBitByBit, both, either, one_of, bitwise_and, bitwise_or, bitwise_xor}
 
 small : (n : ℕ) → n < 2 ^ 127 → n < 2 ^ 128
 small n h = omega arith

@@ -1,5 +1,5 @@
-pub use Rattle.rules_numbers.specs.Bits
-pub use Rattle.rules_numbers.specs.Integers
-pub use Rattle.rules_numbers.specs.Limits
-pub use Rattle.rules_numbers.specs.Mutez
+pub use Rattle.rules_data.specs.numbers.Bits
+pub use Rattle.rules_data.specs.numbers.Integers
+pub use Rattle.rules_data.specs.numbers.Limits
+pub use Rattle.rules_data.specs.numbers.Mutez
 pub mod View

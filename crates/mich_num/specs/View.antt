@@ -1,6 +1,6 @@
 -- What the results of this crate stand for.
 use Rattle.std.specs.Prelude.{Result, Ok, Err}
-use Rattle.rules_numbers.specs.Limits.{Limit, integer_limit, mutez_overflow, shift_limit}
+use Rattle.rules_data.specs.numbers.Limits.{Limit, integer_limit, mutez_overflow, shift_limit}
 use Rattle.mich_num.specs.declared.fault.NumFault.{NumFault}
 use Rattle.mich_num.specs.declared.fault.NumFault.TheVariants.{IntegerLimit, MutezOverflow, ShiftLimit}
 

@@ -1,7 +1,7 @@
 // Arithmetic on amounts of mutez.
 ghost use Rattle.std.specs.Prelude.{◌≡◌, ◌^◌, ◌<◌, pos, ◌≤ℤ◌, unsigned_abs};
-ghost use Rattle.rules_numbers.specs.Limits.{mutez_or_limit};
-ghost use Rattle.rules_numbers.specs.Mutez.{mutez_sum, mutez_difference, mutez_product};
+ghost use Rattle.rules_data.specs.numbers.Limits.{mutez_or_limit};
+ghost use Rattle.rules_data.specs.numbers.Mutez.{mutez_sum, mutez_difference, mutez_product};
 ghost use Rattle.mich_num.specs.View.{limited};
 
 use crate::fault::NumFault;
@@ -45,7 +45,7 @@ pub fn mutez_mul(a: u64, n: i128) -> Result<u64, NumFault>
 }
 
 // The number as an amount of mutez.
-#[tactic(auto, unfolding(rules_numbers::specs::Limits::mutez_or_limit))]
+#[tactic(auto, unfolding(rules_data::specs::numbers::Limits::mutez_or_limit))]
 fn within_mutez(amount: u128) -> Result<u64, NumFault>
     ensures exact { limited result ≡ mutez_or_limit amount }
 {

@@ -1,6 +1,6 @@
 // Operations on ints bit by bit, in two's complement.
 ghost use Rattle.std.specs.Prelude.{◌≡◌};
-ghost use Rattle.rules_numbers.specs.Bits.{IsBitByBit, both, either, one_of, bitwise_and, bitwise_or, bitwise_xor, complement};
+ghost use Rattle.rules_data.specs.numbers.Bits.{IsBitByBit, both, either, one_of, bitwise_and, bitwise_or, bitwise_xor, complement};
 
 /// Bit by bit, 1 where both bits are. Michelson reference: AND.
 #[tactic(auto, using(crate::proofs::Words::and_bits))]

@@ -1,7 +1,7 @@
 // Arithmetic on ints.
 ghost use Rattle.std.specs.Prelude.{◌≡◌, ◌↔◌, pos, ◌+ℤ◌, ◌-ℤ◌, ◌*ℤ◌, neg_ℤ, ◌≤ℤ◌, unsigned_abs, IfOk, IfSome};
-ghost use Rattle.rules_numbers.specs.Limits.{int_or_limit};
-ghost use Rattle.rules_numbers.specs.Integers.{IsOnlyDivision, division, shifted_left, shifted_right};
+ghost use Rattle.rules_data.specs.numbers.Limits.{int_or_limit};
+ghost use Rattle.rules_data.specs.numbers.Integers.{IsOnlyDivision, division, shifted_left, shifted_right};
 ghost use Rattle.mich_num.specs.View.{limited};
 
 use crate::fault::NumFault;

@@ -3,29 +3,29 @@ use Rattle.std.proofs.Common.{◌≡◌, ◌<◌, ◌^◌, ℕ, ℤ, ◌≤ℤ�
 use Rattle.std.specs.Prelude.{neg_ℤ}
 use Rattle.std.specs.declared.option.Option.{Option}
 use Rattle.std.proofs.lemmas.List.Elements.{All-head}
-use Rattle.rules_base.specs.Tree.{Tree, size}
-use Rattle.rules_evaluation.specs.Contracts.{hash_in}
-use Rattle.rules_forms.specs.Spelling.{contract_place, implicit_place, is_contract, is_implicit}
-use Rattle.rules_gas.specs.Prices.{Listed}
-use Rattle.rules_instructions.specs.Same.{same_kind}
-use Rattle.rules_steps.specs.Changes.{amount_of}
-use Rattle.rules_steps.specs.Failure.{Failure, bad_parameter, no_contract, no_entrypoint, ticket_short}
-use Rattle.rules_types.specs.Kind as k
-use Rattle.rules_values.specs.Forms.{is_ticket_amount}
-use Rattle.rules_values.specs.Tickets.{Held}
-use Rattle.rules_values.specs.Val.{Val}
-use Rattle.rules_world.specs.Contents.{Action, Give}
-use Rattle.rules_world.specs.Forms.{AreDestination, IsSmall, IsTicket}
-use Rattle.rules_world.specs.Gives.{Gift, Offer, as_value, give_account, give_contract, give_effect, given_to_contract, handed, if_wanted, is_short, offered, with_offered}
-use Rattle.rules_world.specs.Good.{FitsIn, IsGoodWaiting}
-use Rattle.rules_world.specs.Groups.{setting_of}
-use Rattle.rules_world.specs.Holdings.{debited}
-use Rattle.rules_world.specs.Outcomes.{Setting, ordered, Counts as PlainCounts}
-use Rattle.rules_world.specs.Runs.{run}
-use Rattle.rules_world.specs.Targets.{Target, Search, met, missing, on_met, search}
-use Rattle.rules_world.specs.World.{World as PlainWorld, contract_at as plain_contract_at}
-use Rattle.laws_runs.proofs.ForCallers.{IsMet, Searched, searched, orderly_of}
-use Rattle.laws_world.proofs.ForCallers.{IsOffered, offered_is}
+use Rattle.rules_text.specs.nodes.Tree.{Tree, size}
+use Rattle.rules_code.specs.evaluation.Contracts.{hash_in}
+use Rattle.rules_data.specs.forms.Spelling.{contract_place, implicit_place, is_contract, is_implicit}
+use Rattle.rules_data.specs.gas.Prices.{Listed}
+use Rattle.rules_code.specs.instructions.Same.{same_kind}
+use Rattle.rules_code.specs.steps.Changes.{amount_of}
+use Rattle.rules_code.specs.steps.Failure.{Failure, bad_parameter, no_contract, no_entrypoint, ticket_short}
+use Rattle.rules_data.specs.types.Kind as k
+use Rattle.rules_data.specs.values.Forms.{is_ticket_amount}
+use Rattle.rules_data.specs.values.Tickets.{Held}
+use Rattle.rules_data.specs.values.Val.{Val}
+use Rattle.rules_world.specs.world.Contents.{Action, Give}
+use Rattle.rules_world.specs.world.Forms.{AreDestination, IsSmall, IsTicket}
+use Rattle.rules_world.specs.world.Gives.{Gift, Offer, as_value, give_account, give_contract, give_effect, given_to_contract, handed, if_wanted, is_short, offered, with_offered}
+use Rattle.rules_world.specs.world.Good.{FitsIn, IsGoodWaiting}
+use Rattle.rules_world.specs.world.Groups.{setting_of}
+use Rattle.rules_world.specs.world.Holdings.{debited}
+use Rattle.rules_world.specs.world.Outcomes.{Setting, ordered, Counts as PlainCounts}
+use Rattle.rules_world.specs.world.Runs.{run}
+use Rattle.rules_world.specs.world.Targets.{Target, Search, met, missing, on_met, search}
+use Rattle.rules_world.specs.world.World.{World as PlainWorld, contract_at as plain_contract_at}
+use Rattle.laws_world.proofs.runs.ForCallers.{IsMet, Searched, searched, orderly_of}
+use Rattle.laws_world.proofs.groups_lemmas.ForCallers.{IsOffered, offered_is}
 use Rattle.mich_bigmap.specs.Bases.{Bases}
 use Rattle.mich_bigmap.specs.Standing.{val_in}
 use Rattle.mich_forms.specs.Spelled.{place_bytes}
@@ -37,7 +37,7 @@ use Rattle.mich_ops.specs.Told.{told}
 use Rattle.mich_ops.specs.View.{failure}
 use Rattle.mich_ops.specs.declared.failure.Failure.{Failure as Why}
 use Rattle.mich_ops.specs.declared.failure.Failure.TheVariants as failures
-use Rattle.mich_standing.proofs.ForCallers.{hash_of, implicit_of, place_length}
+use Rattle.mich_world.proofs.simulation_lemmas.ForCallers.{hash_of, implicit_of, place_length}
 use Rattle.mich_term.specs.TicketView.{held, identity}
 use Rattle.mich_term.specs.declared.ticket.Ticket.{Ticket}
 use Rattle.mich_term.specs.declared.ticket.TicketId.{TicketId}
@@ -154,7 +154,7 @@ module _ (v : World) (w : PlainWorld) (prices : Listed) (group : ℕ) (who : Lis
     unwanted (failures.BadParameter l) h =
         ends_failed (give_contract s w g gas (counts_of old)) z left old new (failures.BadParameter l) (bad_parameter l)
         (searched_so (met h.0) h.1 gas (counts_of old) ∙ ap (λ (c : Bool). if_wanted c s w g h.0 gas (counts_of old)) h.2
-        ∙ ap (λ (m : ℕ). Rattle.rules_world.specs.Outcomes.failed (bad_parameter m)) (sym h.3)) refl
+        ∙ ap (λ (m : ℕ). Rattle.rules_world.specs.world.Outcomes.failed (bad_parameter m)) (sym h.3)) refl
     unwanted _ h = absurd h
 
     pub not_wanted : (e : ApplyError) → IsWanted {U = Unit {0}} (search w to name) gifted.kind (Err e) → EndsAs (give_contract s w g gas (counts_of old)) z left old new (Err e)

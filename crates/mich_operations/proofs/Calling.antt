@@ -1,27 +1,27 @@
 -- Calls of contracts that a source orders.
 use Rattle.std.proofs.Common.{◌≡◌, ◌≤◌, ◌<◌, ◌^◌, ℕ, pos, true, List, Err, Result, refl, sym, ap, ◌∙◌, subst, is_some}
 use Rattle.std.proofs.lemmas.List.Elements.{All-head}
-use Rattle.rules_base.specs.Limits.{most_mutez}
-use Rattle.rules_base.specs.Tree.{Tree, size}
-use Rattle.rules_evaluation.specs.Contracts.{hash_in}
-use Rattle.rules_forms.specs.Spelling.{contract_place, is_implicit}
-use Rattle.rules_instructions.specs.Arguments.{Found, found}
-use Rattle.rules_steps.specs.Changes.{amount_among}
-use Rattle.rules_steps.specs.Failure.{Failure, no_contract, no_entrypoint, bad_parameter}
-use Rattle.rules_values.specs.Val.{Val}
-use Rattle.rules_world.specs.Application.{ordered_transaction}
-use Rattle.rules_world.specs.Arguments.{node, literal_in}
-use Rattle.rules_world.specs.Contents.{Call}
-use Rattle.rules_world.specs.Forms.{AreDestination, IsSmall}
-use Rattle.rules_world.specs.Good.{IsGoodWaiting}
-use Rattle.rules_world.specs.Outcomes.{Setting, Waiting, ordered, Counts as PlainCounts}
-use Rattle.rules_world.specs.Targets.{Search, met, missing, search, on_met}
-use Rattle.rules_world.specs.Transfers.{Transaction, delivered, with_argument}
-use Rattle.rules_world.specs.World.{World as PlainWorld, contract_at as plain_contract_at}
-use Rattle.laws_accounts.proofs.ForCallers.{literal_fits, literal_empty}
-use Rattle.laws_runs.proofs.ForCallers.{IsMet, Searched, searched, orderly_of}
-use Rattle.laws_world.proofs.ForCallers.{called_call, taken_order}
-use Rattle.mich_arguments.specs.Arguments.{IsArgument}
+use Rattle.rules_text.specs.nodes.Limits.{most_mutez}
+use Rattle.rules_text.specs.nodes.Tree.{Tree, size}
+use Rattle.rules_code.specs.evaluation.Contracts.{hash_in}
+use Rattle.rules_data.specs.forms.Spelling.{contract_place, is_implicit}
+use Rattle.rules_code.specs.instructions.Arguments.{Found, found}
+use Rattle.rules_code.specs.steps.Changes.{amount_among}
+use Rattle.rules_code.specs.steps.Failure.{Failure, no_contract, no_entrypoint, bad_parameter}
+use Rattle.rules_data.specs.values.Val.{Val}
+use Rattle.rules_world.specs.world.Application.{ordered_transaction}
+use Rattle.rules_world.specs.world.Arguments.{node, literal_in}
+use Rattle.rules_world.specs.world.Contents.{Call}
+use Rattle.rules_world.specs.world.Forms.{AreDestination, IsSmall}
+use Rattle.rules_world.specs.world.Good.{IsGoodWaiting}
+use Rattle.rules_world.specs.world.Outcomes.{Setting, Waiting, ordered, Counts as PlainCounts}
+use Rattle.rules_world.specs.world.Targets.{Search, met, missing, search, on_met}
+use Rattle.rules_world.specs.world.Transfers.{Transaction, delivered, with_argument}
+use Rattle.rules_world.specs.world.World.{World as PlainWorld, contract_at as plain_contract_at}
+use Rattle.laws_world.proofs.accounts.ForCallers.{literal_fits, literal_empty}
+use Rattle.laws_world.proofs.runs.ForCallers.{IsMet, Searched, searched, orderly_of}
+use Rattle.laws_world.proofs.groups_lemmas.ForCallers.{called_call, taken_order}
+use Rattle.mich_literals.specs.arguments.Arguments.{IsArgument}
 use Rattle.mich_bigmap.specs.Bases.{Bases}
 use Rattle.mich_bigmap.specs.Layers.{HasBases}
 use Rattle.mich_bigmap.specs.Standing.{val_in}
@@ -34,7 +34,7 @@ use Rattle.mich_ops.specs.Told.{told}
 use Rattle.mich_ops.specs.View.{failure}
 use Rattle.mich_ops.specs.declared.failure.Failure.{Failure as Why}
 use Rattle.mich_ops.specs.declared.failure.Failure.TheVariants as failures
-use Rattle.mich_standing.proofs.ForCallers.{hash_of, place_length}
+use Rattle.mich_world.proofs.simulation_lemmas.ForCallers.{hash_of, place_length}
 use Rattle.mich_term.specs.ValueView.{val}
 use Rattle.mich_term.specs.declared.value.Value.{Value}
 use Rattle.mich_world.specs.Holders.{contract_at}

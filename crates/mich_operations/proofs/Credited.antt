@@ -9,29 +9,29 @@ use Rattle.std.specs.declared.cmp.Ordering.{Ordering}
 use Rattle.std.specs.declared.cmp.Ordering.TheVariants.{Less, Equal, Greater}
 use Rattle.std.specs.declared.option.Option.{Option}
 use Rattle.std.proofs.lemmas.List.Elements.{All-head}
-use Rattle.rules_forms.specs.Spelling.{implicit_place, spelled_address, is_key_hash}
-use Rattle.rules_steps.specs.Changes.{amount_of}
-use Rattle.rules_steps.specs.Failure.{Failure, empty_transaction, balance_too_low}
-use Rattle.rules_values.specs.Canonical.{canonical}
-use Rattle.rules_values.specs.Val.{Val, Pairs}
-use Rattle.rules_world.specs.Arguments.{Argument}
-use Rattle.rules_world.specs.Balances.{balance_or_none, moved}
-use Rattle.rules_world.specs.Forms.{IsTicket, IsWorld}
-use Rattle.rules_world.specs.Gives.{as_value}
-use Rattle.rules_world.specs.Good.{known_with}
-use Rattle.rules_world.specs.Outcomes.{applied}
-use Rattle.rules_world.specs.Receipts.{Transfer}
-use Rattle.rules_world.specs.Transfers.{Transaction, account_failure, account_outcome, with_taken, received, with_ticket}
-use Rattle.rules_world.specs.World.{World as PlainWorld}
-use Rattle.laws_accounts.proofs.ForCallers.{tickets_good, ticket_positive}
-use Rattle.laws_runs.proofs.ForCallers.{moved_moves, orderly_of, at_itself}
+use Rattle.rules_data.specs.forms.Spelling.{implicit_place, spelled_address, is_key_hash}
+use Rattle.rules_code.specs.steps.Changes.{amount_of}
+use Rattle.rules_code.specs.steps.Failure.{Failure, empty_transaction, balance_too_low}
+use Rattle.rules_data.specs.values.Canonical.{canonical}
+use Rattle.rules_data.specs.values.Val.{Val, Pairs}
+use Rattle.rules_world.specs.world.Arguments.{Argument}
+use Rattle.rules_world.specs.world.Balances.{balance_or_none, moved}
+use Rattle.rules_world.specs.world.Forms.{IsTicket, IsWorld}
+use Rattle.rules_world.specs.world.Gives.{as_value}
+use Rattle.rules_world.specs.world.Good.{known_with}
+use Rattle.rules_world.specs.world.Outcomes.{applied}
+use Rattle.rules_world.specs.world.Receipts.{Transfer}
+use Rattle.rules_world.specs.world.Transfers.{Transaction, account_failure, account_outcome, with_taken, received, with_ticket}
+use Rattle.rules_world.specs.world.World.{World as PlainWorld}
+use Rattle.laws_world.proofs.accounts.ForCallers.{tickets_good, ticket_positive}
+use Rattle.laws_world.proofs.runs.ForCallers.{moved_moves, orderly_of, at_itself}
 use Rattle.mich_base.specs.Counted.{IsNotEmpty}
 use Rattle.mich_base.specs.View.{tree}
 use Rattle.mich_base.specs.declared.node.Node.{Node}
 use Rattle.mich_bigmap.specs.Bases.{Bases}
 use Rattle.mich_bigmap.specs.Extended.{Extends}
 use Rattle.mich_bigmap.specs.Standing.{val_in, big_step_in}
-use Rattle.mich_conditions.proofs.ForCallers.{credits_fit}
+use Rattle.mich_world.proofs.preconditions_lemmas.ForCallers.{credits_fit}
 use Rattle.mich_forms.specs.Spelled.{place_bytes}
 use Rattle.mich_forms.specs.declared.places.Place.{Place}
 use Rattle.mich_forms.specs.declared.places.Place.TheVariants as place
@@ -41,7 +41,7 @@ use Rattle.mich_ops.specs.Told.{told}
 use Rattle.mich_ops.specs.View.{failure, effect as effect_of}
 use Rattle.mich_ops.specs.declared.failure.Failure.{Failure as Why}
 use Rattle.mich_ops.specs.declared.receipt.Effect.TheVariants as effect
-use Rattle.mich_standing.proofs.ForCallers.{credits_agree}
+use Rattle.mich_world.proofs.simulation_lemmas.ForCallers.{credits_agree}
 use Rattle.mich_term.specs.TicketView.{held, identity}
 use Rattle.mich_term.specs.ValueView.{value_step}
 use Rattle.mich_term.specs.declared.ticket.Ticket.{Ticket}
@@ -54,7 +54,7 @@ use Rattle.mich_tickets.specs.Limits.{IsPositive}
 use Rattle.mich_tickets.specs.Most.{most}
 use Rattle.mich_tickets.specs.Sums.{held_of}
 use Rattle.mich_world.specs.Holders.{Holders, by_bytes, account_at, contract_at, may_receive, moved as moved_in, balance_or_none as balance_in}
-use Rattle.mich_undo.specs.History.{Keeps}
+use Rattle.mich_base.specs.undo.History.{Keeps}
 use Rattle.mich_world.specs.Marks.{KeepsWorld}
 use Rattle.mich_world.specs.Standing.{StandsFor}
 use Rattle.mich_world.specs.World.{World, with_funds, with_ledger}

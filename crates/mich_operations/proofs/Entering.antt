@@ -3,16 +3,16 @@ use Rattle.std.proofs.Common.{◌≡◌, ℕ, true, List, None, Some, refl, sym,
 use Rattle.std.specs.Prelude.{option_and_then}
 use Rattle.std.specs.declared.option.Option.{Option}
 use Rattle.std.proofs.lemmas.List.{take_at}
-use Rattle.rules_evaluation.specs.Contracts.{has_kind, entry_in, hash_in, takes}
-use Rattle.rules_evaluation.specs.Surroundings.{Contract}
-use Rattle.rules_forms.specs.Spelling.{IsPlace, IsEntrypoint, spelled_address, written_entrypoint, place_of, entrypoint_of, contract_place}
-use Rattle.rules_types.specs.Entrypoints.{Entry, find_entry}
-use Rattle.rules_types.specs.Kind.{Kind}
-use Rattle.rules_typing.specs.Scripts.{Script}
-use Rattle.rules_world.specs.Targets.{Target, met, with_entry, in_script, in_contract, search}
-use Rattle.rules_world.specs.World.{World, contract_at}
-use Rattle.laws_runs.proofs.ForCallers.{entry_of_script, IsOrderly, contract_stores}
-use Rattle.laws_forms.proofs.ForCallers.{place_length}
+use Rattle.rules_code.specs.evaluation.Contracts.{has_kind, entry_in, hash_in, takes}
+use Rattle.rules_code.specs.evaluation.Surroundings.{Contract}
+use Rattle.rules_data.specs.forms.Spelling.{IsPlace, IsEntrypoint, spelled_address, written_entrypoint, place_of, entrypoint_of, contract_place}
+use Rattle.rules_data.specs.types.Entrypoints.{Entry, find_entry}
+use Rattle.rules_data.specs.types.Kind.{Kind}
+use Rattle.rules_code.specs.typing.Scripts.{Script}
+use Rattle.rules_world.specs.world.Targets.{Target, met, with_entry, in_script, in_contract, search}
+use Rattle.rules_world.specs.world.World.{World, contract_at}
+use Rattle.laws_world.proofs.runs.ForCallers.{entry_of_script, IsOrderly, contract_stores}
+use Rattle.laws_data.proofs.forms_lemmas.ForCallers.{place_length}
 use Rattle.mich_forms.proofs.ForCallers.{entrypoint_of-spelled}
 
 module _ (place name : List ℕ) (is_place : IsPlace place) (is_name : IsEntrypoint name) where

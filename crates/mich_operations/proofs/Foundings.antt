@@ -8,11 +8,11 @@ use Rattle.std.specs.BTreeMap.{is_at, insert_entry}
 use Rattle.std.specs.List.{AllByRecursion}
 use Rattle.std.specs.Map.{lookup}
 use Rattle.std.proofs.lemmas.Bool.Decides.{nat_tests}
-use Rattle.rules_steps.specs.Failure.{balance_too_low}
-use Rattle.rules_world.specs.Balances.{balance_or_none}
-use Rattle.rules_world.specs.Originations.{Founding, found_contract, founded, founding_outcome}
-use Rattle.rules_world.specs.Outcomes.{applied}
-use Rattle.rules_world.specs.World.{World as PlainWorld}
+use Rattle.rules_code.specs.steps.Failure.{balance_too_low}
+use Rattle.rules_world.specs.world.Balances.{balance_or_none}
+use Rattle.rules_world.specs.world.Originations.{Founding, found_contract, founded, founding_outcome}
+use Rattle.rules_world.specs.world.Outcomes.{applied}
+use Rattle.rules_world.specs.world.World.{World as PlainWorld}
 use Rattle.mich_base.specs.Counted.{IsNotEmpty}
 use Rattle.mich_forms.specs.Spelled.{place_bytes}
 use Rattle.mich_forms.specs.declared.places.Place.{Place}
@@ -25,10 +25,10 @@ use Rattle.mich_ops.specs.Told.{told}
 use Rattle.mich_ops.specs.View.{failure, effect as effect_of}
 use Rattle.mich_ops.specs.declared.failure.Failure.{Failure as Why}
 use Rattle.mich_ops.specs.declared.receipt.Effect.TheVariants as effect
-use Rattle.mich_standing.proofs.ForCallers.{installs_agree}
+use Rattle.mich_world.proofs.simulation_lemmas.ForCallers.{installs_agree}
 use Rattle.mich_term.specs.Layers.{AreFormed}
 use Rattle.mich_term.specs.declared.value.Value.{Value}
-use Rattle.mich_undo.specs.Undone.{changed_at}
+use Rattle.mich_base.specs.undo.Undone.{changed_at}
 use Rattle.mich_world.specs.Holders.{Holders, by_bytes, rebalanced, with_balance, contract_at, may_receive, balance_or_none as balance_in}
 use Rattle.mich_world.specs.Storages.{AreStored, Installs}
 use Rattle.mich_world.specs.World.{World}

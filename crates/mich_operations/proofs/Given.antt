@@ -4,22 +4,22 @@ use Rattle.std.specs.Prelude.{if◌then◌else◌, int_lt, neg_ℤ}
 use Rattle.std.specs.List.{AllByRecursion}
 use Rattle.std.specs.Str.{bytes_eq}
 use Rattle.std.proofs.lemmas.Int.{ints}
-use Rattle.rules_forms.specs.Spelling.{default_name, implicit_place, is_key_hash, is_place}
-use Rattle.rules_gas.specs.Prices.{Listed}
-use Rattle.rules_steps.specs.Changes.{amount_of, identity_of}
-use Rattle.rules_steps.specs.Failure.{no_entrypoint, ticket_short}
-use Rattle.rules_values.specs.Tickets.{Held}
-use Rattle.rules_world.specs.Gives.{as_value, give_account, give_effect, given_to_account, is_short}
-use Rattle.rules_world.specs.Good.{MayRun}
-use Rattle.rules_world.specs.Groups.{setting_of}
-use Rattle.rules_world.specs.Holdings.{credited, debited, held_by}
-use Rattle.rules_world.specs.Outcomes.{Setting, applied, failed}
-use Rattle.rules_world.specs.World.{World as PlainWorld, account_at as plain_account_at}
-use Rattle.rules_world.specs.Balances as rules
-use Rattle.laws_accounts.proofs.ForCallers.{ticket_positive}
-use Rattle.laws_runs.proofs.ForCallers.{moved_moves, orderly_of}
+use Rattle.rules_data.specs.forms.Spelling.{default_name, implicit_place, is_key_hash, is_place}
+use Rattle.rules_data.specs.gas.Prices.{Listed}
+use Rattle.rules_code.specs.steps.Changes.{amount_of, identity_of}
+use Rattle.rules_code.specs.steps.Failure.{no_entrypoint, ticket_short}
+use Rattle.rules_data.specs.values.Tickets.{Held}
+use Rattle.rules_world.specs.world.Gives.{as_value, give_account, give_effect, given_to_account, is_short}
+use Rattle.rules_world.specs.world.Good.{MayRun}
+use Rattle.rules_world.specs.world.Groups.{setting_of}
+use Rattle.rules_world.specs.world.Holdings.{credited, debited, held_by}
+use Rattle.rules_world.specs.world.Outcomes.{Setting, applied, failed}
+use Rattle.rules_world.specs.world.World.{World as PlainWorld, account_at as plain_account_at}
+use Rattle.rules_world.specs.world.Balances as rules
+use Rattle.laws_world.proofs.accounts.ForCallers.{ticket_positive}
+use Rattle.laws_world.proofs.runs.ForCallers.{moved_moves, orderly_of}
 use Rattle.mich_base.specs.Counted.{IsNotEmpty}
-use Rattle.mich_conditions.proofs.ForCallers.{credits_fit, gifts_may_run}
+use Rattle.mich_world.proofs.preconditions_lemmas.ForCallers.{credits_fit, gifts_may_run}
 use Rattle.mich_forms.specs.Spelled.{place_bytes}
 use Rattle.mich_forms.specs.declared.places.Place.{Place}
 use Rattle.mich_forms.specs.declared.places.Place.TheVariants as place
@@ -27,8 +27,8 @@ use Rattle.mich_interpreter.specs.declared.state.Counts.{Counts}
 use Rattle.mich_machine.specs.Calls.{counts_of, IsHanded}
 use Rattle.mich_ops.specs.View.{effect as effect_of}
 use Rattle.mich_ops.specs.declared.failure.Failure.TheVariants as failures
-use Rattle.mich_standing.proofs.ForCallers.{credits_agree, debits_agree, credits_make_accounts}
-use Rattle.laws_forms.proofs.ForCallers.{implicit_is}
+use Rattle.mich_world.proofs.simulation_lemmas.ForCallers.{credits_agree, debits_agree, credits_make_accounts}
+use Rattle.laws_data.proofs.forms_lemmas.ForCallers.{implicit_is}
 use Rattle.mich_term.specs.TicketView.{held, identity}
 use Rattle.mich_term.specs.declared.ticket.Ticket.{Ticket}
 use Rattle.mich_term.specs.declared.ticket.TicketId.{TicketId}

@@ -2,30 +2,30 @@
 use Rattle.std.proofs.Common.{◌≡◌, ◌≤◌, ℕ, ℤ, pos, ◌+ℤ◌, ◌-ℤ◌, ◌≤ℤ◌, List, ◌∷◌, true, false, refl, sym, ◌∙◌, subst, arith}
 use Rattle.std.specs.Prelude.{int_lt}
 use Rattle.std.proofs.lemmas.Int.{ints}
-use Rattle.rules_base.specs.Limits.{most_mutez}
-use Rattle.rules_forms.specs.Spelling.{implicit_place, is_key_hash, is_place}
-use Rattle.rules_instructions.specs.Same.{same_kind}
-use Rattle.rules_steps.specs.Changes.{amount_of, amount_in, identity_of}
-use Rattle.rules_types.specs.Kind.{Kind}
-use Rattle.rules_types.specs.Kind as k
-use Rattle.rules_values.specs.Tickets.{Held}
-use Rattle.rules_values.specs.Val.{Val}
-use Rattle.rules_world.specs.Contents.{Action}
-use Rattle.rules_world.specs.Forms.{IsTicket}
-use Rattle.rules_world.specs.Gives.{as_value}
-use Rattle.rules_world.specs.Good.{FitsIn}
-use Rattle.rules_world.specs.Holdings.{amount_held, debited, held, held_by}
-use Rattle.rules_world.specs.Outcomes.{Setting, Waiting, ordered, Counts}
-use Rattle.rules_world.specs.RunLaws.{IsCall}
-use Rattle.rules_world.specs.Runs.{Call, environment_of}
-use Rattle.rules_world.specs.Targets.{Target}
-use Rattle.rules_world.specs.World.{World, account_or_none}
-use Rattle.laws_accounts.proofs.ForCallers.{debited_held, fits_in_more}
-use Rattle.laws_runs.proofs.ForCallers.{IsMet, met_more, orderly_of, IsOrderly, account_holdings}
-use Rattle.laws_runs.specs.Going.{IsSetting, IsGoing}
-use Rattle.laws_types.proofs.ForCallers.{same_kind_true}
-use Rattle.laws_world.proofs.ForCallers.{IsReceived, account_changed, run_called, taken_on, taken_order}
-use Rattle.mich_standing.proofs.ForCallers.{account_held}
+use Rattle.rules_text.specs.nodes.Limits.{most_mutez}
+use Rattle.rules_data.specs.forms.Spelling.{implicit_place, is_key_hash, is_place}
+use Rattle.rules_code.specs.instructions.Same.{same_kind}
+use Rattle.rules_code.specs.steps.Changes.{amount_of, amount_in, identity_of}
+use Rattle.rules_data.specs.types.Kind.{Kind}
+use Rattle.rules_data.specs.types.Kind as k
+use Rattle.rules_data.specs.values.Tickets.{Held}
+use Rattle.rules_data.specs.values.Val.{Val}
+use Rattle.rules_world.specs.world.Contents.{Action}
+use Rattle.rules_world.specs.world.Forms.{IsTicket}
+use Rattle.rules_world.specs.world.Gives.{as_value}
+use Rattle.rules_world.specs.world.Good.{FitsIn}
+use Rattle.rules_world.specs.world.Holdings.{amount_held, debited, held, held_by}
+use Rattle.rules_world.specs.world.Outcomes.{Setting, Waiting, ordered, Counts}
+use Rattle.rules_world.specs.world.RunLaws.{IsCall}
+use Rattle.rules_world.specs.world.Runs.{Call, environment_of}
+use Rattle.rules_world.specs.world.Targets.{Target}
+use Rattle.rules_world.specs.world.World.{World, account_or_none}
+use Rattle.laws_world.proofs.accounts.ForCallers.{debited_held, fits_in_more}
+use Rattle.laws_world.proofs.runs.ForCallers.{IsMet, met_more, orderly_of, IsOrderly, account_holdings}
+use Rattle.laws_world.specs.runs.Going.{IsSetting, IsGoing}
+use Rattle.laws_data.proofs.types_lemmas.ForCallers.{same_kind_true}
+use Rattle.laws_world.proofs.groups_lemmas.ForCallers.{IsReceived, account_changed, run_called, taken_on, taken_order}
+use Rattle.mich_world.proofs.simulation_lemmas.ForCallers.{account_held}
 
 -- ---- it goes from an account
 

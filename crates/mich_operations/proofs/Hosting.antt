@@ -2,13 +2,13 @@
 use Rattle.std.proofs.Common.{◌≡◌, ℕ, List, [], ◌∷◌, Bool, true, false, cond, is_some, Err, sym, ap, ◌∙◌, subst}
 use Rattle.std.specs.BTreeMap.{is_at}
 use Rattle.std.specs.List.{AllByRecursion}
-use Rattle.rules_world.specs.World.{World as PlainWorld}
+use Rattle.rules_world.specs.world.World.{World as PlainWorld}
 use Rattle.mich_bigmap.specs.Bases.{Bases}
 use Rattle.mich_forms.specs.declared.places.Place.{Place}
 use Rattle.mich_forms.specs.declared.places.Place.TheVariants as place
 use Rattle.mich_instr.specs.Scripts.{IsTypedScript}
 use Rattle.mich_machine.specs.Calls.{IsHosting}
-use Rattle.mich_undo.specs.Undone.{changed_at}
+use Rattle.mich_base.specs.undo.Undone.{changed_at}
 use Rattle.mich_world.specs.Holders.{Holders, by_bytes, contract_at, rebalanced, with_balance, moved, fee_taken}
 use Rattle.mich_world.specs.Marks.{IsSame, KeepsWorld}
 use Rattle.mich_world.specs.Standing.{AreThose, StandsFor}

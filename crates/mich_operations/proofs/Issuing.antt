@@ -3,26 +3,26 @@ use Rattle.std.proofs.Common.{◌≡◌, ◌-◌, ℕ, Bool, true, false, List, 
 use Rattle.std.specs.Prelude.{nat_lt, option_map}
 use Rattle.std.specs.declared.option.Option.{Option}
 use Rattle.std.proofs.lemmas.List.Elements.{All-head}
-use Rattle.laws_operations.proofs.ForCallers.{new_length}
-use Rattle.rules_evaluation.specs.Operations.{origination}
-use Rattle.rules_evaluation.specs.Surroundings.{Contract as PlainContract}
-use Rattle.rules_forms.specs.Spelling.{contract_place}
-use Rattle.rules_gas.specs.Prices.{cost}
-use Rattle.rules_gas.specs.declared.Kind.TheVariants as price
-use Rattle.rules_values.specs.Tickets.{tickets}
-use Rattle.rules_values.specs.Val.{Val, Pairs}
-use Rattle.rules_world.specs.Transfers.{as_ticket}
-use Rattle.rules_world.specs.Application.{apply, told}
-use Rattle.rules_world.specs.Good.{IsGoodWaiting}
-use Rattle.rules_world.specs.Originations.{found_contract, unless_delegated}
-use Rattle.rules_world.specs.Outcomes.{Setting, Waiting, issued, Counts as PlainCounts}
-use Rattle.rules_world.specs.World.{World as PlainWorld}
+use Rattle.laws_world.proofs.operations.ForCallers.{new_length}
+use Rattle.rules_code.specs.evaluation.Operations.{origination}
+use Rattle.rules_code.specs.evaluation.Surroundings.{Contract as PlainContract}
+use Rattle.rules_data.specs.forms.Spelling.{contract_place}
+use Rattle.rules_data.specs.gas.Prices.{cost}
+use Rattle.rules_data.specs.declared.gas.Kind.TheVariants as price
+use Rattle.rules_data.specs.values.Tickets.{tickets}
+use Rattle.rules_data.specs.values.Val.{Val, Pairs}
+use Rattle.rules_world.specs.world.Transfers.{as_ticket}
+use Rattle.rules_world.specs.world.Application.{apply, told}
+use Rattle.rules_world.specs.world.Good.{IsGoodWaiting}
+use Rattle.rules_world.specs.world.Originations.{found_contract, unless_delegated}
+use Rattle.rules_world.specs.world.Outcomes.{Setting, Waiting, issued, Counts as PlainCounts}
+use Rattle.rules_world.specs.world.World.{World as PlainWorld}
 use Rattle.mich_base.specs.TypeView.{kind}
 use Rattle.mich_base.specs.declared.ty.Ty.{Ty}
 use Rattle.mich_bigmap.specs.Bases.{Bases}
 use Rattle.mich_bigmap.specs.Standing.{val_in, big_val_in, big_step_in}
 use Rattle.mich_bigmap.specs.Ticketless.{HoldNoTickets}
-use Rattle.mich_conditions.proofs.ForCallers.{installs_fit, originations_may_run}
+use Rattle.mich_world.proofs.preconditions_lemmas.ForCallers.{installs_fit, originations_may_run}
 use Rattle.mich_forms.specs.declared.places.Place.TheVariants as place
 use Rattle.mich_instr.specs.View.{script_node}
 use Rattle.mich_instr.specs.declared.instr.Script.{Script}
@@ -30,7 +30,7 @@ use Rattle.mich_instr.specs.declared.issued.Issued.{Issued}
 use Rattle.mich_instr.specs.declared.issued.Issued.TheVariants as i
 use Rattle.mich_machine.specs.Calls.{counts_of}
 use Rattle.mich_interpreter.specs.declared.state.Counts.{Counts}
-use Rattle.mich_standing.proofs.ForCallers.{contracts_agree}
+use Rattle.mich_world.proofs.simulation_lemmas.ForCallers.{contracts_agree}
 use Rattle.mich_term.specs.Layers.{AreFormed}
 use Rattle.mich_term.specs.ValueView.{val, value_step}
 use Rattle.mich_term.specs.declared.value.BigMap.{BigMap}

@@ -3,24 +3,24 @@ use Rattle.std.proofs.Common.{◌≡◌, ◌≤◌, ◌<◌, ◌+◌, ◌^◌, �
 use Rattle.std.specs.Prelude.{if◌then◌else◌, ℤ}
 use Rattle.std.specs.declared.option.Option.{Option}
 use Rattle.std.proofs.lemmas.Bool.Decides.{nat_tests}
-use Rattle.rules_base.specs.Tree.{Tree, int, str, bytes, prim, seq, Trees, none, more, size, sizes}
-use Rattle.rules_types.specs.Attributes.{comparable}
-use Rattle.rules_types.specs.Kind.{Kind, nodes}
-use Rattle.rules_types.specs.Kind as k
-use Rattle.rules_types.specs.Reading.{Former, simple_type, operation_type, one_argument, two_arguments, pair_type, no_type, former_of_name, asked_of_argument, of_argument, asked_of_first, asked_of_second, of_arguments, Read, good, bad, Part, part, with_part, on_good, paired, applied, typed, parts, limited, Reading, a_type, bad_type, too_large, type_at}
-use Rattle.rules_types.specs.declared.OneArgument.{OneArgument}
-use Rattle.rules_types.specs.declared.OneArgument.TheVariants as one
-use Rattle.rules_types.specs.declared.TwoArguments.{TwoArguments}
-use Rattle.rules_types.specs.declared.TwoArguments.TheVariants as two
-use Rattle.rules_values.specs.Literals.{Literal, Pending, read}
-use Rattle.rules_values.specs.Literals as l
-use Rattle.rules_values.specs.Tickets.{Held}
-use Rattle.rules_values.specs.Val.{Val, is_comparable}
-use Rattle.rules_world.specs.Gives.{Offer, offered, ticket_by, ticket_with}
-use Rattle.rules_world.specs.Good.{known_with}
-use Rattle.rules_world.specs.World.{World, new_world}
-use Rattle.laws_accounts.proofs.ForCallers.{compared_fits}
-use Rattle.laws_stacks.proofs.ForCallers.{comparable_value}
+use Rattle.rules_text.specs.nodes.Tree.{Tree, int, str, bytes, prim, seq, Trees, none, more, size, sizes}
+use Rattle.rules_data.specs.types.Attributes.{comparable}
+use Rattle.rules_data.specs.types.Kind.{Kind, nodes}
+use Rattle.rules_data.specs.types.Kind as k
+use Rattle.rules_data.specs.types.Reading.{Former, simple_type, operation_type, one_argument, two_arguments, pair_type, no_type, former_of_name, asked_of_argument, of_argument, asked_of_first, asked_of_second, of_arguments, Read, good, bad, Part, part, with_part, on_good, paired, applied, typed, parts, limited, Reading, a_type, bad_type, too_large, type_at}
+use Rattle.rules_data.specs.declared.types.OneArgument.{OneArgument}
+use Rattle.rules_data.specs.declared.types.OneArgument.TheVariants as one
+use Rattle.rules_data.specs.declared.types.TwoArguments.{TwoArguments}
+use Rattle.rules_data.specs.declared.types.TwoArguments.TheVariants as two
+use Rattle.rules_data.specs.values.Literals.{Literal, Pending, read}
+use Rattle.rules_data.specs.values.Literals as l
+use Rattle.rules_data.specs.values.Tickets.{Held}
+use Rattle.rules_data.specs.values.Val.{Val, is_comparable}
+use Rattle.rules_world.specs.world.Gives.{Offer, offered, ticket_by, ticket_with}
+use Rattle.rules_world.specs.world.Good.{known_with}
+use Rattle.rules_world.specs.world.World.{World, new_world}
+use Rattle.laws_world.proofs.accounts.ForCallers.{compared_fits}
+use Rattle.laws_code.proofs.stacks.ForCallers.{comparable_value}
 use Rattle.mich_base.specs.TypeView.{kind}
 use Rattle.mich_base.specs.declared.ty.Ty.{Ty}
 use Rattle.mich_forms.specs.Spelled.{place_bytes}

@@ -1,44 +1,44 @@
 -- Contracts that a source makes.
 use Rattle.std.proofs.Common.{◌≡◌, ◌≤◌, ◌<◌, ◌+◌, ◌^◌, ℕ, List, false, is_some, refl, sym, ap, ◌∙◌, subst, arith, Ok, Err, Result}
 use Rattle.std.proofs.lemmas.List.Elements.{All-head}
-use Rattle.rules_base.specs.Limits.{most_contents, most_mutez}
-use Rattle.rules_base.specs.Tree.{Tree, size}
-use Rattle.rules_evaluation.specs.Operations.{new_contract}
-use Rattle.rules_instructions.specs.Arguments.{Found, found, fault}
-use Rattle.rules_steps.specs.Failure.{bad_storage}
-use Rattle.rules_typing.specs.Nodes.{script}
-use Rattle.rules_typing.specs.Scripts.{Script as PlainScript}
-use Rattle.rules_forms.specs.Spelling.{implicit_place}
-use Rattle.rules_types.specs.Kind.{Kind}
-use Rattle.rules_values.specs.Tickets.{tickets}
-use Rattle.rules_values.specs.Val.{Val}
-use Rattle.rules_world.specs.Arguments.{literal_in}
-use Rattle.rules_world.specs.Contents.{Originate}
-use Rattle.rules_world.specs.Forms.{IsSmall}
-use Rattle.rules_world.specs.Good.{IsGoodWaiting}
-use Rattle.rules_world.specs.Originations.{Founding, found_contract, founding_of, one_more, with_script, with_storage}
-use Rattle.rules_world.specs.Outcomes.{Setting, Outcome, Counts as PlainCounts, ordered}
-use Rattle.rules_world.specs.World.{World as PlainWorld}
-use Rattle.laws_accounts.proofs.ForCallers.{literal_empty, literal_fits}
-use Rattle.laws_operations.proofs.ForCallers.{new_length}
-use Rattle.laws_runs.proofs.ForCallers.{script_code}
-use Rattle.laws_types.specs.Laws.{IsWellFormed}
+use Rattle.rules_text.specs.nodes.Limits.{most_contents, most_mutez}
+use Rattle.rules_text.specs.nodes.Tree.{Tree, size}
+use Rattle.rules_code.specs.evaluation.Operations.{new_contract}
+use Rattle.rules_code.specs.instructions.Arguments.{Found, found, fault}
+use Rattle.rules_code.specs.steps.Failure.{bad_storage}
+use Rattle.rules_code.specs.typing.Nodes.{script}
+use Rattle.rules_code.specs.typing.Scripts.{Script as PlainScript}
+use Rattle.rules_data.specs.forms.Spelling.{implicit_place}
+use Rattle.rules_data.specs.types.Kind.{Kind}
+use Rattle.rules_data.specs.values.Tickets.{tickets}
+use Rattle.rules_data.specs.values.Val.{Val}
+use Rattle.rules_world.specs.world.Arguments.{literal_in}
+use Rattle.rules_world.specs.world.Contents.{Originate}
+use Rattle.rules_world.specs.world.Forms.{IsSmall}
+use Rattle.rules_world.specs.world.Good.{IsGoodWaiting}
+use Rattle.rules_world.specs.world.Originations.{Founding, found_contract, founding_of, one_more, with_script, with_storage}
+use Rattle.rules_world.specs.world.Outcomes.{Setting, Outcome, Counts as PlainCounts, ordered}
+use Rattle.rules_world.specs.world.World.{World as PlainWorld}
+use Rattle.laws_world.proofs.accounts.ForCallers.{literal_empty, literal_fits}
+use Rattle.laws_world.proofs.operations.ForCallers.{new_length}
+use Rattle.laws_world.proofs.runs.ForCallers.{script_code}
+use Rattle.laws_data.specs.types.Laws.{IsWellFormed}
 use Rattle.mich_base.specs.TypeView.{kind}
 use Rattle.mich_bigmap.specs.Bases.{Bases}
 use Rattle.mich_bigmap.specs.Standing.{val_in}
 use Rattle.mich_bigmap.specs.Ticketless.{HoldNoTickets}
-use Rattle.mich_conditions.proofs.ForCallers.{installs_fit, plain_values_may_run}
+use Rattle.mich_world.proofs.preconditions_lemmas.ForCallers.{installs_fit, plain_values_may_run}
 use Rattle.mich_data.specs.Whole.{IsWhole}
 use Rattle.mich_forms.specs.declared.places.Place.TheVariants as place
 use Rattle.mich_instr.specs.Scripts.{IsTypedScript}
 use Rattle.mich_instr.specs.View.{script_node}
 use Rattle.mich_instr.specs.declared.instr.Script.{Script, out-Script}
-use Rattle.mich_arguments.proofs.ForCallers.{storage_read}
+use Rattle.mich_literals.proofs.arguments_lemmas.ForCallers.{storage_read}
 use Rattle.mich_interpreter.specs.declared.state.Counts.{Counts}
 use Rattle.mich_machine.specs.Calls.{counts_of}
 use Rattle.mich_ops.specs.declared.failure.Failure.TheVariants as failures
-use Rattle.mich_standing.proofs.ForCallers.{contracts_agree}
-use Rattle.laws_forms.proofs.ForCallers.{implicit_is}
+use Rattle.mich_world.proofs.simulation_lemmas.ForCallers.{contracts_agree}
+use Rattle.laws_data.proofs.forms_lemmas.ForCallers.{implicit_is}
 use Rattle.mich_term.specs.Layers.{AreFormed}
 use Rattle.mich_term.specs.ValueView.{val}
 use Rattle.mich_term.specs.declared.value.Value.{Value}
@@ -69,9 +69,9 @@ counted_one o x gas old mid new (Ok a) e h = record {
   handed = h.handed;
   there = h.there;
 }
-counted_one Rattle.rules_world.specs.Outcomes.stuck x gas old mid new (Err (Failed f)) e h = absurd h
-counted_one (Rattle.rules_world.specs.Outcomes.failed why) x gas old mid new (Err (Failed f)) e h = h
-counted_one (Rattle.rules_world.specs.Outcomes.applied a) x gas old mid new (Err (Failed f)) e h = absurd h
+counted_one Rattle.rules_world.specs.world.Outcomes.stuck x gas old mid new (Err (Failed f)) e h = absurd h
+counted_one (Rattle.rules_world.specs.world.Outcomes.failed why) x gas old mid new (Err (Failed f)) e h = h
+counted_one (Rattle.rules_world.specs.world.Outcomes.applied a) x gas old mid new (Err (Failed f)) e h = absurd h
 counted_one o x gas old mid new (Err Memory) e h = tt
 
 module _ (v : World) (w : PlainWorld) (s : Setting) (balance : ℕ) (t u : Tree) (counts : PlainCounts)
@@ -110,8 +110,8 @@ module _ (v : World) (w : PlainWorld) (s : Setting) (balance : ℕ) (t u : Tree)
   storage_enters a x e whole formed ticketless =
       let here : val_in v.store.bases.present x ≡ val x = whole_stands v.store.bases.present a x whole formed in
       installs_fit v w (new_contract s.group counts.originations) x a b.stands ticketless formed (new_length s.group counts.originations)
-      (subst (λ (y : Val). Rattle.rules_world.specs.Good.FitsIn w a y) (sym here) (literal_fits w a u (val x) e small_storage))
-      (subst (λ (y : Val). Rattle.rules_world.specs.Good.MayRun w y) (sym here)
+      (subst (λ (y : Val). Rattle.rules_world.specs.world.Good.FitsIn w a y) (sym here) (literal_fits w a u (val x) e small_storage))
+      (subst (λ (y : Val). Rattle.rules_world.specs.world.Good.MayRun w y) (sym here)
       (plain_values_may_run w _ (val x) b.next.going.good (literal_empty w a u (val x) e)))
 
 -- ---- how it ends

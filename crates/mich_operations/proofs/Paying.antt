@@ -5,19 +5,19 @@ use Rattle.std.specs.declared.option.Option.{Option}
 use Rattle.std.specs.List.{AllByRecursion}
 use Rattle.std.specs.Str.{bytes_eq}
 use Rattle.std.proofs.lemmas.Bool.Decides.{nat_tests}
-use Rattle.rules_forms.specs.Spelling.{default_name, spelled_address, implicit_place, is_implicit, is_key_hash, is_place}
-use Rattle.rules_gas.specs.declared.Kind.{Kind}
-use Rattle.rules_gas.specs.Prices.{Listed, cost}
-use Rattle.rules_steps.specs.Failure.{Failure, empty_transaction, balance_too_low, no_entrypoint}
-use Rattle.rules_values.specs.Canonical.{canonical}
-use Rattle.rules_values.specs.Val.{Val, Pairs, unit}
-use Rattle.rules_base.specs.Tree.{Tree}
-use Rattle.rules_types.specs.declared.Simple.TheVariants as simple
-use Rattle.rules_values.specs.Literals.{simple_value}
-use Rattle.rules_world.specs.Application.{ordered_transaction}
-use Rattle.rules_world.specs.Arguments.{Argument, node}
-use Rattle.rules_world.specs.Contents.{Call}
-use Rattle.rules_world.specs.Good.{IsGoodWaiting}
+use Rattle.rules_data.specs.forms.Spelling.{default_name, spelled_address, implicit_place, is_implicit, is_key_hash, is_place}
+use Rattle.rules_data.specs.declared.gas.Kind.{Kind}
+use Rattle.rules_data.specs.gas.Prices.{Listed, cost}
+use Rattle.rules_code.specs.steps.Failure.{Failure, empty_transaction, balance_too_low, no_entrypoint}
+use Rattle.rules_data.specs.values.Canonical.{canonical}
+use Rattle.rules_data.specs.values.Val.{Val, Pairs, unit}
+use Rattle.rules_text.specs.nodes.Tree.{Tree}
+use Rattle.rules_data.specs.declared.types.Simple.TheVariants as simple
+use Rattle.rules_data.specs.values.Literals.{simple_value}
+use Rattle.rules_world.specs.world.Application.{ordered_transaction}
+use Rattle.rules_world.specs.world.Arguments.{Argument, node}
+use Rattle.rules_world.specs.world.Contents.{Call}
+use Rattle.rules_world.specs.world.Good.{IsGoodWaiting}
 use Rattle.std.proofs.lemmas.List.Elements.{All-head}
 use Rattle.mich_bigmap.specs.Bases.{Bases}
 use Rattle.mich_bigmap.specs.Standing.{val_in, big_step_in}
@@ -26,12 +26,12 @@ use Rattle.mich_term.specs.declared.value.Value.{fold-roll-Value}
 use Rattle.mich_term.specs.declared.value.Value.TheOpen.{Value-F}
 use Rattle.mich_term.specs.declared.value.Value.TheVariants as value
 use Rattle.mich_term.specs.declared.value.Value.TheVariants.{rolls-Unit}
-use Rattle.rules_world.specs.Balances.{balance_or_none}
-use Rattle.rules_world.specs.Balances as rules
-use Rattle.rules_world.specs.Receipts.{Transfer}
-use Rattle.rules_world.specs.Outcomes.{Setting, ordered, Outcome, applied, failed, charged, charged_by, Counts as PlainCounts}
-use Rattle.rules_world.specs.Transfers.{Transaction, as_ticket, account_failure, account_outcome, with_taken, to_account, received, with_ticket, delivered}
-use Rattle.rules_world.specs.World.{World as PlainWorld, key_hash_in}
+use Rattle.rules_world.specs.world.Balances.{balance_or_none}
+use Rattle.rules_world.specs.world.Balances as rules
+use Rattle.rules_world.specs.world.Receipts.{Transfer}
+use Rattle.rules_world.specs.world.Outcomes.{Setting, ordered, Outcome, applied, failed, charged, charged_by, Counts as PlainCounts}
+use Rattle.rules_world.specs.world.Transfers.{Transaction, as_ticket, account_failure, account_outcome, with_taken, to_account, received, with_ticket, delivered}
+use Rattle.rules_world.specs.world.World.{World as PlainWorld, key_hash_in}
 use Rattle.mich_forms.specs.Spelled.{place_bytes}
 use Rattle.mich_base.specs.Counted.{IsNotEmpty}
 use Rattle.mich_base.specs.View.{tree}

@@ -4,28 +4,28 @@ use Rattle.std.specs.Prelude.{nat_le, option_map}
 use Rattle.std.specs.declared.option.Option.{Option}
 use Rattle.std.specs.List.{AllByRecursion}
 use Rattle.std.proofs.lemmas.Bool.Decides.{nat_tests}
-use Rattle.rules_evaluation.specs.Surroundings.{Contract as PlainContract}
-use Rattle.rules_forms.specs.Spelling.{contract_place, spelled_address, is_place}
-use Rattle.rules_gas.specs.Prices.{Listed}
-use Rattle.rules_steps.specs.Changes.{Change as PlainChange}
-use Rattle.rules_steps.specs.Environment.{Environment}
-use Rattle.rules_steps.specs.Failure.{balance_too_low}
-use Rattle.rules_values.specs.Canonical.{canonical}
-use Rattle.rules_values.specs.Val.{Val}
-use Rattle.rules_world.specs.Arguments.{Argument, value}
-use Rattle.rules_world.specs.Balances.{balance_or_none, moved}
-use Rattle.rules_world.specs.Forms.{IsWorld}
-use Rattle.rules_world.specs.Groups.{setting_of}
-use Rattle.rules_world.specs.Outcomes.{Setting, Counts as PlainCounts, Outcome, applied, failed, stuck, issued}
-use Rattle.rules_world.specs.Receipts.{Effect, Transfer}
-use Rattle.rules_world.specs.RunLaws.{IsCall}
-use Rattle.rules_world.specs.Runs.{Call, environment_of, Finished as PlainFinished, Ended, finished, run_failed, run_stuck, run_in, waiting_of, with_effect, run}
-use Rattle.rules_world.specs.Targets.{Target}
-use Rattle.rules_world.specs.Transfers.{transfer_effect, if_covered}
-use Rattle.rules_world.specs.World.{World as PlainWorld, contract_at as plain_contract_at}
-use Rattle.laws_accounts.proofs.ForCallers.{Extends}
-use Rattle.laws_runs.specs.RunEnds.{IsFinished as IsFinishedRun, EndsWell}
-use Rattle.laws_runs.proofs.ForCallers.{runs_end_well, extends_replaced}
+use Rattle.rules_code.specs.evaluation.Surroundings.{Contract as PlainContract}
+use Rattle.rules_data.specs.forms.Spelling.{contract_place, spelled_address, is_place}
+use Rattle.rules_data.specs.gas.Prices.{Listed}
+use Rattle.rules_code.specs.steps.Changes.{Change as PlainChange}
+use Rattle.rules_code.specs.steps.Environment.{Environment}
+use Rattle.rules_code.specs.steps.Failure.{balance_too_low}
+use Rattle.rules_data.specs.values.Canonical.{canonical}
+use Rattle.rules_data.specs.values.Val.{Val}
+use Rattle.rules_world.specs.world.Arguments.{Argument, value}
+use Rattle.rules_world.specs.world.Balances.{balance_or_none, moved}
+use Rattle.rules_world.specs.world.Forms.{IsWorld}
+use Rattle.rules_world.specs.world.Groups.{setting_of}
+use Rattle.rules_world.specs.world.Outcomes.{Setting, Counts as PlainCounts, Outcome, applied, failed, stuck, issued}
+use Rattle.rules_world.specs.world.Receipts.{Effect, Transfer}
+use Rattle.rules_world.specs.world.RunLaws.{IsCall}
+use Rattle.rules_world.specs.world.Runs.{Call, environment_of, Finished as PlainFinished, Ended, finished, run_failed, run_stuck, run_in, waiting_of, with_effect, run}
+use Rattle.rules_world.specs.world.Targets.{Target}
+use Rattle.rules_world.specs.world.Transfers.{transfer_effect, if_covered}
+use Rattle.rules_world.specs.world.World.{World as PlainWorld, contract_at as plain_contract_at}
+use Rattle.laws_world.proofs.accounts.ForCallers.{Extends}
+use Rattle.laws_world.specs.runs.RunEnds.{IsFinished as IsFinishedRun, EndsWell}
+use Rattle.laws_world.proofs.runs.ForCallers.{runs_end_well, extends_replaced}
 use Rattle.mich_base.specs.View.{tree}
 use Rattle.mich_base.specs.declared.node.Node.{Node}
 use Rattle.mich_bigmap.specs.Bases.{Bases}
@@ -45,8 +45,8 @@ use Rattle.mich_ops.specs.Told.{told}
 use Rattle.mich_ops.specs.View.{failure, effect as effect_of, change as change_of}
 use Rattle.mich_ops.specs.declared.failure.Failure.{Failure as Why}
 use Rattle.mich_ops.specs.declared.receipt.Effect.TheVariants as effects
-use Rattle.mich_standing.proofs.ForCallers.{contracts_agree, length_is}
-use Rattle.laws_forms.proofs.ForCallers.{contract_is}
+use Rattle.mich_world.proofs.simulation_lemmas.ForCallers.{contracts_agree, length_is}
+use Rattle.laws_data.proofs.forms_lemmas.ForCallers.{contract_is}
 use Rattle.mich_step.specs.Views.{environment}
 use Rattle.mich_step.specs.declared.environment.Env.{Env}
 use Rattle.mich_term.specs.declared.ticket.Change.{Change}

@@ -4,34 +4,34 @@ use Rattle.std.specs.Prelude.{if◌then◌else◌}
 use Rattle.std.specs.Str.{bytes_eq}
 use Rattle.std.specs.declared.option.Option.{Option}
 use Rattle.std.proofs.lemmas.List.Elements.{All-head}
-use Rattle.rules_evaluation.specs.Contracts.{hash_in, takes}
-use Rattle.rules_evaluation.specs.Operations.{transfer}
-use Rattle.rules_forms.specs.Spelling.{IsPlace, IsEntrypoint, contract_place, default_name, implicit_place, spelled_address, place_of, entrypoint_of, is_implicit, is_place}
-use Rattle.rules_instructions.specs.Arguments.{found}
-use Rattle.rules_steps.specs.Changes.{amount_in}
-use Rattle.rules_steps.specs.Failure.{no_entrypoint}
-use Rattle.rules_types.specs.Kind.{Kind}
-use Rattle.rules_values.specs.Tickets.{Held}
-use Rattle.rules_values.specs.Val.{Val}
-use Rattle.rules_world.specs.Application.{issued_transaction}
-use Rattle.rules_world.specs.Arguments.{value}
-use Rattle.rules_world.specs.Gives.{as_value}
-use Rattle.rules_world.specs.Good.{FitsIn, IsGoodWaiting, IsGoodOperation}
-use Rattle.rules_world.specs.Outcomes.{Setting, Waiting, issued, failed, Counts as PlainCounts}
-use Rattle.rules_world.specs.Targets.{Target, Search, met, search, on_met}
-use Rattle.rules_world.specs.Transfers.{Transaction, as_ticket, delivered, to_account, with_argument, with_taken}
-use Rattle.rules_world.specs.World.{World as PlainWorld, contract_at as plain_contract_at}
-use Rattle.laws_runs.proofs.ForCallers.{IsMet, Searched, searched, address_takes, met_takes, orderly_of}
-use Rattle.laws_world.proofs.ForCallers.{called_call, taken_transfer}
+use Rattle.rules_code.specs.evaluation.Contracts.{hash_in, takes}
+use Rattle.rules_code.specs.evaluation.Operations.{transfer}
+use Rattle.rules_data.specs.forms.Spelling.{IsPlace, IsEntrypoint, contract_place, default_name, implicit_place, spelled_address, place_of, entrypoint_of, is_implicit, is_place}
+use Rattle.rules_code.specs.instructions.Arguments.{found}
+use Rattle.rules_code.specs.steps.Changes.{amount_in}
+use Rattle.rules_code.specs.steps.Failure.{no_entrypoint}
+use Rattle.rules_data.specs.types.Kind.{Kind}
+use Rattle.rules_data.specs.values.Tickets.{Held}
+use Rattle.rules_data.specs.values.Val.{Val}
+use Rattle.rules_world.specs.world.Application.{issued_transaction}
+use Rattle.rules_world.specs.world.Arguments.{value}
+use Rattle.rules_world.specs.world.Gives.{as_value}
+use Rattle.rules_world.specs.world.Good.{FitsIn, IsGoodWaiting, IsGoodOperation}
+use Rattle.rules_world.specs.world.Outcomes.{Setting, Waiting, issued, failed, Counts as PlainCounts}
+use Rattle.rules_world.specs.world.Targets.{Target, Search, met, search, on_met}
+use Rattle.rules_world.specs.world.Transfers.{Transaction, as_ticket, delivered, to_account, with_argument, with_taken}
+use Rattle.rules_world.specs.world.World.{World as PlainWorld, contract_at as plain_contract_at}
+use Rattle.laws_world.proofs.runs.ForCallers.{IsMet, Searched, searched, address_takes, met_takes, orderly_of}
+use Rattle.laws_world.proofs.groups_lemmas.ForCallers.{called_call, taken_transfer}
 use Rattle.mich_bigmap.specs.Standing.{val_in}
-use Rattle.mich_conditions.proofs.ForCallers.{transfers_may_run}
+use Rattle.mich_world.proofs.preconditions_lemmas.ForCallers.{transfers_may_run}
 use Rattle.mich_forms.specs.Spelled.{place_bytes}
-use Rattle.laws_forms.proofs.ForCallers.{place_length}
+use Rattle.laws_data.proofs.forms_lemmas.ForCallers.{place_length}
 use Rattle.mich_forms.specs.declared.places.Place.{Place}
 use Rattle.mich_forms.specs.declared.places.Place.TheVariants as place
 use Rattle.mich_interpreter.specs.declared.state.Counts.{Counts}
 use Rattle.mich_machine.specs.Calls.{counts_of}
-use Rattle.mich_standing.proofs.ForCallers.{hash_of, implicit_of}
+use Rattle.mich_world.proofs.simulation_lemmas.ForCallers.{hash_of, implicit_of}
 use Rattle.mich_term.specs.TicketView.{held}
 use Rattle.mich_term.specs.declared.ticket.Ticket.{Ticket}
 use Rattle.mich_term.specs.declared.value.Value.{Value}

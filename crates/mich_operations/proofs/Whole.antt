@@ -2,10 +2,10 @@
 use Rattle.std.proofs.Common.{◌≡◌, ℕ, Bool, true, List, [], ◌∷◌, None, Some, sym, ap, ◌∙◌, subst}
 use Rattle.std.specs.declared.option.Option.{Option}
 use Rattle.std.specs.List.{AllByRecursion}
-use Rattle.rules_types.specs.Kind.{Kind}
-use Rattle.rules_types.specs.Kind as k
-use Rattle.rules_types.specs.Attributes.{duplicable}
-use Rattle.rules_bigmap.specs.Changes.{changed}
+use Rattle.rules_data.specs.types.Kind.{Kind}
+use Rattle.rules_data.specs.types.Kind as k
+use Rattle.rules_data.specs.types.Attributes.{duplicable}
+use Rattle.rules_data.specs.big_maps.Changes.{changed}
 use Rattle.mich_bigmap.specs.Bases.{Bases, entries_in, seen}
 use Rattle.mich_bigmap.specs.Formed.{is_there}
 use Rattle.mich_bigmap.specs.Layers.{BasedLayer, HasBases}

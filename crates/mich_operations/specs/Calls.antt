@@ -1,20 +1,20 @@
 -- Mutez that go to a contract, which is called with them (Octez "Operations", transactions).
 use Rattle.std.specs.Prelude.{◌≡◌, ◌≤◌, ℕ, nat_le, true, is_some, List, Result, Ok, Err}
-use Rattle.rules_base.specs.Tree.{Tree}
-use Rattle.rules_forms.specs.Spelling.{contract_place, is_place}
-use Rattle.rules_instructions.specs.Arguments.{fault}
-use Rattle.rules_steps.specs.Failure.{no_contract, no_entrypoint}
-use Rattle.rules_values.specs.Val.{Val}
-use Rattle.rules_world.specs.Arguments.{literal_in}
-use Rattle.rules_world.specs.Balances.{balance_or_none, moved}
-use Rattle.rules_world.specs.Forms.{IsWorld}
-use Rattle.rules_world.specs.Outcomes.{Setting, Counts, Outcome}
-use Rattle.rules_world.specs.RunLaws.{IsCall}
-use Rattle.rules_world.specs.Runs.{Call, environment_of}
-use Rattle.rules_world.specs.Targets.{Target, met, missing, search}
-use Rattle.rules_world.specs.Transfers.{Transaction, if_covered}
-use Rattle.rules_world.specs.World.{World as PlainWorld}
-use Rattle.mich_arguments.specs.Arguments.{IsArgument}
+use Rattle.rules_text.specs.nodes.Tree.{Tree}
+use Rattle.rules_data.specs.forms.Spelling.{contract_place, is_place}
+use Rattle.rules_code.specs.instructions.Arguments.{fault}
+use Rattle.rules_code.specs.steps.Failure.{no_contract, no_entrypoint}
+use Rattle.rules_data.specs.values.Val.{Val}
+use Rattle.rules_world.specs.world.Arguments.{literal_in}
+use Rattle.rules_world.specs.world.Balances.{balance_or_none, moved}
+use Rattle.rules_world.specs.world.Forms.{IsWorld}
+use Rattle.rules_world.specs.world.Outcomes.{Setting, Counts, Outcome}
+use Rattle.rules_world.specs.world.RunLaws.{IsCall}
+use Rattle.rules_world.specs.world.Runs.{Call, environment_of}
+use Rattle.rules_world.specs.world.Targets.{Target, met, missing, search}
+use Rattle.rules_world.specs.world.Transfers.{Transaction, if_covered}
+use Rattle.rules_world.specs.world.World.{World as PlainWorld}
+use Rattle.mich_literals.specs.arguments.Arguments.{IsArgument}
 use Rattle.mich_bigmap.specs.Standing.{val_in}
 use Rattle.mich_forms.specs.Spelled.{place_bytes}
 use Rattle.mich_forms.specs.declared.places.Place.{Place}

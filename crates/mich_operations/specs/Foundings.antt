@@ -1,13 +1,13 @@
 -- Contracts that are made (Octez "Operations", originations).
 use Rattle.std.specs.Prelude.{◌≡◌, ℕ, true, List, Result, Ok, Err}
-use Rattle.rules_base.specs.Tree.{Tree}
-use Rattle.rules_instructions.specs.Arguments.{Found, found, fault}
-use Rattle.rules_forms.specs.Spelling.{is_place}
-use Rattle.rules_typing.specs.Nodes.{script}
-use Rattle.rules_values.specs.Val.{Val}
-use Rattle.rules_world.specs.Forms.{IsWorld}
-use Rattle.rules_world.specs.Originations.{Founding}
-use Rattle.rules_world.specs.World.{World as PlainWorld}
+use Rattle.rules_text.specs.nodes.Tree.{Tree}
+use Rattle.rules_code.specs.instructions.Arguments.{Found, found, fault}
+use Rattle.rules_data.specs.forms.Spelling.{is_place}
+use Rattle.rules_code.specs.typing.Nodes.{script}
+use Rattle.rules_data.specs.values.Val.{Val}
+use Rattle.rules_world.specs.world.Forms.{IsWorld}
+use Rattle.rules_world.specs.world.Originations.{Founding}
+use Rattle.rules_world.specs.world.World.{World as PlainWorld}
 use Rattle.mich_bigmap.specs.Bases.{Bases}
 use Rattle.mich_bigmap.specs.Standing.{val_in}
 use Rattle.mich_forms.specs.Spelled.{place_bytes}

@@ -1,25 +1,25 @@
 -- Gifts of tickets (this host's own operation, after Octez "Tickets", transfers of tickets).
 use Rattle.std.specs.Prelude.{◌≡◌, ℕ, ℤ, neg_ℤ, ◌≤ℤ◌, ◌<ℤ◌, true, false, List, Option, Some, None, Result, Ok, Err, if◌then◌else◌}
-use Rattle.rules_forms.specs.Spelling.{implicit_place, is_key_hash, is_place}
-use Rattle.rules_instructions.specs.Same.{same_kind}
-use Rattle.rules_steps.specs.Changes.{amount_of}
-use Rattle.rules_steps.specs.Failure.{no_contract, no_entrypoint}
-use Rattle.rules_types.specs.Attributes.{comparable}
-use Rattle.rules_types.specs.Kind.{Kind}
-use Rattle.rules_types.specs.Kind as k
-use Rattle.rules_types.specs.Reading.{Reading, a_type, bad_type, too_large}
-use Rattle.rules_values.specs.Literals.{Literal, good, bad}
-use Rattle.rules_values.specs.Tickets.{Held}
-use Rattle.rules_values.specs.Val.{Val}
-use Rattle.rules_world.specs.Forms.{IsTicket}
-use Rattle.rules_world.specs.Gives.{Gift, as_value, is_short}
-use Rattle.rules_world.specs.Good.{IsGood}
-use Rattle.rules_world.specs.Holdings.{debited}
-use Rattle.rules_world.specs.Outcomes.{Setting, Waiting, Counts}
-use Rattle.rules_world.specs.RunLaws.{IsCall}
-use Rattle.rules_world.specs.Runs.{environment_of}
-use Rattle.rules_world.specs.Targets.{Target, Search, met, missing, search}
-use Rattle.rules_world.specs.World.{World as PlainWorld}
+use Rattle.rules_data.specs.forms.Spelling.{implicit_place, is_key_hash, is_place}
+use Rattle.rules_code.specs.instructions.Same.{same_kind}
+use Rattle.rules_code.specs.steps.Changes.{amount_of}
+use Rattle.rules_code.specs.steps.Failure.{no_contract, no_entrypoint}
+use Rattle.rules_data.specs.types.Attributes.{comparable}
+use Rattle.rules_data.specs.types.Kind.{Kind}
+use Rattle.rules_data.specs.types.Kind as k
+use Rattle.rules_data.specs.types.Reading.{Reading, a_type, bad_type, too_large}
+use Rattle.rules_data.specs.values.Literals.{Literal, good, bad}
+use Rattle.rules_data.specs.values.Tickets.{Held}
+use Rattle.rules_data.specs.values.Val.{Val}
+use Rattle.rules_world.specs.world.Forms.{IsTicket}
+use Rattle.rules_world.specs.world.Gives.{Gift, as_value, is_short}
+use Rattle.rules_world.specs.world.Good.{IsGood}
+use Rattle.rules_world.specs.world.Holdings.{debited}
+use Rattle.rules_world.specs.world.Outcomes.{Setting, Waiting, Counts}
+use Rattle.rules_world.specs.world.RunLaws.{IsCall}
+use Rattle.rules_world.specs.world.Runs.{environment_of}
+use Rattle.rules_world.specs.world.Targets.{Target, Search, met, missing, search}
+use Rattle.rules_world.specs.world.World.{World as PlainWorld}
 use Rattle.mich_forms.specs.Spelled.{place_bytes}
 use Rattle.mich_forms.specs.declared.places.Place.{Place}
 use Rattle.mich_forms.specs.declared.places.Place.TheVariants as place

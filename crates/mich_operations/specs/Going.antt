@@ -1,10 +1,10 @@
 -- One operation of a group, and how its application ends (Octez "Operations", internal operations).
 use Rattle.std.specs.Prelude.{◌≡◌, ◌≤◌, ℕ, true, is_some, List, [], ◌∷◌, map, Result, Ok, Err}
 use Rattle.std.specs.List.{AllByRecursion}
-use Rattle.rules_forms.specs.Spelling.{contract_place}
-use Rattle.rules_world.specs.World.{World as PlainWorld}
-use Rattle.rules_world.specs.Outcomes.{Setting, Waiting, issued, Counts as PlainCounts, Outcome, applied, failed}
-use Rattle.laws_runs.specs.Going.{IsSetting, IsGoing}
+use Rattle.rules_data.specs.forms.Spelling.{contract_place}
+use Rattle.rules_world.specs.world.World.{World as PlainWorld}
+use Rattle.rules_world.specs.world.Outcomes.{Setting, Waiting, issued, Counts as PlainCounts, Outcome, applied, failed}
+use Rattle.laws_world.specs.runs.Going.{IsSetting, IsGoing}
 use Rattle.mich_base.specs.Counted.{IsNotEmpty}
 use Rattle.mich_bigmap.specs.Bases.{Bases}
 use Rattle.mich_instr.specs.declared.issued.Issued.{Issued}

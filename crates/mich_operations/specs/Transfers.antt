@@ -1,15 +1,15 @@
 -- Transfers between places (Octez "Operations", transactions).
 use Rattle.std.specs.Prelude.{◌≡◌, ◌-◌, ℕ, nat_lt, true, false, List, Result, Ok, Err}
-use Rattle.rules_gas.specs.declared.Kind.{Kind}
-use Rattle.rules_gas.specs.Prices.{Listed, cost}
-use Rattle.rules_types.specs.Kind.{Kind as TypeKind}
-use Rattle.rules_forms.specs.Spelling.{is_place}
-use Rattle.rules_values.specs.Val.{Val}
-use Rattle.rules_world.specs.Arguments.{Argument}
-use Rattle.rules_world.specs.Forms.{IsWorld}
-use Rattle.rules_world.specs.Good.{FitsIn, MayRun}
-use Rattle.rules_world.specs.Transfers.{Transaction}
-use Rattle.rules_world.specs.World.{World as PlainWorld}
+use Rattle.rules_data.specs.declared.gas.Kind.{Kind}
+use Rattle.rules_data.specs.gas.Prices.{Listed, cost}
+use Rattle.rules_data.specs.types.Kind.{Kind as TypeKind}
+use Rattle.rules_data.specs.forms.Spelling.{is_place}
+use Rattle.rules_data.specs.values.Val.{Val}
+use Rattle.rules_world.specs.world.Arguments.{Argument}
+use Rattle.rules_world.specs.world.Forms.{IsWorld}
+use Rattle.rules_world.specs.world.Good.{FitsIn, MayRun}
+use Rattle.rules_world.specs.world.Transfers.{Transaction}
+use Rattle.rules_world.specs.world.World.{World as PlainWorld}
 use Rattle.mich_forms.specs.Spelled.{place_bytes}
 use Rattle.mich_forms.specs.declared.places.Place.{Place}
 use Rattle.mich_forms.specs.declared.places.Place.TheVariants as place

@@ -1,12 +1,12 @@
 // Transfers to accounts.
 ghost use Rattle.std.specs.Prelude.{◌≡◌, ◌<◌, ◌^◌, [], ℕ, true, is_some, Some, None, IfOk};
-ghost use Rattle.rules_base.specs.Tree.{size};
-ghost use Rattle.rules_values.specs.Canonical.{canonical};
-ghost use Rattle.rules_world.specs.Arguments.{Argument, node};
-ghost use Rattle.rules_world.specs.Arguments as rules;
-ghost use Rattle.rules_world.specs.Gives.{as_value};
-ghost use Rattle.rules_world.specs.Transfers.{as_ticket, to_account, with_taken};
-ghost use Rattle.rules_world.specs.World.{World as PlainWorld};
+ghost use Rattle.rules_text.specs.nodes.Tree.{size};
+ghost use Rattle.rules_data.specs.values.Canonical.{canonical};
+ghost use Rattle.rules_world.specs.world.Arguments.{Argument, node};
+ghost use Rattle.rules_world.specs.world.Arguments as rules;
+ghost use Rattle.rules_world.specs.world.Gives.{as_value};
+ghost use Rattle.rules_world.specs.world.Transfers.{as_ticket, to_account, with_taken};
+ghost use Rattle.rules_world.specs.world.World.{World as PlainWorld};
 ghost use Rattle.mich_base.specs.View.{tree};
 ghost use Rattle.mich_bigmap.specs.Bases.{Bases};
 ghost use Rattle.mich_bigmap.specs.Standing.{val_in};

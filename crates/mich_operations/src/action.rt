@@ -1,9 +1,9 @@
 // Operations that a source orders.
 ghost use Rattle.std.specs.Prelude.{IfOk};
-ghost use Rattle.rules_world.specs.Application.{apply};
-ghost use Rattle.rules_world.specs.Outcomes.{ordered};
-ghost use Rattle.rules_world.specs.Groups.{setting_of};
-ghost use Rattle.rules_world.specs.World.{World as PlainWorld};
+ghost use Rattle.rules_world.specs.world.Application.{apply};
+ghost use Rattle.rules_world.specs.world.Outcomes.{ordered};
+ghost use Rattle.rules_world.specs.world.Groups.{setting_of};
+ghost use Rattle.rules_world.specs.world.World.{World as PlainWorld};
 ghost use Rattle.mich_bigmap.specs.Extended.{Extends};
 ghost use Rattle.mich_gas.specs.View.{listed};
 ghost use Rattle.mich_machine.specs.Calls.{counts_of, IsHosting};

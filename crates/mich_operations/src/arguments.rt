@@ -1,16 +1,16 @@
 // Arguments of calls.
 ghost use Rattle.std.specs.Prelude.{◌<◌, ◌^◌};
-ghost use Rattle.rules_base.specs.Tree.{size};
-ghost use Rattle.rules_world.specs.World.{World as PlainWorld};
-ghost use Rattle.mich_arguments.specs.Arguments.{HasTypedScripts};
+ghost use Rattle.rules_text.specs.nodes.Tree.{size};
+ghost use Rattle.rules_world.specs.world.World.{World as PlainWorld};
+ghost use Rattle.mich_literals.specs.arguments.Arguments.{HasTypedScripts};
 ghost use Rattle.mich_base.specs.View.{tree};
 ghost use Rattle.mich_world.specs.Standing.{StandsFor};
 ghost use Rattle.mich_operations.specs.Calls.{ReadAs};
 
 use crate::applied::ApplyError;
-use mich_arguments::{ArgumentError, read_argument};
 use mich_base::Node;
 use mich_forms::Entrypoint;
+use mich_literals::arguments::{ArgumentError, read_argument};
 use mich_ops::Failure;
 use mich_term::Value;
 use mich_world::World;

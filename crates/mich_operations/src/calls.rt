@@ -1,12 +1,12 @@
 // Calls that a source orders.
 ghost use Rattle.std.specs.Prelude.{IfOk, ℕ};
-ghost use Rattle.rules_forms.specs.Spelling.{is_implicit};
-ghost use Rattle.rules_world.specs.Application.{ordered_transaction};
-ghost use Rattle.rules_world.specs.Contents.{Call};
-ghost use Rattle.rules_world.specs.Groups.{setting_of};
-ghost use Rattle.rules_world.specs.Outcomes.{ordered};
-ghost use Rattle.rules_world.specs.Transfers.{delivered};
-ghost use Rattle.rules_world.specs.World.{World as PlainWorld};
+ghost use Rattle.rules_data.specs.forms.Spelling.{is_implicit};
+ghost use Rattle.rules_world.specs.world.Application.{ordered_transaction};
+ghost use Rattle.rules_world.specs.world.Contents.{Call};
+ghost use Rattle.rules_world.specs.world.Groups.{setting_of};
+ghost use Rattle.rules_world.specs.world.Outcomes.{ordered};
+ghost use Rattle.rules_world.specs.world.Transfers.{delivered};
+ghost use Rattle.rules_world.specs.world.World.{World as PlainWorld};
 ghost use Rattle.mich_base.specs.View.{tree};
 ghost use Rattle.mich_bigmap.specs.Extended.{Extends};
 ghost use Rattle.mich_forms.specs.Spelled.{place_bytes};

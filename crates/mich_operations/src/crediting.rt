@@ -1,7 +1,7 @@
 // Tickets of accounts.
 ghost use Rattle.std.specs.Prelude.{◌≡◌, pos, ◌+ℤ◌, ◌<ℤ◌, ◌≤ℤ◌, IfOk};
-ghost use Rattle.rules_forms.specs.Spelling.{implicit_place};
-ghost use Rattle.rules_steps.specs.Changes.{amount_of};
+ghost use Rattle.rules_data.specs.forms.Spelling.{implicit_place};
+ghost use Rattle.rules_code.specs.steps.Changes.{amount_of};
 ghost use Rattle.mich_forms.specs.declared.places.Place.TheVariants as place;
 ghost use Rattle.mich_term.specs.TicketView.{held, identity};
 ghost use Rattle.mich_tickets.specs.Answers.{IsDebit};
@@ -9,7 +9,7 @@ ghost use Rattle.mich_tickets.specs.Effects.{Moves};
 ghost use Rattle.mich_tickets.specs.Limits.{IsPositive};
 ghost use Rattle.mich_tickets.specs.Most.{most};
 ghost use Rattle.mich_tickets.specs.Sums.{held_of};
-ghost use Rattle.mich_undo.specs.History.{Keeps};
+ghost use Rattle.mich_base.specs.undo.History.{Keeps};
 ghost use Rattle.mich_world.specs.World.{with_ledger};
 
 use mich_base::Memory;

@@ -1,8 +1,8 @@
 // Contracts that are made.
 ghost use Rattle.std.specs.Prelude.{◌≡◌, [], ℕ, true, false, is_some, IfOk};
-ghost use Rattle.rules_values.specs.Tickets.{tickets};
-ghost use Rattle.rules_world.specs.Originations.{found_contract};
-ghost use Rattle.rules_world.specs.World.{World as PlainWorld};
+ghost use Rattle.rules_data.specs.values.Tickets.{tickets};
+ghost use Rattle.rules_world.specs.world.Originations.{found_contract};
+ghost use Rattle.rules_world.specs.world.World.{World as PlainWorld};
 ghost use Rattle.mich_bigmap.specs.Extended.{Extends};
 ghost use Rattle.mich_bigmap.specs.Layers.{HasBases};
 ghost use Rattle.mich_forms.specs.declared.places.Place.TheVariants as place;

@@ -1,9 +1,9 @@
 // Tickets that go from a source, and what is told of it.
 ghost use Rattle.std.specs.Prelude.{◌≡◌, ℕ, ℤ, map, IfOk};
-ghost use Rattle.rules_gas.specs.Prices.{Listed};
-ghost use Rattle.rules_world.specs.Gives.{give_account, give_effect};
-ghost use Rattle.rules_world.specs.Groups.{setting_of};
-ghost use Rattle.rules_world.specs.World.{World as PlainWorld};
+ghost use Rattle.rules_data.specs.gas.Prices.{Listed};
+ghost use Rattle.rules_world.specs.world.Gives.{give_account, give_effect};
+ghost use Rattle.rules_world.specs.world.Groups.{setting_of};
+ghost use Rattle.rules_world.specs.world.World.{World as PlainWorld};
 ghost use Rattle.mich_forms.specs.declared.places.Place.TheVariants as place;
 ghost use Rattle.mich_forms.specs.declared.places.Place.{Place as AnyPlace};
 ghost use Rattle.mich_interpreter.specs.declared.state.Counts.{Counts};

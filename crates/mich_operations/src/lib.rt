@@ -22,6 +22,3 @@ mod telling;
 pub use action::apply_action;
 pub use applied::{Applied, ApplyError};
 pub use issued::apply_issued;
-
-#[cfg(test)]
-mod tests;

@@ -1,10 +1,10 @@
 // Tickets that nodes spell.
 ghost use Rattle.std.specs.Prelude.{◌≡◌, ◌<◌, ◌^◌, ℤ, true, IfOk, option_map};
-ghost use Rattle.rules_base.specs.Tree.{size};
-ghost use Rattle.rules_types.specs.Attributes.{comparable};
-ghost use Rattle.rules_types.specs.Reading.{type_at};
-ghost use Rattle.rules_values.specs.Literals.{read};
-ghost use Rattle.rules_world.specs.Gives.{offered};
+ghost use Rattle.rules_text.specs.nodes.Tree.{size};
+ghost use Rattle.rules_data.specs.types.Attributes.{comparable};
+ghost use Rattle.rules_data.specs.types.Reading.{type_at};
+ghost use Rattle.rules_data.specs.values.Literals.{read};
+ghost use Rattle.rules_world.specs.world.Gives.{offered};
 ghost use Rattle.mich_base.specs.TypeView.{kind};
 ghost use Rattle.mich_base.specs.View.{tree};
 ghost use Rattle.mich_forms.specs.Spelled.{place_bytes};

@@ -1,16 +1,16 @@
 // Contracts that a source makes.
 ghost use Rattle.std.specs.Prelude.{◌≡◌, ◌<◌, ◌^◌, ℕ, IfOk};
-ghost use Rattle.laws_types.specs.Laws.{IsWellFormed};
-ghost use Rattle.rules_base.specs.Tree.{size};
-ghost use Rattle.rules_gas.specs.Prices.{Listed};
-ghost use Rattle.rules_typing.specs.Nodes.{script as read_script};
-ghost use Rattle.rules_world.specs.Arguments.{literal_in};
-ghost use Rattle.rules_world.specs.Contents.{Originate};
-ghost use Rattle.rules_world.specs.Groups.{setting_of};
-ghost use Rattle.rules_world.specs.Originations.{with_script};
-ghost use Rattle.rules_world.specs.Outcomes.{ordered};
-ghost use Rattle.rules_world.specs.World.{World as PlainWorld};
-ghost use Rattle.mich_arguments.specs.Arguments.{HasTypedScripts};
+ghost use Rattle.laws_data.specs.types.Laws.{IsWellFormed};
+ghost use Rattle.rules_text.specs.nodes.Tree.{size};
+ghost use Rattle.rules_data.specs.gas.Prices.{Listed};
+ghost use Rattle.rules_code.specs.typing.Nodes.{script as read_script};
+ghost use Rattle.rules_world.specs.world.Arguments.{literal_in};
+ghost use Rattle.rules_world.specs.world.Contents.{Originate};
+ghost use Rattle.rules_world.specs.world.Groups.{setting_of};
+ghost use Rattle.rules_world.specs.world.Originations.{with_script};
+ghost use Rattle.rules_world.specs.world.Outcomes.{ordered};
+ghost use Rattle.rules_world.specs.world.World.{World as PlainWorld};
+ghost use Rattle.mich_literals.specs.arguments.Arguments.{HasTypedScripts};
 ghost use Rattle.mich_base.specs.TypeView.{kind};
 ghost use Rattle.mich_base.specs.View.{tree};
 ghost use Rattle.mich_bigmap.specs.Extended.{Extends};
@@ -24,11 +24,11 @@ ghost use Rattle.mich_operations.specs.Going.{Begins, EndsAs, KeepsContracts, Wi
 
 use crate::applied::{Applied, ApplyError};
 use crate::founding::found;
-use mich_arguments::read_literal;
 use mich_base::{Node, Shared, Ty};
 use mich_check::{CheckError, check_script};
 use mich_forms::{KeyHash, Place};
 use mich_instr::Script;
+use mich_literals::arguments::read_literal;
 use mich_machine::{Counts, new_contract};
 use mich_ops::Failure;
 use mich_term::Value;

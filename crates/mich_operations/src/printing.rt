@@ -1,10 +1,10 @@
 // Values as the nodes that are told.
 ghost use Rattle.std.specs.Prelude.{◌≡◌, ◌<◌, ◌^◌, IfOk, MatchBool, Some, None};
-ghost use Rattle.rules_base.specs.Tree.{size};
-ghost use Rattle.rules_types.specs.declared.Simple.TheVariants as simple;
-ghost use Rattle.rules_values.specs.Canonical.{canonical};
-ghost use Rattle.rules_values.specs.Literals.{simple_value};
-ghost use Rattle.rules_values.specs.Val.{unit};
+ghost use Rattle.rules_text.specs.nodes.Tree.{size};
+ghost use Rattle.rules_data.specs.declared.types.Simple.TheVariants as simple;
+ghost use Rattle.rules_data.specs.values.Canonical.{canonical};
+ghost use Rattle.rules_data.specs.values.Literals.{simple_value};
+ghost use Rattle.rules_data.specs.values.Val.{unit};
 ghost use Rattle.mich_base.specs.View.{tree};
 ghost use Rattle.mich_bigmap.specs.Standing.{val_in};
 

@@ -1,13 +1,13 @@
 // Contracts that are called.
 ghost use Rattle.std.specs.Prelude.{◌≡◌, ℕ, is_some, true, IfOk};
-ghost use Rattle.rules_gas.specs.Prices.{Listed};
-ghost use Rattle.rules_values.specs.Val.{Val};
-ghost use Rattle.rules_world.specs.Arguments.{Argument, value};
-ghost use Rattle.rules_world.specs.Groups.{setting_of};
-ghost use Rattle.rules_world.specs.Runs.{environment_of, run};
-ghost use Rattle.rules_world.specs.Targets.{Target};
-ghost use Rattle.rules_world.specs.Transfers.{transfer_effect};
-ghost use Rattle.rules_world.specs.World.{World as PlainWorld};
+ghost use Rattle.rules_data.specs.gas.Prices.{Listed};
+ghost use Rattle.rules_data.specs.values.Val.{Val};
+ghost use Rattle.rules_world.specs.world.Arguments.{Argument, value};
+ghost use Rattle.rules_world.specs.world.Groups.{setting_of};
+ghost use Rattle.rules_world.specs.world.Runs.{environment_of, run};
+ghost use Rattle.rules_world.specs.world.Targets.{Target};
+ghost use Rattle.rules_world.specs.world.Transfers.{transfer_effect};
+ghost use Rattle.rules_world.specs.world.World.{World as PlainWorld};
 ghost use Rattle.mich_bigmap.specs.Extended.{Extends};
 ghost use Rattle.mich_bigmap.specs.Layers.{HasBases};
 ghost use Rattle.mich_bigmap.specs.Standing.{val_in};

@@ -1,12 +1,12 @@
 // Transfers that contracts issue.
 ghost use Rattle.std.specs.Prelude.{◌≡◌, is_some, true, IfOk};
-ghost use Rattle.rules_evaluation.specs.Operations.{transfer};
-ghost use Rattle.rules_forms.specs.Spelling.{IsEntrypoint, IsPlace, contract_place, place_of, spelled_address, is_implicit};
-ghost use Rattle.rules_world.specs.Application.{issued_transaction};
-ghost use Rattle.rules_world.specs.Groups.{setting_of};
-ghost use Rattle.rules_world.specs.Outcomes.{issued};
-ghost use Rattle.rules_world.specs.Transfers.{delivered};
-ghost use Rattle.rules_world.specs.World.{World as PlainWorld};
+ghost use Rattle.rules_code.specs.evaluation.Operations.{transfer};
+ghost use Rattle.rules_data.specs.forms.Spelling.{IsEntrypoint, IsPlace, contract_place, place_of, spelled_address, is_implicit};
+ghost use Rattle.rules_world.specs.world.Application.{issued_transaction};
+ghost use Rattle.rules_world.specs.world.Groups.{setting_of};
+ghost use Rattle.rules_world.specs.world.Outcomes.{issued};
+ghost use Rattle.rules_world.specs.world.Transfers.{delivered};
+ghost use Rattle.rules_world.specs.world.World.{World as PlainWorld};
 ghost use Rattle.mich_bigmap.specs.Extended.{Extends};
 ghost use Rattle.mich_bigmap.specs.Layers.{HasBases};
 ghost use Rattle.mich_bigmap.specs.Standing.{val_in};

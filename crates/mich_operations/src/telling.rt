@@ -1,8 +1,8 @@
 // Events.
 ghost use Rattle.std.specs.Prelude.{◌≡◌, [], IfOk, OnOk, ℕ};
-ghost use Rattle.rules_forms.specs.Spelling.{contract_place};
-ghost use Rattle.rules_world.specs.Application.{told};
-ghost use Rattle.rules_world.specs.World.{World as PlainWorld};
+ghost use Rattle.rules_data.specs.forms.Spelling.{contract_place};
+ghost use Rattle.rules_world.specs.world.Application.{told};
+ghost use Rattle.rules_world.specs.world.World.{World as PlainWorld};
 ghost use Rattle.mich_base.specs.TypeView.{kind};
 ghost use Rattle.mich_bigmap.specs.Standing.{val_in};
 ghost use Rattle.mich_machine.specs.Calls.{counts_of};

@@ -1,11 +1,11 @@
 -- What becomes of a group, with failures as they are told: what FAILWITH shows is told by the nodes of its type and its literal.
 use Rattle.std.specs.Prelude.{ℕ, List, map}
-use Rattle.rules_base.specs.Tree.{Tree}
-use Rattle.rules_types.specs.Printing.{node_of}
-use Rattle.rules_values.specs.Canonical.{canonical}
-use Rattle.rules_steps.specs.Failure.{Failure, failed_with}
-use Rattle.rules_world.specs.Receipts.{GroupFault, Effect}
-use Rattle.rules_world.specs.Receipts as rules
+use Rattle.rules_text.specs.nodes.Tree.{Tree}
+use Rattle.rules_data.specs.types.Printing.{node_of}
+use Rattle.rules_data.specs.values.Canonical.{canonical}
+use Rattle.rules_code.specs.steps.Failure.{Failure, failed_with}
+use Rattle.rules_world.specs.world.Receipts.{GroupFault, Effect}
+use Rattle.rules_world.specs.world.Receipts as rules
 
 -- FAILWITH with the nodes of a type and a literal, or another failure
 pub data Told : Type 0 where

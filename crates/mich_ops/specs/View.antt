@@ -5,10 +5,10 @@ use Rattle.mich_forms.specs.Spelled.{place_bytes, address_bytes}
 use Rattle.mich_term.specs.TicketView.{held}
 use Rattle.mich_term.specs.declared.ticket.Change.{Change}
 use Rattle.mich_term.specs.declared.ticket.Change.TheVariants as made
-use Rattle.rules_steps.specs.Changes as rules
-use Rattle.rules_steps.specs.Failure as f
-use Rattle.rules_world.specs.Contents as o
-use Rattle.rules_world.specs.Receipts as r
+use Rattle.rules_code.specs.steps.Changes as rules
+use Rattle.rules_code.specs.steps.Failure as f
+use Rattle.rules_world.specs.world.Contents as o
+use Rattle.rules_world.specs.world.Receipts as r
 use Rattle.mich_ops.specs.Told.{Told, shown, plain, ToldStatus, ToldReceipt}
 use Rattle.mich_ops.specs.Told as t
 use Rattle.mich_ops.specs.declared.failure.Failure.{Failure}

@@ -1,7 +1,7 @@
 -- The instructions without bodies that ask for nothing but the stack, the tickets and what surrounds the run.
 use Rattle.std.specs.Prelude.{Bool, true, false, not}
-use Rattle.rules_instructions.specs.Straight.{Straight, CollectionRow, on_collections, on_hashes, on_operations}
-use Rattle.rules_instructions.specs.Straight as i
+use Rattle.rules_code.specs.instructions.Straight.{Straight, CollectionRow, on_collections, on_hashes, on_operations}
+use Rattle.rules_code.specs.instructions.Straight as i
 
 -- makes a big map, or works on one
 abbrev pub is_on_big_map : CollectionRow → Bool

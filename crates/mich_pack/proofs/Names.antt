@@ -1,11 +1,11 @@
 -- The names of canonical literals have codes.
 use Rattle.std.proofs.Common.{◌≡◌, false, true, refl}
 use Rattle.std.specs.Prelude.{codes, is_none}
-use Rattle.rules_base.specs.Primitives.{primitive_names, code_of_name}
-use Rattle.rules_values.specs.Val.{Val, Vals, no_val, more_vals, Pairs, no_pair, more_pairs}
-use Rattle.rules_values.specs.Val as v
-use Rattle.rules_values.specs.Canonical.{canonical, canonicals, canonical_entries}
-use Rattle.laws_packing.specs.Names.{HasCodes, HaveCodes, IsPackable, ArePackable, EntriesArePackable}
+use Rattle.rules_text.specs.nodes.Primitives.{primitive_names, code_of_name}
+use Rattle.rules_data.specs.values.Val.{Val, Vals, no_val, more_vals, Pairs, no_pair, more_pairs}
+use Rattle.rules_data.specs.values.Val as v
+use Rattle.rules_data.specs.values.Canonical.{canonical, canonicals, canonical_entries}
+use Rattle.laws_typing.specs.packing.Names.{HasCodes, HaveCodes, IsPackable, ArePackable, EntriesArePackable}
 
 unit_coded : is_none (code_of_name (codes "Unit")) ≡ false
 unfolding code_of_name primitive_names

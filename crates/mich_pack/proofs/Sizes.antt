@@ -2,14 +2,14 @@
 use Rattle.std.proofs.Common.{◌≡◌, ℕ, ◌+◌, ◌<◌, ◌≤◌, ◌^◌, List, false, length, None, Ok, Err, refl, sym, ap, ◌∙◌, arith, nat_lt}
 use Rattle.std.specs.List.{position}
 use Rattle.std.proofs.lemmas.Bool.Decides.{nat_tests}
-use Rattle.rules_base.specs.Limits.{encoded_limit, byte_limit}
-use Rattle.rules_base.specs.Tree.{Tree, int, str, bytes, prim, seq, Trees, none, more, size, sizes, preorder, preorders}
-use Rattle.rules_binary.specs.Spelling.{spelling}
-use Rattle.rules_binary.specs.Encoding.{Refusal, lacks_code, encoded_by, encoded}
+use Rattle.rules_text.specs.nodes.Limits.{encoded_limit, byte_limit}
+use Rattle.rules_text.specs.nodes.Tree.{Tree, int, str, bytes, prim, seq, Trees, none, more, size, sizes, preorder, preorders}
+use Rattle.rules_text.specs.binary.Spelling.{spelling}
+use Rattle.rules_text.specs.binary.Encoding.{Refusal, lacks_code, encoded_by, encoded}
 use Rattle.mich_binary.specs.Scanning.{scanned}
 use Rattle.mich_binary.proofs.ForCallers.{onward, scan_append, none_found}
-use Rattle.laws_binary.proofs.ForCallers.{half_as_many}
-use Rattle.laws_packing.specs.Names.{HasCodes, HaveCodes}
+use Rattle.laws_data.proofs.binary_lemmas.ForCallers.{half_as_many}
+use Rattle.laws_typing.specs.packing.Names.{HasCodes, HaveCodes}
 
 pub node_is_small : (t : Tree) → length (spelling t) + 1 ≤ byte_limit → size t < 2 ^ 32
 node_is_small t short = omega (arith, half_as_many t, short)

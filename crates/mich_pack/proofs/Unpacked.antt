@@ -1,11 +1,11 @@
 -- What bytes pack, with a test of what is still to be tried.
 use Rattle.std.proofs.Common.{◌≡◌, ℕ, List, [], ◌∷◌, Bool, true, false, cond, Option, Some, None, Result, Ok, Err, refl, ◌∙◌, nat_eq}
-use Rattle.rules_base.specs.Tree.{Tree}
-use Rattle.rules_binary.specs.Reading.{Fault, decoded}
-use Rattle.rules_types.specs.Kind.{Kind}
-use Rattle.rules_values.specs.Val.{Val}
-use Rattle.rules_values.specs.Literals.{Literal, good, bad}
-use Rattle.rules_steps.specs.Packing.{Trial, tried, of_decoded, unpacked}
+use Rattle.rules_text.specs.nodes.Tree.{Tree}
+use Rattle.rules_text.specs.binary.Reading.{Fault, decoded}
+use Rattle.rules_data.specs.types.Kind.{Kind}
+use Rattle.rules_data.specs.values.Val.{Val}
+use Rattle.rules_data.specs.values.Literals.{Literal, good, bad}
+use Rattle.rules_code.specs.steps.Packing.{Trial, tried, of_decoded, unpacked}
 use Rattle.mich_base.specs.declared.memory.Memory.{Memory}
 use Rattle.mich_data.specs.declared.pending.Read.{Read}
 use Rattle.mich_pack.specs.Answers.{literal_by, packed_literal, IsLiteral, IsUnpacked, passed, IsTried}

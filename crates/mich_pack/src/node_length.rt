@@ -1,6 +1,6 @@
 // How many bytes the binary forms of nodes have, each counted up to 2^64-1. Nothing here takes memory.
 ghost use Rattle.std.specs.Prelude.{◌≡◌, ◌+◌, length};
-ghost use Rattle.rules_binary.specs.Spelling.{count, groups, integer, joined, signed_groups};
+ghost use Rattle.rules_text.specs.binary.Spelling.{count, groups, integer, joined, signed_groups};
 ghost use Rattle.mich_base.specs.View.{tree, app_tree, trees};
 ghost use Rattle.mich_term.specs.Weights.{capped};
 ghost use Rattle.mich_pack.specs.Lengths.{node_length, nodes_length, own_length};
@@ -8,7 +8,7 @@ ghost use Rattle.mich_pack.specs.Lengths.{node_length, nodes_length, own_length}
 use mich_base::{App, Node, Nodes, Text};
 
 // Groups of seven bits.
-#[tactic(auto, using(laws_binary::proofs::ForCallers::more_groups, laws_binary::proofs::ForCallers::one_group))]
+#[tactic(auto, using(laws_data::proofs::binary_lemmas::ForCallers::more_groups, laws_data::proofs::binary_lemmas::ForCallers::one_group))]
 fn groups_len(n: u128) -> u64
     ensures { result ≡ capped (length (groups n)) }
 {

@@ -1,14 +1,14 @@
 // Values as bytes.
 ghost use Rattle.std.specs.Prelude.{◌≡◌, ◌∷◌, ◌≤◌, ◌+◌, length};
-ghost use Rattle.rules_base.specs.Limits.{byte_limit};
-ghost use Rattle.rules_binary.specs.Spelling.{spelling};
-ghost use Rattle.rules_values.specs.Canonical.{canonical};
-ghost use Rattle.rules_steps.specs.Packing.{packed};
+ghost use Rattle.rules_text.specs.nodes.Limits.{byte_limit};
+ghost use Rattle.rules_text.specs.binary.Spelling.{spelling};
+ghost use Rattle.rules_data.specs.values.Canonical.{canonical};
+ghost use Rattle.rules_code.specs.steps.Packing.{packed};
 ghost use Rattle.mich_base.specs.View.{tree};
 ghost use Rattle.mich_term.specs.ValueView.{val};
 ghost use Rattle.mich_term.specs.Weights.{capped};
 ghost use Rattle.mich_pack.specs.Answers.{IsPacked, IsWritten};
-ghost use Rattle.laws_packing.specs.Names.{HasCodes, IsPackable};
+ghost use Rattle.laws_typing.specs.packing.Names.{HasCodes, IsPackable};
 
 use crate::error::PackError;
 use crate::value_length::value_len;

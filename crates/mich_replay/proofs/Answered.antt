@@ -4,22 +4,23 @@ use Rattle.std.proofs.lemmas.Bool.Decides.{nat_tests}
 use Rattle.std.proofs.lemmas.List.{length-drop}
 use Rattle.std.specs.Prelude.{◌&&◌, nat_le, if◌then◌else◌}
 use Rattle.std.specs.Str.{bytes_eq}
-use Rattle.rules_base.specs.Tree.{Tree}
-use Rattle.rules_course.specs.Course.{Course}
-use Rattle.rules_text.specs.declared.TextKind.{TextKind}
-use Rattle.rules_replay.specs.Answers.{Answer, done_with, replay_answer, usage_answer}
-use Rattle.rules_replay.specs.Codec.{IsCodecAnswer, of_listing, of_text, encode_node, decode_node}
-use Rattle.rules_replay.specs.Commands.{Command, OnFile, Generating, NoCommand, Verb, Replaying, Checking, Encoding, Decoding, Packing, IsVerbAnswer, IsAnswer, is_path, verb_of, on_file, digits_behind, in_range, calls_of, on_calls, command_of}
-use Rattle.rules_replay.specs.Packs.{pack_node}
-use Rattle.rules_replay.specs.Places.{Placed, IsNodeAt, IsFaultAt, IsEndAt, AreStatements, Listing, EndsIn, IsListing}
-use Rattle.rules_replay.specs.Replay.{Replay, IsReplay, Closes, Run, going, stopped, stuck_run, run_all, RefusedAt, TextFault, ending_of}
-use Rattle.rules_replay.specs.Scripts.{IsCheckAnswer, check_statements}
-use Rattle.rules_world.specs.Receipts.{Receipt}
+use Rattle.rules_text.specs.nodes.Tree.{Tree}
+use Rattle.rules_files.specs.course.Course.{Course}
+use Rattle.rules_text.specs.declared.text.TextKind.{TextKind}
+use Rattle.rules_files.specs.commands.Answers.{Answer, done_with, replay_answer, usage_answer}
+use Rattle.rules_files.specs.commands.Codec.{IsCodecAnswer, of_listing, of_text, encode_node, decode_node}
+use Rattle.rules_files.specs.commands.Commands.{Command, OnFile, Generating, NoCommand, Verb, Replaying, Checking, Encoding, Decoding, Packing, Auditing, IsVerbAnswer, IsAnswer, is_path, verb_of, on_file, digits_behind, in_range, calls_of, on_calls, command_of}
+use Rattle.rules_files.specs.commands.Packs.{pack_node}
+use Rattle.rules_files.specs.commands.Places.{Placed, IsNodeAt, IsFaultAt, IsEndAt, AreStatements, Listing, EndsIn, IsListing}
+use Rattle.rules_files.specs.commands.Replay.{Replay, IsReplay, Closes, Run, going, stopped, stuck_run, run_all, RefusedAt, TextFault, ending_of}
+use Rattle.rules_files.specs.commands.Scripts.{IsCheckAnswer, check_statements}
+use Rattle.rules_world.specs.world.Receipts.{Receipt}
 use Rattle.mich_answers.proofs.ForCallers.{further}
 use Rattle.mich_text.specs.declared.fault.LexError.TheVariants as errors
 use Rattle.mich_text.proofs.ForCallers.{limited_within, stands_within}
-use Rattle.rules_summary.specs.Summary.{summary_line}
+use Rattle.rules_world.specs.summary.Summary.{summary_line}
 use Rattle.mich_replay.specs.Laws.{HasAnAnswer}
+use Rattle.mich_replay.proofs.Audited.{audit_answers}
 use Rattle.mich_replay.proofs.Conserved.{no_group_is_stuck}
 use Rattle.mich_replay.proofs.Workload.{workload_replays}
 use Rattle.mich_replay.proofs.Readable.{Readable, is_node, is_fault, is_end, readable}
@@ -113,6 +114,7 @@ verb_answers Checking file = check_answers file
 verb_answers Encoding file = codec_answers encode_node file
 verb_answers Decoding file = codec_answers decode_node file
 verb_answers Packing file = codec_answers pack_node file
+verb_answers Auditing file = audit_answers file
 
 -- a workload has at most so many calls
 abbrev IsWithin : Command → Type 0

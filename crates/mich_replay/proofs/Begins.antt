@@ -1,10 +1,10 @@
 -- Statements at the front of a file give the first of its receipts.
 use Rattle.std.proofs.Common.{◌≡◌, inl, inr, ℕ, List, [], ◌∷◌, ◌++◌, Option, Some, None, sym, ap, ◌∙◌, subst, append_assoc, append-nil}
-use Rattle.rules_course.specs.Course.{Course, Step, goes_on, stops, stuck_step}
-use Rattle.rules_replay.specs.Places.{Placed, AreStatements}
-use Rattle.rules_replay.specs.Replay.{Replay, Closes, IsReplay, Run, going, stopped, stuck_run, step, continued, taken, run_one, run_all}
-use Rattle.rules_statements.specs.Statements.{Statement, form}
-use Rattle.rules_world.specs.Receipts.{Receipt}
+use Rattle.rules_files.specs.course.Course.{Course, Step, goes_on, stops, stuck_step}
+use Rattle.rules_files.specs.commands.Places.{Placed, AreStatements}
+use Rattle.rules_files.specs.commands.Replay.{Replay, Closes, IsReplay, Run, going, stopped, stuck_run, step, continued, taken, run_one, run_all}
+use Rattle.rules_files.specs.statements.Statements.{Statement, form}
+use Rattle.rules_world.specs.world.Receipts.{Receipt}
 use Rattle.mich_replay.proofs.Once.{one-node, node-and-fault, node-and-end, stays}
 
 -- these receipts begin with those
@@ -50,7 +50,7 @@ closes_on file to front (going receipts c) done h (inr e) = receipts_on front re
 
 -- where it goes on behind a statement, it doesn't close before it
 closes_nowhere : (file : List ℕ) (p : ℕ) (r : Run) (s : Placed) (behind : ℕ) (ss : List Placed) (receipts : List Receipt) (c : Option Course) (done : Replay) →
-    Rattle.rules_replay.specs.Places.IsNodeAt file p s.node s.place behind → run_all r (s ∷ ss) ≡ going receipts c → Closes file p r done → ⊥
+    Rattle.rules_files.specs.commands.Places.IsNodeAt file p s.node s.place behind → run_all r (s ∷ ss) ≡ going receipts c → Closes file p r done → ⊥
 closes_nowhere file p (going rs w) s behind ss receipts c done node e (inl d) = node-and-end file p s.node s.place behind node d.0
 closes_nowhere file p (going rs w) s behind ss receipts c done node e (inr d) = node-and-fault file p s.node s.place behind d.0 d.1 node d.2
 closes_nowhere file p (stopped rs f place) s behind ss receipts c done node e d = clash (sym (stays rs f place (s ∷ ss)) ∙ e) where

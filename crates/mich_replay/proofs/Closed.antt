@@ -1,9 +1,9 @@
 -- Statements that are closed in the bytes so far.
 use Rattle.std.proofs.Common.{ℕ, ◌-◌, ◌≤◌, ◌<◌, List, [], ◌∷◌, ◌++◌, length, drop, subst, arith}
 use Rattle.std.proofs.lemmas.List.{drop-append-le, length-append}
-use Rattle.rules_base.specs.Tree.{Tree}
-use Rattle.rules_text.specs.Text.{IsNode, EndsAt}
-use Rattle.rules_replay.specs.Places.{Placed}
+use Rattle.rules_text.specs.nodes.Tree.{Tree}
+use Rattle.rules_text.specs.text.Text.{IsNode, EndsAt}
+use Rattle.rules_files.specs.commands.Places.{Placed}
 use Rattle.mich_answers.proofs.ForCallers.{further}
 use Rattle.mich_reader.specs.Fronts.{IsClosed}
 use Rattle.mich_reader.proofs.ForCallers.{closed_cut}

@@ -1,14 +1,14 @@
 -- How a file that comes in pieces is read, statement by statement.
 use Rattle.std.proofs.Common.{◌≡◌, ℕ, ◌+◌, ◌-◌, ◌≤◌, ◌<◌, Bool, true, false, ◌||◌, List, [], ◌∷◌, ◌++◌, length, take, drop, Option, None, Result, Ok, Err, refl, sym, ap, ◌∙◌, subst, inr, append_assoc, append-nil, arith}
 use Rattle.std.proofs.lemmas.List.{drop-append-le, drop-drop, length-append, length-drop, length-take-le, take-append-drop}
-use Rattle.rules_base.specs.Limits.{file_limit}
-use Rattle.rules_base.specs.Tree.{size}
-use Rattle.rules_course.specs.Course.{Course as PlainCourse}
-use Rattle.rules_text.specs.declared.TextKind.{TextKind}
-use Rattle.rules_replay.specs.Places.{Placed, IsNodeAt, IsEndAt, AreStatements}
-use Rattle.rules_replay.specs.Replay.{IsReplay, Closes, FileFault, TextFault, RefusedAt, Run, going, stopped, taken, run_one, run_all}
-use Rattle.rules_statements.specs.Statements.{form}
-use Rattle.rules_world.specs.Receipts.{Receipt}
+use Rattle.rules_text.specs.nodes.Limits.{file_limit}
+use Rattle.rules_text.specs.nodes.Tree.{size}
+use Rattle.rules_files.specs.course.Course.{Course as PlainCourse}
+use Rattle.rules_text.specs.declared.text.TextKind.{TextKind}
+use Rattle.rules_files.specs.commands.Places.{Placed, IsNodeAt, IsEndAt, AreStatements}
+use Rattle.rules_files.specs.commands.Replay.{IsReplay, Closes, FileFault, TextFault, RefusedAt, Run, going, stopped, taken, run_one, run_all}
+use Rattle.rules_files.specs.statements.Statements.{form}
+use Rattle.rules_world.specs.world.Receipts.{Receipt}
 use Rattle.mich_answers.proofs.ForCallers.{further, statements-more}
 use Rattle.mich_base.specs.View.{tree}
 use Rattle.mich_text.specs.declared.fault.TextError.{TextError}

@@ -5,20 +5,20 @@ use Rattle.std.specs.declared.option.Option.{Option}
 use Rattle.std.specs.List.{AllByRecursion}
 use Rattle.std.proofs.lemmas.Int.{ints}
 use Rattle.std.proofs.lemmas.List.{length-append, length-drop}
-use Rattle.rules_base.specs.Limits.{file_limit}
-use Rattle.rules_base.specs.Tree.{size}
-use Rattle.rules_course.specs.Course.{Course, Step, goes_on, stops, stuck_step}
-use Rattle.rules_course.specs.Ranges.{IsStatement}
-use Rattle.rules_replay.specs.Places.{Placed, IsEndAt, AreStatements}
-use Rattle.rules_replay.specs.Replay.{Replay, Closes, FileFault, TextFault, BadOrder, State, RefusedAt, IsReplay, Run, going, stopped, stuck_run, step, continued, taken, run_one, run_all, ending_of}
-use Rattle.rules_statements.specs.Statements.{Statement, form}
-use Rattle.rules_world.specs.Holdings.{held}
-use Rattle.rules_world.specs.Receipts.{Receipt}
-use Rattle.rules_world.specs.World.{World}
-use Rattle.laws_runs.specs.Worlds.{IsWhole}
-use Rattle.laws_course.specs.Laws as course
-use Rattle.laws_course.specs.Laws.{IsGoodCourse, StaysGood}
-use Rattle.laws_course.proofs.ForCallers.{statements_have_ranges, courses_begin_good, courses_stay_good}
+use Rattle.rules_text.specs.nodes.Limits.{file_limit}
+use Rattle.rules_text.specs.nodes.Tree.{size}
+use Rattle.rules_files.specs.course.Course.{Course, Step, goes_on, stops, stuck_step}
+use Rattle.rules_files.specs.course.Ranges.{IsStatement}
+use Rattle.rules_files.specs.commands.Places.{Placed, IsEndAt, AreStatements}
+use Rattle.rules_files.specs.commands.Replay.{Replay, Closes, FileFault, TextFault, BadOrder, State, RefusedAt, IsReplay, Run, going, stopped, stuck_run, step, continued, taken, run_one, run_all, ending_of}
+use Rattle.rules_files.specs.statements.Statements.{Statement, form}
+use Rattle.rules_world.specs.world.Holdings.{held}
+use Rattle.rules_world.specs.world.Receipts.{Receipt}
+use Rattle.rules_world.specs.world.World.{World}
+use Rattle.laws_world.specs.runs.Worlds.{IsWhole}
+use Rattle.laws_files.specs.Laws as course
+use Rattle.laws_files.specs.Laws.{IsGoodCourse, StaysGood}
+use Rattle.laws_files.proofs.ForCallers.{statements_have_ranges, courses_begin_good, courses_stay_good}
 use Rattle.mich_answers.proofs.ForCallers.{further}
 use Rattle.mich_reader.proofs.ForCallers.{limit_le}
 use Rattle.mich_replay.specs.Laws.{granted_by, granted_in, ConservesMutez, ConservesTickets, NoGroupIsStuck}

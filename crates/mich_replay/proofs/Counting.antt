@@ -1,8 +1,8 @@
 -- Groups that are counted.
 use Rattle.std.proofs.Common.{◌≡◌, ◌+◌, ◌≤◌, Bool, true, false, cond, List, [], ◌∷◌, ◌++◌, length, refl, sym, ap, ◌∙◌, arith}
-use Rattle.rules_summary.specs.Summary.{was_applied, has_failed, count_of, calls_in}
-use Rattle.rules_world.specs.Receipts as rules
-use Rattle.rules_world.specs.Receipts.{Receipt}
+use Rattle.rules_world.specs.summary.Summary.{was_applied, has_failed, count_of, calls_in}
+use Rattle.rules_world.specs.world.Receipts as rules
+use Rattle.rules_world.specs.world.Receipts.{Receipt}
 use Rattle.mich_ops.specs.Told.{ToldReceipt, told_receipt}
 use Rattle.mich_replay.specs.Generating.{told_applied, told_failed}
 

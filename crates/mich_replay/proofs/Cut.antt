@@ -2,17 +2,18 @@
 use Rattle.std.proofs.Common.{◌≡◌, ℕ, ◌≤◌, ◌<◌, inl, inr, List, ◌++◌, length, Option, Some, None, Result, Ok, Err, refl, sym, ap, subst, arith}
 use Rattle.std.proofs.lemmas.List.{append-nil}
 use Rattle.std.specs.Prelude.{IfOk, IsSome}
-use Rattle.rules_base.specs.Limits.{file_limit}
-use Rattle.rules_replay.specs.Answers.{Answer, status_of}
-use Rattle.rules_replay.specs.Codec.{encode_node, decode_node}
-use Rattle.rules_replay.specs.Packs.{pack_node}
-use Rattle.rules_replay.specs.Commands.{Verb, Replaying, Checking, Encoding, Decoding, Packing, Command, OnFile, IsVerbAnswer, IsTold, IsAnswer}
-use Rattle.rules_replay.specs.Replay.{Ending, State, RefusedAt}
+use Rattle.rules_text.specs.nodes.Limits.{file_limit}
+use Rattle.rules_files.specs.commands.Answers.{Answer, status_of}
+use Rattle.rules_files.specs.commands.Codec.{encode_node, decode_node}
+use Rattle.rules_files.specs.commands.Packs.{pack_node}
+use Rattle.rules_files.specs.commands.Commands.{Verb, Replaying, Checking, Encoding, Decoding, Packing, Auditing, Command, OnFile, IsVerbAnswer, IsTold, IsAnswer}
+use Rattle.rules_files.specs.commands.Replay.{Ending, State, RefusedAt}
 use Rattle.mich_text.proofs.ForCallers.{split}
 use Rattle.mich_base.specs.declared.memory.Memory.{Memory}
 use Rattle.mich_replay.specs.Fronts.{IsRest, IsReadOf}
 use Rattle.mich_answers.specs.View.{answer_seen}
 use Rattle.mich_answers.specs.declared.answer.Answer.{Answer as Reply}
+use Rattle.mich_replay.proofs.Audited.{audit_on, audit_refused}
 use Rattle.mich_replay.proofs.Fronts.{replay_on, codec_on, check_on, replay_refused, codec_refused, check_refused}
 
 -- ---- what was read
@@ -25,6 +26,7 @@ verb_on Checking file more answer past p = check_on file more past answer p
 verb_on Encoding file more answer past p = codec_on file more past encode_node answer p
 verb_on Decoding file more answer past p = codec_on file more past decode_node answer p
 verb_on Packing file more answer past p = codec_on file more past pack_node answer p
+verb_on Auditing file more answer past p = audit_on file more past answer p
 
 pub verb_cut : (verb : Verb) (file more : List ℕ) (answer : Answer) → IsRest file more → IsVerbAnswer verb file answer → IsVerbAnswer verb (file ++ more) answer
 verb_cut verb file more answer rest p = elim (split (length file) file_limit) [
@@ -41,6 +43,7 @@ not_done Checking file answer past p zero = omega (arith, zero, check_refused fi
 not_done Encoding file answer past p zero = omega (arith, zero, codec_refused encode_node file answer past p)
 not_done Decoding file answer past p zero = omega (arith, zero, codec_refused decode_node file answer past p)
 not_done Packing file answer past p zero = omega (arith, zero, codec_refused pack_node file answer past p)
+not_done Auditing file answer past p zero = omega (arith, zero, audit_refused file past answer p)
 
 pub verb_done : (verb : Verb) (file : List ℕ) (answer : Answer) → IsVerbAnswer verb file answer → answer.status ≡ 0 → length file ≤ file_limit
 verb_done verb file answer p zero = elim (split (length file) file_limit) [

@@ -2,21 +2,21 @@
 use Rattle.std.proofs.Common.{ℕ, ◌+◌, Bool, true, false, List, [], ◌∷◌, length, Option, Some, None, Result, Ok, Err, IfOk, inl, inr, refl, sym, subst}
 use Rattle.std.specs.Prelude.{nat_le, if◌then◌else◌, codes}
 use Rattle.std.specs.Str.{bytes_eq}
-use Rattle.rules_base.specs.Limits.{byte_limit}
-use Rattle.rules_base.specs.Tree.{Tree, int, str, bytes, prim, seq, size}
-use Rattle.rules_text.specs.declared.TextKind.{TextKind}
-use Rattle.rules_types.specs.Attributes.{packable}
-use Rattle.rules_types.specs.Reading.{Reading, a_type, bad_type, too_large, type_at}
-use Rattle.rules_values.specs.Val.{Val}
-use Rattle.rules_values.specs.Literals.{read}
-use Rattle.rules_instructions.specs.Arguments.{Found, found, fault}
-use Rattle.rules_typing.specs.Literals.{Checked, of_reading}
-use Rattle.rules_steps.specs.Packing.{packed}
-use Rattle.rules_replay.specs.Answers.{Answer, done_with, refused_with}
-use Rattle.rules_replay.specs.Codec.{alone, bytes_line, fitting, of_statements, of_text, IsCodecAnswer}
-use Rattle.rules_replay.specs.Packs.{ill_typed_at, first_claim, unless_claimed, literal_answer, packing_answer, pack_fields, pack_node}
-use Rattle.rules_replay.specs.Places.{Placed}
-use Rattle.rules_statements.specs.Statements.{nodes_of}
+use Rattle.rules_text.specs.nodes.Limits.{byte_limit}
+use Rattle.rules_text.specs.nodes.Tree.{Tree, int, str, bytes, prim, seq, size}
+use Rattle.rules_text.specs.declared.text.TextKind.{TextKind}
+use Rattle.rules_data.specs.types.Attributes.{packable}
+use Rattle.rules_data.specs.types.Reading.{Reading, a_type, bad_type, too_large, type_at}
+use Rattle.rules_data.specs.values.Val.{Val}
+use Rattle.rules_data.specs.values.Literals.{read}
+use Rattle.rules_code.specs.instructions.Arguments.{Found, found, fault}
+use Rattle.rules_code.specs.typing.Literals.{Checked, of_reading}
+use Rattle.rules_code.specs.steps.Packing.{packed}
+use Rattle.rules_files.specs.commands.Answers.{Answer, done_with, refused_with}
+use Rattle.rules_files.specs.commands.Codec.{alone, bytes_line, fitting, of_statements, of_text, IsCodecAnswer}
+use Rattle.rules_files.specs.commands.Packs.{ill_typed_at, first_claim, unless_claimed, literal_answer, packing_answer, pack_fields, pack_node}
+use Rattle.rules_files.specs.commands.Places.{Placed}
+use Rattle.rules_files.specs.statements.Statements.{nodes_of}
 use Rattle.mich_base.specs.declared.memory.Memory.{Memory}
 use Rattle.mich_answers.specs.View.{answer_seen, IsDoneOrRefused}
 use Rattle.mich_answers.specs.declared.answer.Answer.{Answer as Reply}

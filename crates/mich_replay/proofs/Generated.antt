@@ -1,16 +1,16 @@
 -- A workload that was replayed, and its summary.
 use Rattle.std.proofs.Common.{◌≡◌, ◌<◌, ◌^◌, ℕ, true, List, [], length, Some, None, Result, Ok, Err, refl, sym, ap, ◌∙◌, subst, inl, append-nil, arith}
 use Rattle.std.specs.declared.option.Option.{Option}
-use Rattle.rules_course.specs.Course.{Course as PlainCourse}
-use Rattle.rules_generate.specs.Workload.{scenario}
-use Rattle.rules_replay.specs.Answers.{done_with}
-use Rattle.rules_replay.specs.Commands.{Generating, IsWorkloadAnswer}
-use Rattle.rules_replay.specs.Places.{AreStatements, IsEndAt}
-use Rattle.rules_replay.specs.Replay.{Closes, State, Run, going}
-use Rattle.rules_summary.specs.Summary.{summary_line}
-use Rattle.rules_world.specs.Receipts.{Receipt}
-use Rattle.mich_course.specs.Following.{Follows}
-use Rattle.mich_course.specs.declared.course.Course.{Course}
+use Rattle.rules_files.specs.course.Course.{Course as PlainCourse}
+use Rattle.rules_files.specs.workload.Workload.{scenario}
+use Rattle.rules_files.specs.commands.Answers.{done_with}
+use Rattle.rules_files.specs.commands.Commands.{Generating, IsWorkloadAnswer}
+use Rattle.rules_files.specs.commands.Places.{AreStatements, IsEndAt}
+use Rattle.rules_files.specs.commands.Replay.{Closes, State, Run, going}
+use Rattle.rules_world.specs.summary.Summary.{summary_line}
+use Rattle.rules_world.specs.world.Receipts.{Receipt}
+use Rattle.mich_group.specs.course.Following.{Follows}
+use Rattle.mich_group.specs.declared.course.course.Course.{Course}
 use Rattle.mich_reader.specs.Held.{Held}
 use Rattle.mich_replay.specs.Coming.{Came, Comes}
 use Rattle.mich_replay.specs.Generating.{AreCounts, IsCounted, Summed}

@@ -3,17 +3,17 @@ use Rattle.std.proofs.Common.{◌≡◌, ℕ, ◌+◌, ◌<◌, ◌^◌, Bool, f
 use Rattle.std.proofs.lemmas.List.{length-append}
 use Rattle.std.proofs.KnownBytes.{Appends-nil, Appends-trans, Consumes-trans}
 use Rattle.std.specs.Io.KnownBytes.{Appends, Consumes}
-use Rattle.rules_base.specs.Tree.{size}
-use Rattle.rules_io.specs.Known.{AppendsFront}
-use Rattle.rules_lines.specs.Nodes.{line, group_node}
-use Rattle.rules_replay.specs.Lines.{group_lines, text_of}
-use Rattle.rules_replay.specs.Replay.{FileFault, Run, going, stopped, stuck_run, taken}
-use Rattle.rules_statements.specs.Statements.{form}
-use Rattle.rules_text.specs.declared.TextKind.{TextKind}
-use Rattle.rules_world.specs.Receipts.{Receipt}
+use Rattle.rules_text.specs.nodes.Tree.{size}
+use Rattle.rules_text.specs.streams.Known.{AppendsFront}
+use Rattle.rules_world.specs.lines.Nodes.{line, group_node}
+use Rattle.rules_files.specs.commands.Lines.{group_lines, text_of}
+use Rattle.rules_files.specs.commands.Replay.{FileFault, Run, going, stopped, stuck_run, taken}
+use Rattle.rules_files.specs.statements.Statements.{form}
+use Rattle.rules_text.specs.declared.text.TextKind.{TextKind}
+use Rattle.rules_world.specs.world.Receipts.{Receipt}
 use Rattle.mich_base.specs.View.{tree}
 use Rattle.mich_base.specs.declared.memory.Memory.{Memory}
-use Rattle.mich_course.specs.declared.course.Course.{Course}
+use Rattle.mich_group.specs.declared.course.course.Course.{Course}
 use Rattle.mich_io.proofs.ForCallers.{AppendsFront-more}
 use Rattle.mich_reader.specs.Held.{Held, fresh, fed}
 use Rattle.mich_reader.specs.Reading.{IsNext}
@@ -61,7 +61,7 @@ module _ (bytes : List ℕ) (last : Bool) (r s : Held) (receipts : List Receipt)
       let x = reads_end bytes last r s receipts h.plain h.reads n in
       (record { plain = h.plain; reads = x.0; stands = h.stands }, x.1, x.2)
 
-  pub fault_happens : (kind : TextKind) (at : ℕ) → IsNext r last s (Err (texts.Fault kind at)) → IsRefused bytes last receipts (Rattle.rules_replay.specs.Replay.TextFault kind) at
+  pub fault_happens : (kind : TextKind) (at : ℕ) → IsNext r last s (Err (texts.Fault kind at)) → IsRefused bytes last receipts (Rattle.rules_files.specs.commands.Replay.TextFault kind) at
   fault_happens kind at n = reads_fault bytes last r s receipts h.plain h.reads kind at n
 
   module _ (placed : Placed) (n : IsNext r last s (Ok (next.Placed placed))) where

@@ -1,4 +1,5 @@
 pub mod Answered
+pub mod Audited
 pub mod Begins
 pub mod Closed
 pub mod Coming

@@ -1,18 +1,19 @@
 -- A file comes to one answer.
 use Rattle.std.proofs.Common.{◌≡◌, inl, inr, ℕ, List, [], ◌∷◌, length, drop, Option, Some, None, refl, sym, ap, ◌∙◌, subst, arith}
-use Rattle.rules_base.specs.Tree.{Tree}
-use Rattle.rules_text.specs.declared.TextKind.{TextKind}
+use Rattle.rules_text.specs.nodes.Tree.{Tree}
+use Rattle.rules_text.specs.declared.text.TextKind.{TextKind}
 use Rattle.mich_text.proofs.ForCallers.{one_statement, one_fault, no_fault_at_node, no_node_at_end, no_fault_at_end}
-use Rattle.rules_replay.specs.Places.{Placed, IsNodeAt, IsFaultAt, IsEndAt, AreStatements, EndsIn}
-use Rattle.rules_world.specs.Receipts.{Receipt}
-use Rattle.rules_generate.specs.Workload.{scenario}
-use Rattle.rules_summary.specs.Summary.{summary_line}
-use Rattle.rules_replay.specs.Replay.{Replay, Closes, Ending, State, FileFault, TextFault, RefusedAt, Run, going, stopped, stuck_run, run_one, run_all}
-use Rattle.rules_replay.specs.Answers.{Answer, done_with, replay_answer}
-use Rattle.rules_replay.specs.Codec.{of_text, IsCodecAnswer, of_listing, encode_node, decode_node}
-use Rattle.rules_replay.specs.Scripts.{check_statements, IsCheckAnswer}
-use Rattle.rules_replay.specs.Packs.{pack_node}
-use Rattle.rules_replay.specs.Commands.{Command, OnFile, Generating, NoCommand, Verb, Replaying, Checking, Encoding, Decoding, Packing, IsVerbAnswer, IsWorkloadAnswer, IsAnswer}
+use Rattle.rules_files.specs.commands.Places.{Placed, IsNodeAt, IsFaultAt, IsEndAt, AreStatements, EndsIn}
+use Rattle.rules_world.specs.world.Receipts.{Receipt}
+use Rattle.rules_files.specs.workload.Workload.{scenario}
+use Rattle.rules_world.specs.summary.Summary.{summary_line}
+use Rattle.rules_files.specs.commands.Replay.{Replay, Closes, Ending, State, FileFault, TextFault, RefusedAt, Run, going, stopped, stuck_run, run_one, run_all}
+use Rattle.rules_files.specs.commands.Answers.{Answer, done_with, replay_answer}
+use Rattle.rules_files.specs.commands.Codec.{of_text, IsCodecAnswer, of_listing, encode_node, decode_node}
+use Rattle.rules_files.specs.commands.Scripts.{check_statements, IsCheckAnswer}
+use Rattle.rules_files.specs.commands.Packs.{pack_node}
+use Rattle.mich_replay.proofs.Audited.{audit_one}
+use Rattle.rules_files.specs.commands.Commands.{Command, OnFile, Generating, NoCommand, Verb, Replaying, Checking, Encoding, Decoding, Packing, Auditing, IsVerbAnswer, IsWorkloadAnswer, IsAnswer}
 
 -- ---- what stands at a place
 
@@ -132,6 +133,7 @@ verbs-one Checking file a b m n = check-one file a b m n
 verbs-one Encoding file a b m n = codec-one encode_node file a b m n
 verbs-one Decoding file a b m n = codec-one decode_node file a b m n
 verbs-one Packing file a b m n = codec-one pack_node file a b m n
+verbs-one Auditing file a b m n = audit_one file a b m n
 
 -- the summary of what a workload came to
 abbrev summed_up : ℕ → List Receipt → Ending → List ℕ

@@ -4,12 +4,12 @@ use Rattle.std.specs.declared.option.Option.{Option}
 use Rattle.std.specs.Io.KnownBytes.{Appends, Consumes}
 use Rattle.std.specs.Prelude.{OnOk, OnErr, IsErrOf}
 use Rattle.std.proofs.KnownBytes.{Appends-nil, Appends-trans}
-use Rattle.rules_io.specs.Known.{AppendsFront}
-use Rattle.rules_replay.specs.Answers.{status_of}
-use Rattle.rules_replay.specs.Commands.{Verb, Replaying, Command, OnFile, Generating, NoCommand}
-use Rattle.rules_replay.specs.Lines.{group_lines, text_of, ending_lines}
-use Rattle.rules_replay.specs.Replay.{Ending, State, RefusedAt}
-use Rattle.mich_course.specs.declared.course.Course.{Course}
+use Rattle.rules_text.specs.streams.Known.{AppendsFront}
+use Rattle.rules_files.specs.commands.Answers.{status_of}
+use Rattle.rules_files.specs.commands.Commands.{Verb, Replaying, Command, OnFile, Generating, NoCommand}
+use Rattle.rules_files.specs.commands.Lines.{group_lines, text_of, ending_lines}
+use Rattle.rules_files.specs.commands.Replay.{Ending, State, RefusedAt}
+use Rattle.mich_group.specs.declared.course.course.Course.{Course}
 use Rattle.mich_reader.specs.Held.{Held}
 use Rattle.mich_replay.specs.Coming.{Closes, Grows, Told}
 use Rattle.mich_replay.specs.Pace.{Gives, NoneIsClosedAt, WritesAsItReads, piece_limit}
@@ -118,6 +118,7 @@ whole_reads wholes.Check e = absurd cc
 whole_reads wholes.Encode e = absurd cc
 whole_reads wholes.Decode e = absurd cc
 whole_reads wholes.Pack e = absurd cc
+whole_reads wholes.Audit e = absurd cc
 
 pub same_verb : (verb : Verb) (path other : List ℕ) (what : Command) → OnFile verb path ≡ what → what ≡ OnFile Replaying other → (verb ≡ Replaying) × (path ≡ other)
 same_verb verb path other what e f = by (e ∙ f) where

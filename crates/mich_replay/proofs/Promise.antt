@@ -3,12 +3,12 @@ use Rattle.std.proofs.Common.{◌≡◌, ◌≢◌, ◌≤◌, ℕ, List, [], �
 use Rattle.std.specs.declared.option.Option.{Option}
 use Rattle.std.specs.Io.KnownBytes.{Appends, IsAtEnd}
 use Rattle.std.proofs.KnownBytes.{Appends-nil}
-use Rattle.rules_io.specs.Causes.{Rose}
-use Rattle.rules_io.specs.Known.{AppendsFront}
-use Rattle.rules_replay.specs.Lines.{text_of}
-use Rattle.rules_replay.specs.Answers.{Answer}
-use Rattle.rules_replay.specs.Commands.{Command, OnFile, Generating, NoCommand, IsOwn, IsTold, IsAnswer, command_of, file_of}
-use Rattle.rules_replay.specs.Promise.{Meets}
+use Rattle.rules_text.specs.streams.Causes.{Rose}
+use Rattle.rules_text.specs.streams.Known.{AppendsFront}
+use Rattle.rules_files.specs.commands.Lines.{text_of}
+use Rattle.rules_files.specs.commands.Answers.{Answer}
+use Rattle.rules_files.specs.commands.Commands.{Command, OnFile, Generating, NoCommand, IsOwn, IsTold, IsAnswer, command_of, file_of}
+use Rattle.rules_files.specs.commands.Promise.{Meets}
 use Rattle.mich_replay.specs.Coming.{Comes}
 use Rattle.mich_replay.specs.declared.stop.Stop.{Stop}
 use Rattle.mich_replay.proofs.Once.{answers-one}

@@ -3,16 +3,16 @@ use Rattle.std.proofs.Common.{◌≡◌, ℕ, zero, suc, ◌+◌, ◌-◌, ◌�
 use Rattle.std.proofs.lemmas.Bool.{eqb-true, eqb-false, ltb-true, ltb-false}
 use Rattle.std.specs.List.{prefix_len}
 use Rattle.std.specs.Char.{is_ascii_hexdigit}
-use Rattle.rules_base.specs.Limits.{depth_limit, statement_limit, file_limit}
-use Rattle.rules_base.specs.Tree.{Tree, Trees}
-use Rattle.rules_text.specs.Fault.{Flaw}
-use Rattle.rules_text.specs.Lexical.{after_gap, token_at, first_shape}
-use Rattle.rules_text.specs.Text.{IsStatementLimit, IsFileLimit}
-use Rattle.rules_text.specs.Text as within
-use Rattle.rules_text.specs.Token.{Token, token_shape}
-use Rattle.rules_text.specs.declared.Shape.{Shape}
-use Rattle.rules_text.specs.declared.TextKind.{TextKind}
-use Rattle.rules_text.specs.declared.TextKind.TheVariants.{BadChar, BadString, BadBytes, BadNumber, Unclosed, Unexpected, TooDeep, TooLong}
+use Rattle.rules_text.specs.nodes.Limits.{depth_limit, statement_limit, file_limit}
+use Rattle.rules_text.specs.nodes.Tree.{Tree, Trees}
+use Rattle.rules_text.specs.text.Fault.{Flaw}
+use Rattle.rules_text.specs.text.Lexical.{after_gap, token_at, first_shape}
+use Rattle.rules_text.specs.text.Text.{IsStatementLimit, IsFileLimit}
+use Rattle.rules_text.specs.text.Text as within
+use Rattle.rules_text.specs.text.Token.{Token, token_shape}
+use Rattle.rules_text.specs.declared.text.Shape.{Shape}
+use Rattle.rules_text.specs.declared.text.TextKind.{TextKind}
+use Rattle.rules_text.specs.declared.text.TextKind.TheVariants.{BadChar, BadString, BadBytes, BadNumber, Unclosed, Unexpected, TooDeep, TooLong}
 use Rattle.mich_base.specs.View.{tree, trees}
 use Rattle.mich_base.specs.declared.node.App.{App}
 use Rattle.mich_base.specs.declared.node.Node.{Node}

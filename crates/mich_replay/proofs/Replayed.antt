@@ -2,15 +2,15 @@
 use Rattle.std.proofs.Common.{◌≡◌, ℕ, ◌+◌, Bool, true, List, [], ◌++◌, length, Option, Some, None, IsSome, Result, Ok, Err, refl, sym, ap, ◌∙◌, subst, inl, inr, append_assoc, append-nil}
 use Rattle.std.specs.Io.KnownBytes.{Appends, Consumes, IsAtEnd}
 use Rattle.std.proofs.KnownBytes.{Appends-trans}
-use Rattle.rules_course.specs.Course.{Course as PlainCourse}
-use Rattle.rules_io.specs.Known.{AppendsFront}
-use Rattle.rules_replay.specs.Answers.{Answer, replay_answer, status_of}
-use Rattle.rules_replay.specs.Commands.{OnFile, Replaying, IsAnswer}
-use Rattle.rules_replay.specs.Lines.{group_lines, ending_lines, lines_of, text_of}
-use Rattle.rules_replay.specs.Places.{AreStatements, IsEndAt}
-use Rattle.rules_replay.specs.Replay.{Replay, Closes as Ends, Ending, State, RefusedAt, FileFault, IsReplay, Run, ending_of}
-use Rattle.rules_world.specs.Receipts.{Receipt}
-use Rattle.mich_course.specs.declared.course.Course.{Course}
+use Rattle.rules_files.specs.course.Course.{Course as PlainCourse}
+use Rattle.rules_text.specs.streams.Known.{AppendsFront}
+use Rattle.rules_files.specs.commands.Answers.{Answer, replay_answer, status_of}
+use Rattle.rules_files.specs.commands.Commands.{OnFile, Replaying, IsAnswer}
+use Rattle.rules_files.specs.commands.Lines.{group_lines, ending_lines, lines_of, text_of}
+use Rattle.rules_files.specs.commands.Places.{AreStatements, IsEndAt}
+use Rattle.rules_files.specs.commands.Replay.{Replay, Closes as Ends, Ending, State, RefusedAt, FileFault, IsReplay, Run, ending_of}
+use Rattle.rules_world.specs.world.Receipts.{Receipt}
+use Rattle.mich_group.specs.declared.course.course.Course.{Course}
 use Rattle.mich_io.proofs.ForCallers.{AppendsFront-more}
 use Rattle.mich_reader.specs.Held.{Held}
 use Rattle.mich_replay.specs.Coming.{Closes, Comes, Cut, IsRefused, Told}
@@ -39,7 +39,7 @@ closed a b d done (Err e) p q =
     AppendsFront-more a b d (text_of (group_lines 1 done.receipts)) (text_of (ending_lines done.ending)) (text_of (lines_of done))
     (text_of-append (group_lines 1 done.receipts) (ending_lines done.ending)) p q
 
-own : (ending : Ending) → Rattle.rules_replay.specs.Commands.IsOwn (OnFile Replaying []) (status_of ending)
+own : (ending : Ending) → Rattle.rules_files.specs.commands.Commands.IsOwn (OnFile Replaying []) (status_of ending)
 own (State w) = inl refl
 own (RefusedAt fault place) = inr refl
 

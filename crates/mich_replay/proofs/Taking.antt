@@ -1,16 +1,16 @@
 -- What a statement leads to, and what is told of it.
 use Rattle.std.proofs.Common.{◌≡◌, ◌+◌, ◌<◌, ◌^◌, ℕ, List, [], ◌∷◌, length, map, Option, Some, None, Ok, Err, refl, sym, ap, ◌∙◌, subst}
 use Rattle.std.proofs.lemmas.List.{length-append}
-use Rattle.rules_course.specs.Course.{Course as PlainCourse, Step, goes_on, stops, stuck_step, BadOrder, BadCosts, RepeatedAccount, SupplyLimit, first_step, step_behind}
-use Rattle.rules_course.specs.Ranges.{IsStatement}
-use Rattle.rules_replay.specs.Replay.{step, continued}
-use Rattle.rules_statements.specs.Statements.{Statement}
-use Rattle.rules_world.specs.Receipts.{Receipt}
-use Rattle.laws_course.specs.Laws.{IsGoodCourse, StaysGood, granted_by}
-use Rattle.laws_course.proofs.ForCallers.{courses_begin_good, courses_stay_good}
-use Rattle.mich_course.specs.Following.{Follows, Goes, Begins, told}
-use Rattle.mich_course.specs.declared.course.Course.{Course}
-use Rattle.mich_course.specs.declared.error.CourseError.TheVariants as error
+use Rattle.rules_files.specs.course.Course.{Course as PlainCourse, Step, goes_on, stops, stuck_step, BadOrder, BadCosts, RepeatedAccount, SupplyLimit, first_step, step_behind}
+use Rattle.rules_files.specs.course.Ranges.{IsStatement}
+use Rattle.rules_files.specs.commands.Replay.{step, continued}
+use Rattle.rules_files.specs.statements.Statements.{Statement}
+use Rattle.rules_world.specs.world.Receipts.{Receipt}
+use Rattle.laws_files.specs.Laws.{IsGoodCourse, StaysGood, granted_by}
+use Rattle.laws_files.proofs.ForCallers.{courses_begin_good, courses_stay_good}
+use Rattle.mich_group.specs.course.Following.{Follows, Goes, Begins, told}
+use Rattle.mich_group.specs.declared.course.course.Course.{Course}
+use Rattle.mich_group.specs.declared.course.error.CourseError.TheVariants as error
 use Rattle.mich_ops.specs.Told.{ToldReceipt, told_receipt}
 use Rattle.mich_ops.specs.View.{receipt}
 use Rattle.mich_ops.specs.declared.receipt.GroupReceipt.{GroupReceipt}

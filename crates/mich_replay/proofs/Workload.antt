@@ -7,21 +7,21 @@ use Rattle.std.proofs.Math.Seq.{drop-append_seam}
 use Rattle.std.specs.Prelude.{◌==◌}
 use Rattle.std.specs.Fmt.{decimal}
 use Rattle.hex.specs.Hex.{decode_pairs}
-use Rattle.rules_base.specs.Limits.{depth_limit}
-use Rattle.rules_base.specs.Tree.{Tree, Trees}
-use Rattle.rules_course.specs.Course.{Course, numbered}
-use Rattle.rules_text.specs.Fault.{Flaw}
-use Rattle.rules_text.specs.Lexical.{after_gap, token_at, name_at, string_at, bytes_at, number_at}
-use Rattle.rules_text.specs.Text.{Leads, IsLimit, IsNode, IsEnd}
-use Rattle.rules_text.specs.Token.{Token}
-use Rattle.rules_text.specs.declared.Shape.TheVariants.{Semicolon}
-use Rattle.rules_generate.specs.Workload.{first_key_hash, second_key_hash, maker, keeper, second_account, maker_script, keeper_script, beginning, next, content, amount, call, calls, scenario}
-use Rattle.rules_statements.specs.Statements.{Statement, Chain, Costs, Account, Block, Group, form}
-use Rattle.rules_replay.specs.Places.{Placed, IsNodeAt, IsEndAt, AreStatements}
-use Rattle.rules_replay.specs.Replay.{IsReplay, Closes, Run, going, stopped, stuck_run, run_all, continued, taken, State}
-use Rattle.rules_world.specs.Groups.{Settled, group}
-use Rattle.rules_world.specs.Receipts.{Receipt}
-use Rattle.rules_world.specs.World.{World}
+use Rattle.rules_text.specs.nodes.Limits.{depth_limit}
+use Rattle.rules_text.specs.nodes.Tree.{Tree, Trees}
+use Rattle.rules_files.specs.course.Course.{Course, numbered}
+use Rattle.rules_text.specs.text.Fault.{Flaw}
+use Rattle.rules_text.specs.text.Lexical.{after_gap, token_at, name_at, string_at, bytes_at, number_at}
+use Rattle.rules_text.specs.text.Text.{Leads, IsLimit, IsNode, IsEnd}
+use Rattle.rules_text.specs.text.Token.{Token}
+use Rattle.rules_text.specs.declared.text.Shape.TheVariants.{Semicolon}
+use Rattle.rules_files.specs.workload.Workload.{first_key_hash, second_key_hash, maker, keeper, second_account, maker_script, keeper_script, beginning, next, content, amount, call, calls, scenario}
+use Rattle.rules_files.specs.statements.Statements.{Statement, Chain, Costs, Account, Block, Group, form}
+use Rattle.rules_files.specs.commands.Places.{Placed, IsNodeAt, IsEndAt, AreStatements}
+use Rattle.rules_files.specs.commands.Replay.{IsReplay, Closes, Run, going, stopped, stuck_run, run_all, continued, taken, State}
+use Rattle.rules_world.specs.world.Groups.{Settled, group}
+use Rattle.rules_world.specs.world.Receipts.{Receipt}
+use Rattle.rules_world.specs.world.World.{World}
 use Rattle.mich_text.specs.Machine.{Stack, elements, named, paren, Refusal, finish, has_statement, ended_tree, refused, put, run, step, start}
 use Rattle.mich_text.proofs.ForCallers.{step_ok, gap_le, At, no_inner, end_same, node_same, closed_node, stands_within, NoStatement, statement_within}
 use Rattle.mich_reader.specs.Fronts.{IsClosed}

@@ -3,11 +3,11 @@ use Rattle.std.proofs.Common.{◌≡◌, ◌+◌, ◌<◌, ℕ, List, [], ◌∷
 use Rattle.std.specs.declared.option.Option.{Option}
 use Rattle.std.specs.Io.KnownBytes.{Appends}
 use Rattle.std.proofs.lemmas.List.{drop_more}
-use Rattle.rules_io.specs.Known.{AppendsFront}
+use Rattle.rules_text.specs.streams.Known.{AppendsFront}
 use Rattle.mich_io.proofs.ForCallers.{AppendsFront-more}
-use Rattle.rules_lines.specs.Nodes.{line, group_node}
-use Rattle.rules_replay.specs.Lines.{group_lines, text_of}
-use Rattle.rules_world.specs.Receipts.{Receipt}
+use Rattle.rules_world.specs.lines.Nodes.{line, group_node}
+use Rattle.rules_files.specs.commands.Lines.{group_lines, text_of}
+use Rattle.rules_world.specs.world.Receipts.{Receipt}
 
 pub text_of-append : (xs ys : List (List ℕ)) → text_of (xs ++ ys) ≡ text_of xs ++ text_of ys
 text_of-append [] ys = refl

@@ -1,17 +1,17 @@
 -- A file that comes in pieces, and what was told of it so far.
 use Rattle.std.specs.Prelude.{◌≡◌, ◌≤◌, ◌<◌, ℕ, List, [], ◌∷◌, ◌++◌, length, drop, Bool, true, false, Option, Some, None, Result, Ok, Err}
 use Rattle.std.specs.Io.KnownBytes.{Appends, Consumes}
-use Rattle.rules_base.specs.Limits.{file_limit}
-use Rattle.rules_course.specs.Course.{Course as PlainCourse}
-use Rattle.rules_io.specs.Known.{AppendsFront}
-use Rattle.rules_replay.specs.Answers.{Answer, status_of}
-use Rattle.rules_replay.specs.Commands.{Command, IsTold, IsAnswer, IsOwn}
-use Rattle.rules_replay.specs.Lines.{group_lines, ending_lines, text_of}
-use Rattle.rules_replay.specs.Places.{Placed, AreStatements, IsEndAt}
-use Rattle.rules_replay.specs.Replay.{IsReplay, Ending, RefusedAt, FileFault, going, run_all}
-use Rattle.rules_world.specs.Receipts.{Receipt}
+use Rattle.rules_text.specs.nodes.Limits.{file_limit}
+use Rattle.rules_files.specs.course.Course.{Course as PlainCourse}
+use Rattle.rules_text.specs.streams.Known.{AppendsFront}
+use Rattle.rules_files.specs.commands.Answers.{Answer, status_of}
+use Rattle.rules_files.specs.commands.Commands.{Command, IsTold, IsAnswer, IsOwn}
+use Rattle.rules_files.specs.commands.Lines.{group_lines, ending_lines, text_of}
+use Rattle.rules_files.specs.commands.Places.{Placed, AreStatements, IsEndAt}
+use Rattle.rules_files.specs.commands.Replay.{IsReplay, Ending, RefusedAt, FileFault, going, run_all}
+use Rattle.rules_world.specs.world.Receipts.{Receipt}
 use Rattle.mich_base.specs.declared.memory.Memory.{Memory}
-use Rattle.mich_course.specs.declared.course.Course.{Course}
+use Rattle.mich_group.specs.declared.course.course.Course.{Course}
 use Rattle.mich_reader.specs.Held.{Held}
 use Rattle.mich_replay.specs.Pace.{NoneIsClosedAt}
 use Rattle.mich_replay.specs.Steps.{Stands, Tells}

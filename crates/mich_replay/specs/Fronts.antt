@@ -1,6 +1,6 @@
 -- A file that is read no further than its bytes count.
 use Rattle.std.specs.Prelude.{◌≡◌, ℕ, ◌+◌, ◌≤◌, List, [], ◌++◌, length, Option, Some, None}
-use Rattle.rules_base.specs.Limits.{file_limit}
+use Rattle.rules_text.specs.nodes.Limits.{file_limit}
 
 -- the most bytes that are read of a file: a buffer more than it may have
 abbrev pub read_limit : ℕ

@@ -2,12 +2,12 @@
 use Rattle.std.specs.Prelude.{◌≡◌, ◌<◌, ℕ, List, [], ◌∷◌, length, Bool, true, false, Result, Ok, Err}
 use Rattle.std.specs.declared.option.Option.{Option}
 use Rattle.std.specs.Io.KnownBytes.{Appends}
-use Rattle.rules_io.specs.Known.{AppendsFront}
-use Rattle.rules_replay.specs.Lines.{text_of}
-use Rattle.rules_replay.specs.Places.{IsEndAt}
-use Rattle.rules_summary.specs.Summary.{was_applied, has_failed, count_of, calls_in}
-use Rattle.rules_world.specs.Receipts.{Receipt}
-use Rattle.mich_course.specs.declared.course.Course.{Course}
+use Rattle.rules_text.specs.streams.Known.{AppendsFront}
+use Rattle.rules_files.specs.commands.Lines.{text_of}
+use Rattle.rules_files.specs.commands.Places.{IsEndAt}
+use Rattle.rules_world.specs.summary.Summary.{was_applied, has_failed, count_of, calls_in}
+use Rattle.rules_world.specs.world.Receipts.{Receipt}
+use Rattle.mich_group.specs.declared.course.course.Course.{Course}
 use Rattle.mich_ops.specs.Told.{ToldReceipt}
 use Rattle.mich_ops.specs.Told as told
 use Rattle.mich_reader.specs.Held.{Held}

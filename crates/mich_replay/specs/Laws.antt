@@ -1,17 +1,17 @@
 -- Laws of what a file comes to.
 use Rattle.std.specs.Prelude.{◌≡◌, ◌≢◌, ◌≤◌, ℕ, ◌+◌, ◌-ℤ◌, List, [], ◌∷◌, Some, None}
 use Rattle.std.specs.declared.option.Option.{Option}
-use Rattle.rules_base.specs.Limits.{most_mutez}
-use Rattle.rules_replay.specs.Places.{Placed, AreStatements, IsEndAt}
-use Rattle.rules_statements.specs.Statements.{Statement, form}
-use Rattle.rules_values.specs.Tickets.{Identity}
-use Rattle.rules_world.specs.Balances.{supply}
-use Rattle.rules_world.specs.Holdings.{held, minted_ever, burnt_ever}
-use Rattle.rules_world.specs.World.{World}
-use Rattle.rules_replay.specs.Replay.{Replay, State, IsReplay, going, stuck_run, run_all}
-use Rattle.rules_replay.specs.Answers.{Answer}
-use Rattle.rules_replay.specs.Commands.{Command, IsTold, IsAnswer}
-use Rattle.laws_course.specs.Laws as course
+use Rattle.rules_text.specs.nodes.Limits.{most_mutez}
+use Rattle.rules_files.specs.commands.Places.{Placed, AreStatements, IsEndAt}
+use Rattle.rules_files.specs.statements.Statements.{Statement, form}
+use Rattle.rules_data.specs.values.Tickets.{Identity}
+use Rattle.rules_world.specs.world.Balances.{supply}
+use Rattle.rules_world.specs.world.Holdings.{held, minted_ever, burnt_ever}
+use Rattle.rules_world.specs.world.World.{World}
+use Rattle.rules_files.specs.commands.Replay.{Replay, State, IsReplay, going, stuck_run, run_all}
+use Rattle.rules_files.specs.commands.Answers.{Answer}
+use Rattle.rules_files.specs.commands.Commands.{Command, IsTold, IsAnswer}
+use Rattle.laws_files.specs.Laws as course
 
 -- ---- answers
 

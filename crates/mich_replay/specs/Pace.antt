@@ -2,11 +2,11 @@
 use Rattle.std.specs.Prelude.{◌≡◌, ◌≤◌, ◌⊎◌, ℕ, List, [], ◌++◌, length, None}
 use Rattle.std.specs.declared.option.Option.{Option}
 use Rattle.std.specs.Io.KnownBytes.{Appends, Consumes}
-use Rattle.rules_course.specs.Course.{Course}
-use Rattle.rules_replay.specs.Lines.{group_lines, text_of}
-use Rattle.rules_replay.specs.Places.{Placed, IsNodeAt, AreStatements}
-use Rattle.rules_replay.specs.Replay.{going, run_all}
-use Rattle.rules_world.specs.Receipts.{Receipt}
+use Rattle.rules_files.specs.course.Course.{Course}
+use Rattle.rules_files.specs.commands.Lines.{group_lines, text_of}
+use Rattle.rules_files.specs.commands.Places.{Placed, IsNodeAt, AreStatements}
+use Rattle.rules_files.specs.commands.Replay.{going, run_all}
+use Rattle.rules_world.specs.world.Receipts.{Receipt}
 
 -- the most bytes of a piece
 abbrev pub piece_limit : ℕ

@@ -1,12 +1,12 @@
 -- What taking statements leaves.
 use Rattle.std.specs.Prelude.{◌≡◌, ◌+◌, ◌<◌, ◌^◌, ℕ, List, [], ◌∷◌, ◌++◌, length, Option, Some, None, Result, Ok, Err}
-use Rattle.rules_course.specs.Course.{Course as PlainCourse, Step}
-use Rattle.rules_replay.specs.Replay.{Run, going, stopped}
-use Rattle.rules_world.specs.Receipts.{Receipt}
+use Rattle.rules_files.specs.course.Course.{Course as PlainCourse, Step}
+use Rattle.rules_files.specs.commands.Replay.{Run, going, stopped}
+use Rattle.rules_world.specs.world.Receipts.{Receipt}
 use Rattle.mich_base.specs.declared.memory.Memory.{Memory}
-use Rattle.mich_course.specs.Following.{Follows, Goes, Begins}
-use Rattle.mich_course.specs.declared.course.Course.{Course}
-use Rattle.mich_course.specs.declared.error.CourseError.{CourseError}
+use Rattle.mich_group.specs.course.Following.{Follows, Goes, Begins}
+use Rattle.mich_group.specs.declared.course.course.Course.{Course}
+use Rattle.mich_group.specs.declared.course.error.CourseError.{CourseError}
 use Rattle.mich_ops.specs.Told.{told_receipt}
 use Rattle.mich_ops.specs.View.{receipt}
 use Rattle.mich_ops.specs.declared.receipt.GroupReceipt.{GroupReceipt}

@@ -1,7 +1,7 @@
 -- What the code's values stand for.
 use Rattle.std.specs.Prelude.{ℕ, ◌≤◌, Result, Ok, Err}
-use Rattle.rules_replay.specs.Replay as replay
-use Rattle.rules_replay.specs.Commands as commands
+use Rattle.rules_files.specs.commands.Replay as replay
+use Rattle.rules_files.specs.commands.Commands as commands
 use Rattle.mich_replay.specs.declared.command.Verb.{Verb}
 use Rattle.mich_replay.specs.declared.command.Verb.TheVariants as verbs
 use Rattle.mich_replay.specs.declared.command.WholeVerb.{WholeVerb}
@@ -18,6 +18,7 @@ whole_seen wholes.Check = commands.Checking
 whole_seen wholes.Encode = commands.Encoding
 whole_seen wholes.Decode = commands.Decoding
 whole_seen wholes.Pack = commands.Packing
+whole_seen wholes.Audit = commands.Auditing
 
 abbrev pub verb_seen : Verb → commands.Verb
 verb_seen verbs.Replay = commands.Replaying

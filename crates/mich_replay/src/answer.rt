@@ -1,10 +1,10 @@
 // The commands that read their file whole before they write.
 ghost use Rattle.std.specs.Prelude.{◌≡◌, ◌≤◌, ◌<◌, ◌++◌, ℕ, List, Option, length, Contains, IfOk, IsErrOf};
 ghost use Rattle.std.specs.Io.KnownBytes.{IsAtEnd};
-ghost use Rattle.rules_base.specs.Limits.{file_limit};
-ghost use Rattle.rules_io.specs.Causes.{HasCause};
-ghost use Rattle.rules_replay.specs.Answers.{usage_answer};
-ghost use Rattle.rules_replay.specs.Commands.{OnFile, NoCommand, IsVerbAnswer, IsTold, IsAnswer};
+ghost use Rattle.rules_text.specs.nodes.Limits.{file_limit};
+ghost use Rattle.rules_text.specs.streams.Causes.{HasCause};
+ghost use Rattle.rules_files.specs.commands.Answers.{usage_answer};
+ghost use Rattle.rules_files.specs.commands.Commands.{OnFile, NoCommand, IsVerbAnswer, IsTold, IsAnswer};
 ghost use Rattle.mich_answers.specs.View.{answer_seen, IsDoneOrRefused};
 ghost use Rattle.mich_replay.specs.Coming.{Comes};
 ghost use Rattle.mich_replay.specs.Fronts.{IsRest, read_limit};
@@ -15,7 +15,7 @@ use crate::lines::usage_line;
 use crate::reading::read_file;
 use crate::stop::Stop;
 use crate::writing::{write_line, write_lines};
-use mich_answers::{Answer, NodeCommand, answer_check, answer_node};
+use mich_answers::{Answer, NodeCommand, answer_audit, answer_check, answer_node};
 use mich_base::Memory;
 use mich_io::{Files, Sink};
 use std::alloc::Global;
@@ -43,6 +43,7 @@ fn answer_file(alloc: Global, verb: WholeVerb, file: &[u8]) -> Result<Answer, Me
         WholeVerb::Encode => answer_node(alloc, NodeCommand::Encode, file),
         WholeVerb::Decode => answer_node(alloc, NodeCommand::Decode, file),
         WholeVerb::Pack => answer_node(alloc, NodeCommand::Pack, file),
+        WholeVerb::Audit => answer_audit(alloc, file),
     }
 }
 

@@ -1,7 +1,7 @@
 // What the words ask for.
 ghost use Rattle.std.specs.Prelude.{◌≡◌, ◌≤◌, Some, None, length, option_map, if◌then◌else◌};
 ghost use Rattle.std.specs.Str.{is_utf8};
-ghost use Rattle.rules_replay.specs.Commands.{is_path, verb_of, on_file, digits_behind, calls_of, on_calls, command_of};
+ghost use Rattle.rules_files.specs.commands.Commands.{is_path, verb_of, on_file, digits_behind, calls_of, on_calls, command_of};
 ghost use Rattle.mich_replay.specs.View.{verb_seen, command_seen, IsInRange};
 
 use mich_base::Text;
@@ -14,6 +14,7 @@ pub enum WholeVerb {
     Encode,
     Decode,
     Pack,
+    Audit,
 }
 
 /// A command that takes a file.
@@ -54,6 +55,8 @@ fn verb_of(word: &[u8]) -> Option<Verb>
         Some(Verb::Whole(WholeVerb::Decode))
     } else if word == b"pack".as_slice() {
         Some(Verb::Whole(WholeVerb::Pack))
+    } else if word == b"audit".as_slice() {
+        Some(Verb::Whole(WholeVerb::Audit))
     } else {
         None
     }

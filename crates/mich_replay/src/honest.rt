@@ -1,8 +1,8 @@
 // The replay of a file and a sink that never fail.
 ghost use Rattle.std.specs.Prelude.{◌≡◌, ◌⊎◌, ◌≤◌, ◌<◌, ℕ, List, [], ◌∷◌, IfOk, Some, codes};
-ghost use Rattle.rules_replay.specs.Lines.{text_of};
-ghost use Rattle.rules_replay.specs.Answers.{Answer};
-ghost use Rattle.rules_replay.specs.Commands.{Replaying, IsVerbAnswer};
+ghost use Rattle.rules_files.specs.commands.Lines.{text_of};
+ghost use Rattle.rules_files.specs.commands.Answers.{Answer};
+ghost use Rattle.rules_files.specs.commands.Commands.{Replaying, IsVerbAnswer};
 
 use crate::mich;
 use mich_base::{Bytes, Memory, Text, Texts};

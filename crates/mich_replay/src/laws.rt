@@ -1,17 +1,17 @@
 // Laws of what a file comes to.
 ghost use Rattle.std.specs.Prelude.{◌≡◌, ◌<◌, ◌++◌, ℕ, List, length, Option};
-ghost use Rattle.rules_base.specs.Limits.{file_limit};
-ghost use Rattle.rules_base.specs.Tree.{Tree};
-ghost use Rattle.rules_replay.specs.Answers.{Answer};
-ghost use Rattle.rules_replay.specs.Codec.{IsCodecAnswer};
-ghost use Rattle.rules_replay.specs.Replay.{Replay, State, IsReplay};
-ghost use Rattle.rules_replay.specs.Scripts.{IsCheckAnswer};
-ghost use Rattle.rules_world.specs.Laws.{FailedGroupsMoveFees, RefusedGroupsMoveNothing};
-ghost use Rattle.rules_world.specs.World.{World};
-ghost use Rattle.rules_replay.specs.Commands.{Command, command_of};
+ghost use Rattle.rules_text.specs.nodes.Limits.{file_limit};
+ghost use Rattle.rules_text.specs.nodes.Tree.{Tree};
+ghost use Rattle.rules_files.specs.commands.Answers.{Answer};
+ghost use Rattle.rules_files.specs.commands.Codec.{IsCodecAnswer};
+ghost use Rattle.rules_files.specs.commands.Replay.{Replay, State, IsReplay};
+ghost use Rattle.rules_files.specs.commands.Scripts.{IsCheckAnswer};
+ghost use Rattle.rules_world.specs.world.Laws.{FailedGroupsMoveFees, RefusedGroupsMoveNothing};
+ghost use Rattle.rules_world.specs.world.World.{World};
+ghost use Rattle.rules_files.specs.commands.Commands.{Command, command_of};
 ghost use Rattle.mich_replay.specs.Laws.{ConservesMutez, ConservesTickets, HasAnAnswer, HasOneAnswer, NoGroupIsStuck};
 
-use laws_world::{failed_groups_move_fees, refused_groups_move_nothing};
+use laws_world::groups::{failed_groups_move_fees, refused_groups_move_nothing};
 
 /// What words ask for has one answer: whatever the files hold, no two statuses and texts are answers to it, and where its file is known,
 /// one is. So each file comes to something, and no workload is refused.

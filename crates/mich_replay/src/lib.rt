@@ -22,22 +22,3 @@ pub use laws::{
     mutez_is_conserved, no_group_is_stuck, tickets_are_conserved,
 };
 pub use top::mich;
-
-#[cfg(test)]
-mod check_tests;
-#[cfg(test)]
-mod examples;
-#[cfg(test)]
-mod failing;
-#[cfg(test)]
-mod generate_tests;
-#[cfg(test)]
-mod instructions;
-#[cfg(test)]
-mod limits;
-#[cfg(test)]
-mod tests;
-#[cfg(test)]
-mod views;
-#[cfg(test)]
-mod worked;

@@ -1,6 +1,6 @@
 // The lines that are written of refusals.
 ghost use Rattle.std.specs.Prelude.{◌≡◌, IfOk, string_bytes};
-ghost use Rattle.rules_replay.specs.Lines.{file_fault_name, usage_line};
+ghost use Rattle.rules_files.specs.commands.Lines.{file_fault_name, usage_line};
 ghost use Rattle.mich_replay.specs.View.{file_fault_seen};
 
 use crate::outcome::FileFault;
@@ -27,6 +27,6 @@ pub(crate) fn usage_line(alloc: Global) -> Result<String, AllocError>
 {
     String::from_str(
         alloc,
-        "usage: mich replay|check|encode|decode|pack FILE, or mich generate N\n",
+        "usage: mich replay|check|encode|decode|pack|audit FILE, or mich generate N\n",
     )
 }

@@ -1,5 +1,5 @@
 // Why files are refused.
-use rules_text::TextKind;
+use rules_text::text::TextKind;
 
 /// Why a file is refused.
 #[derive(Clone, Copy, Debug, PartialEq, Eq)]

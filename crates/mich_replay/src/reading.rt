@@ -2,9 +2,9 @@
 ghost use Rattle.std.specs.Prelude.{◌≡◌, ◌≤◌, ◌<◌, ◌-◌, ◌^◌, ℕ, List, length, Contains, IfOk, OnOk, Some, IsErrOf};
 ghost use Rattle.std.specs.Io.{ReadsAtMost};
 ghost use Rattle.std.specs.Io.KnownBytes.{IsAtEnd, ReadConsumes};
-ghost use Rattle.rules_base.specs.Limits.{file_limit};
-ghost use Rattle.rules_io.specs.Causes.{HasCause};
-ghost use Rattle.rules_io.specs.Known.{SameFiles};
+ghost use Rattle.rules_text.specs.nodes.Limits.{file_limit};
+ghost use Rattle.rules_text.specs.streams.Causes.{HasCause};
+ghost use Rattle.rules_text.specs.streams.Known.{SameFiles};
 ghost use Rattle.mich_replay.specs.Fronts.{IsReadOf, read_limit};
 
 use crate::stop::Stop;

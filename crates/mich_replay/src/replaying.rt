@@ -1,12 +1,12 @@
 // A file that is replayed as it is read.
 ghost use Rattle.std.specs.Prelude.{◌≡◌, ◌<◌, ◌≤◌, ◌^◌, ◌-◌, ℕ, List, length, Bool, Option, Ok, Contains, IfOk, IsErrOf};
 ghost use Rattle.std.specs.Io.KnownBytes.{Appends, IsAtEnd};
-ghost use Rattle.rules_course.specs.Course.{Course as PlainCourse};
-ghost use Rattle.rules_io.specs.Causes.{HasCause};
-ghost use Rattle.rules_replay.specs.Commands.{OnFile, Replaying};
-ghost use Rattle.rules_replay.specs.Lines.{group_lines, text_of};
-ghost use Rattle.rules_replay.specs.Replay.{RefusedAt, ending_of};
-ghost use Rattle.rules_world.specs.Receipts.{Receipt};
+ghost use Rattle.rules_files.specs.course.Course.{Course as PlainCourse};
+ghost use Rattle.rules_text.specs.streams.Causes.{HasCause};
+ghost use Rattle.rules_files.specs.commands.Commands.{OnFile, Replaying};
+ghost use Rattle.rules_files.specs.commands.Lines.{group_lines, text_of};
+ghost use Rattle.rules_files.specs.commands.Replay.{RefusedAt, ending_of};
+ghost use Rattle.rules_world.specs.world.Receipts.{Receipt};
 ghost use Rattle.mich_reader.specs.Held.{Held};
 ghost use Rattle.mich_replay.specs.Coming.{Closes, Comes, Grows, Happens, Pauses, Told, Turns};
 ghost use Rattle.mich_replay.specs.Pace.{WritesAsItReads};
@@ -21,7 +21,7 @@ use crate::steps::Event;
 use crate::stop::Stop;
 use crate::writing::{write_group, write_line, write_lines};
 use mich_answers::refusal_line;
-use mich_course::Course;
+use mich_group::course::Course;
 use mich_io::{Files, Sink};
 use mich_report::state_lines;
 use std::alloc::Global;

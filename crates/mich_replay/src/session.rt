@@ -1,13 +1,13 @@
 // A replay that goes on as the bytes of its file come.
 ghost use Rattle.std.specs.Prelude.{◌≡◌, ◌≤◌, ◌<◌, ◌++◌, ℕ, List, [], Bool, true, false, None, IfOk, OnOk};
-ghost use Rattle.rules_world.specs.Receipts.{Receipt};
+ghost use Rattle.rules_world.specs.world.Receipts.{Receipt};
 ghost use Rattle.mich_reader.specs.Held.{fresh};
 ghost use Rattle.mich_replay.specs.Coming.{Came, Happens};
 
 use crate::outcome::FileFault;
 use crate::steps::{Event, take};
 use mich_base::Memory;
-use mich_course::Course;
+use mich_group::course::Course;
 use mich_machine::Bodies;
 use mich_reader::{Next, Reader};
 use mich_text::TextError;

@@ -1,18 +1,18 @@
 // One statement of a file, behind others or as the first.
 ghost use Rattle.std.specs.Prelude.{◌≡◌, ◌<◌, ◌^◌, ℕ, List, Option, Some};
-ghost use Rattle.rules_base.specs.Tree.{size};
-ghost use Rattle.rules_course.specs.Course.{Course as PlainCourse};
-ghost use Rattle.rules_course.specs.Ranges.{IsStatement};
-ghost use Rattle.rules_replay.specs.Replay.{step, taken};
-ghost use Rattle.rules_statements.specs.Statements.{form};
-ghost use Rattle.rules_world.specs.Receipts.{Receipt};
+ghost use Rattle.rules_text.specs.nodes.Tree.{size};
+ghost use Rattle.rules_files.specs.course.Course.{Course as PlainCourse};
+ghost use Rattle.rules_files.specs.course.Ranges.{IsStatement};
+ghost use Rattle.rules_files.specs.commands.Replay.{step, taken};
+ghost use Rattle.rules_files.specs.statements.Statements.{form};
+ghost use Rattle.rules_world.specs.world.Receipts.{Receipt};
 ghost use Rattle.mich_base.specs.View.{tree};
 ghost use Rattle.mich_scenario.specs.View.{said};
 ghost use Rattle.mich_replay.specs.Steps.{FollowsIf, HasRoom, IsTaken, Leads, Stands, groups_of};
 
 use crate::outcome::FileFault;
 use mich_base::{Memory, Node};
-use mich_course::{Course, CourseError, begin};
+use mich_group::course::{Course, CourseError, begin};
 use mich_machine::Bodies;
 use mich_ops::GroupReceipt;
 use mich_scenario::{FormError, Statement, take_form};

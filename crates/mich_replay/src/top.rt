@@ -1,9 +1,9 @@
 // The top call.
 ghost use Rattle.std.specs.Prelude.{◌≡◌, ◌≤◌, ◌<◌, ℕ, List, drop, Contains, IfOk, IsErrOf, IsSome};
 ghost use Rattle.std.specs.Io.KnownBytes.{IsAtEnd};
-ghost use Rattle.rules_io.specs.Causes.{HasCause};
-ghost use Rattle.rules_replay.specs.Commands.{OnFile, Replaying, command_of, file_of};
-ghost use Rattle.rules_replay.specs.Promise.{Meets};
+ghost use Rattle.rules_text.specs.streams.Causes.{HasCause};
+ghost use Rattle.rules_files.specs.commands.Commands.{OnFile, Replaying, command_of, file_of};
+ghost use Rattle.rules_files.specs.commands.Promise.{Meets};
 ghost use Rattle.mich_replay.specs.Coming.{Comes};
 ghost use Rattle.mich_replay.specs.Pace.{WritesAsItReads};
 ghost use Rattle.mich_replay.specs.View.{status_in, verb_seen};

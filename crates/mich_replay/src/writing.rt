@@ -1,18 +1,18 @@
 // Lines that are written, each by one call of the sink's.
 ghost use Rattle.std.specs.Prelude.{◌≡◌, ◌≤◌, ◌<◌, ℕ, List, IfOk, OnOk, OnErr, IsErrOf};
 ghost use Rattle.std.specs.Io.KnownBytes.{Appends};
-ghost use Rattle.rules_io.specs.Causes.{HasCause};
-ghost use Rattle.rules_io.specs.Known.{AppendsFront};
-ghost use Rattle.rules_lines.specs.Nodes.{line, group_node};
-ghost use Rattle.rules_replay.specs.Lines.{text_of};
-ghost use Rattle.rules_world.specs.Receipts.{Receipt};
+ghost use Rattle.rules_text.specs.streams.Causes.{HasCause};
+ghost use Rattle.rules_text.specs.streams.Known.{AppendsFront};
+ghost use Rattle.rules_world.specs.lines.Nodes.{line, group_node};
+ghost use Rattle.rules_files.specs.commands.Lines.{text_of};
+ghost use Rattle.rules_world.specs.world.Receipts.{Receipt};
 ghost use Rattle.mich_replay.specs.Coming.{Grows};
 ghost use Rattle.mich_replay.specs.Steps.{Tells, groups_of};
 
 use crate::steps::last_number;
 use crate::stop::Stop;
 use mich_base::Texts;
-use mich_course::Course;
+use mich_group::course::Course;
 use mich_io::{Sink, SinkFault, write_all};
 use mich_ops::GroupReceipt;
 use mich_report::receipt_text;

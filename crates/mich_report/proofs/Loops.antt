@@ -1,8 +1,8 @@
 -- Nodes that are written one after another.
 use Rattle.std.proofs.Common.{◌≡◌, ◌≤◌, ℕ, List, [], ◌++◌, drop, length, map, sym, ap, ◌∙◌, append-nil}
 use Rattle.std.proofs.Math.ListN.{drop_of_length-le}
-use Rattle.rules_base.specs.Tree.{Tree, seq, trees_of}
-use Rattle.rules_lines.specs.Nodes.{change_node, effect_node, sequence}
+use Rattle.rules_text.specs.nodes.Tree.{Tree, seq, trees_of}
+use Rattle.rules_world.specs.lines.Nodes.{change_node, effect_node, sequence}
 use Rattle.mich_base.specs.View.{tree, trees}
 use Rattle.mich_base.specs.declared.node.Node.{Node}
 use Rattle.mich_ops.specs.View.{change, effect, status}

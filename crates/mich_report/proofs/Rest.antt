@@ -16,18 +16,18 @@ use Rattle.std.proofs.lemmas.List.Elements.{All-head, All-tail}
 use Rattle.std.proofs.lemmas.Map.Keys.{sorted_head, sorted_tail}
 use Rattle.std.proofs.lemmas.Map.Lookups.{exact_bytes}
 use Rattle.std.proofs.lemmas.Map.Made.{lookup-map_values}
-use Rattle.rules_base.specs.Tree.{Tree, int}
-use Rattle.rules_evaluation.specs.Contracts.{hash_in}
-use Rattle.rules_forms.specs.Spelling.{implicit_place, is_contract, is_key_hash, is_place}
-use Rattle.rules_lines.specs.Nodes.{account_node, contract_node, line, number, over, state_nodes, ticket_fields, ticket_node}
-use Rattle.rules_values.specs.Tickets.{Identity}
-use Rattle.rules_world.specs.Balances.{supply}
-use Rattle.rules_world.specs.Forms.{IsWorld, IsAccount, IsHolding}
-use Rattle.rules_world.specs.Holdings.{amount_held, held, held_by, held_by_account, held_by_contract, minted_ever, burnt_ever, identities}
-use Rattle.rules_world.specs.World.{World as PlainWorld, Account, account_at as plain_account_at, contract_at as plain_contract_at, account_or_none}
-use Rattle.laws_accounts.proofs.ForCallers.{minted_positive, burnt_positive, all_found, equal_of, AreHoldings, held_positive}
-use Rattle.laws_lines.specs.Laws.{AreInOrder, amount_told, told}
-use Rattle.laws_lines.proofs.ForCallers.{amount_is_told, told_in_order}
+use Rattle.rules_text.specs.nodes.Tree.{Tree, int}
+use Rattle.rules_code.specs.evaluation.Contracts.{hash_in}
+use Rattle.rules_data.specs.forms.Spelling.{implicit_place, is_contract, is_key_hash, is_place}
+use Rattle.rules_world.specs.lines.Nodes.{account_node, contract_node, line, number, over, state_nodes, ticket_fields, ticket_node}
+use Rattle.rules_data.specs.values.Tickets.{Identity}
+use Rattle.rules_world.specs.world.Balances.{supply}
+use Rattle.rules_world.specs.world.Forms.{IsWorld, IsAccount, IsHolding}
+use Rattle.rules_world.specs.world.Holdings.{amount_held, held, held_by, held_by_account, held_by_contract, minted_ever, burnt_ever, identities}
+use Rattle.rules_world.specs.world.World.{World as PlainWorld, Account, account_at as plain_account_at, contract_at as plain_contract_at, account_or_none}
+use Rattle.laws_world.proofs.accounts.ForCallers.{minted_positive, burnt_positive, all_found, equal_of, AreHoldings, held_positive}
+use Rattle.laws_world.specs.lines.Laws.{AreInOrder, amount_told, told}
+use Rattle.laws_world.proofs.lines_lemmas.ForCallers.{amount_is_told, told_in_order}
 use Rattle.mich_bigmap.specs.Bases.{Bases}
 use Rattle.mich_term.specs.TicketView.{identity}
 use Rattle.mich_term.specs.declared.ticket.TicketId.{TicketId}

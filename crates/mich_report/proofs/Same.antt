@@ -1,10 +1,10 @@
 -- What is told of a receipt has the receipt's nodes.
 use Rattle.std.proofs.Common.{◌≡◌, ℕ, List, [], ◌∷◌, map, refl, ap, sym, ◌∙◌}
 use Rattle.std.specs.Prelude.{codes}
-use Rattle.rules_base.specs.Tree.{Tree}
-use Rattle.rules_steps.specs.Failure as f
-use Rattle.rules_world.specs.Receipts.{Status, Applied, Backtracked, Failed, Skipped, Receipt, Refused, Done}
-use Rattle.rules_lines.specs.Nodes.{over, number, line, sequence, failure_node, status_node, receipt_node, group_node}
+use Rattle.rules_text.specs.nodes.Tree.{Tree}
+use Rattle.rules_code.specs.steps.Failure as f
+use Rattle.rules_world.specs.world.Receipts.{Status, Applied, Backtracked, Failed, Skipped, Receipt, Refused, Done}
+use Rattle.rules_world.specs.lines.Nodes.{over, number, line, sequence, failure_node, status_node, receipt_node, group_node}
 use Rattle.mich_ops.specs.Told.{ToldReceipt, told, told_status, told_receipt}
 use Rattle.mich_report.specs.Told.{told_node, told_status_node, told_receipt_node, told_group_node}
 

@@ -2,14 +2,14 @@
 use Rattle.std.proofs.Common.{◌≡◌, ℤ, List, [], ◌∷◌, map, refl, sym, ap, ◌∙◌, arith}
 use Rattle.std.specs.Prelude.{◌+ℤ◌, ◌-ℤ◌, codes, ℕ}
 use Rattle.std.proofs.lemmas.Int.{ints}
-use Rattle.rules_base.specs.Tree.{int}
-use Rattle.rules_lines.specs.Nodes.{number, over}
-use Rattle.rules_summary.specs.Summary.{over_tickets, in_all, summary_node}
-use Rattle.rules_values.specs.Tickets.{Identity}
-use Rattle.rules_world.specs.Balances.{supply}
-use Rattle.rules_world.specs.Holdings.{held, minted_ever, burnt_ever, identities}
-use Rattle.rules_world.specs.World.{World as PlainWorld}
-use Rattle.laws_lines.specs.Laws.{told}
+use Rattle.rules_text.specs.nodes.Tree.{int}
+use Rattle.rules_world.specs.lines.Nodes.{number, over}
+use Rattle.rules_world.specs.summary.Summary.{over_tickets, in_all, summary_node}
+use Rattle.rules_data.specs.values.Tickets.{Identity}
+use Rattle.rules_world.specs.world.Balances.{supply}
+use Rattle.rules_world.specs.world.Holdings.{held, minted_ever, burnt_ever, identities}
+use Rattle.rules_world.specs.world.World.{World as PlainWorld}
+use Rattle.laws_world.specs.lines.Laws.{told}
 use Rattle.mich_tickets.specs.Sums.{minted_of, burnt_of}
 use Rattle.mich_world.specs.Holders.{total}
 use Rattle.mich_world.specs.World.{World}

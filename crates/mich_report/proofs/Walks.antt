@@ -12,9 +12,9 @@ use Rattle.std.specs.List.Sorted.{IsStrictlySortedBy}
 use Rattle.std.specs.Map.{lookup, keys_of}
 use Rattle.std.proofs.lemmas.Cmp.{nat_list_cmp_total}
 use Rattle.std.proofs.lemmas.Map.Keys.{sorted_head, sorted_tail}
-use Rattle.rules_forms.specs.Spelling.{implicit_place}
-use Rattle.rules_values.specs.Tickets.{Identity}
-use Rattle.laws_accounts.proofs.ForCallers.{alike_equal, equal_of}
+use Rattle.rules_data.specs.forms.Spelling.{implicit_place}
+use Rattle.rules_data.specs.values.Tickets.{Identity}
+use Rattle.laws_world.proofs.accounts.ForCallers.{alike_equal, equal_of}
 use Rattle.mich_forms.specs.Spelled.{place_bytes}
 use Rattle.mich_forms.specs.declared.places.Place.{Place}
 use Rattle.mich_forms.specs.declared.places.Place.TheVariants as place

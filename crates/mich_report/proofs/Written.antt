@@ -11,18 +11,18 @@ use Rattle.std.specs.List.{AllByRecursion}
 use Rattle.std.specs.List.Sorted.{IsStrictlySortedBy}
 use Rattle.std.specs.Map.{lookup, keys_of}
 use Rattle.std.proofs.lemmas.Cmp.{nat_list_cmp_total}
-use Rattle.rules_values.specs.Tickets.{Identity}
-use Rattle.rules_values.specs.Val.{is_comparable}
-use Rattle.rules_world.specs.World.{identity_order}
-use Rattle.laws_accounts.proofs.ForCallers.{identity_total}
-use Rattle.laws_lines.specs.Laws.{AreInOrder, amount_told}
-use Rattle.laws_lines.proofs.ForCallers.{are_alike, all_exact}
+use Rattle.rules_data.specs.values.Tickets.{Identity}
+use Rattle.rules_data.specs.values.Val.{is_comparable}
+use Rattle.rules_world.specs.world.World.{identity_order}
+use Rattle.laws_world.proofs.accounts.ForCallers.{identity_total}
+use Rattle.laws_world.specs.lines.Laws.{AreInOrder, amount_told}
+use Rattle.laws_world.proofs.lines_lemmas.ForCallers.{are_alike, all_exact}
 use Rattle.mich_data.proofs.ForCallers.{datum_comparable}
 use Rattle.mich_term.specs.TicketView.{identity}
 use Rattle.mich_term.specs.declared.ticket.TicketId.{TicketId}
 use Rattle.mich_tickets.proofs.ForCallers.{found_inserted, found_changed, found_close}
-use Rattle.mich_undo.proofs.ForCallers.{changed_none}
-use Rattle.mich_undo.specs.Undone.{changed_at}
+use Rattle.mich_base.proofs.undo_lemmas.ForCallers.{changed_none}
+use Rattle.mich_base.specs.undo.Undone.{changed_at}
 use Rattle.mich_report.specs.Amounts.{by_print, Amounts, seen, is_of, amount_in, with_amount, Purses, amounts_on, held_in, written}
 
 -- ---- as they are printed

@@ -6,9 +6,9 @@ use Rattle.std.specs.Cmp.Lexicographic.{slice_cmp}
 use Rattle.std.specs.BTreeMap.{is_at, insert_entry}
 use Rattle.std.specs.Coded.{Coded, coded×, coded_list, coded_ℤ}
 use Rattle.std.specs.Map.{lookup}
-use Rattle.rules_forms.specs.Spelling.{implicit_place}
-use Rattle.rules_values.specs.Tickets.{Identity}
-use Rattle.rules_world.specs.World.{identity_order}
+use Rattle.rules_data.specs.forms.Spelling.{implicit_place}
+use Rattle.rules_data.specs.values.Tickets.{Identity}
+use Rattle.rules_world.specs.world.World.{identity_order}
 use Rattle.mich_forms.specs.declared.places.Place.{Place}
 use Rattle.mich_forms.specs.declared.places.Place.TheVariants as place
 use Rattle.mich_term.specs.TicketView.{identity}

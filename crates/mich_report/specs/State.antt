@@ -2,11 +2,11 @@
 use Rattle.std.specs.List.Sorted.{IsStrictlySortedBy}
 use Rattle.std.specs.Map.{keys_of}
 use Rattle.std.specs.Prelude.{◌≡◌, ◌≤ℤ◌, ◌-ℤ◌, ℕ, ℤ, pos, List, [], ◌∷◌, ◌++◌, codes}
-use Rattle.rules_base.specs.Tree.{Tree, int}
-use Rattle.rules_lines.specs.Nodes.{over, ticket_fields}
-use Rattle.rules_values.specs.Tickets.{Identity}
-use Rattle.rules_world.specs.Good.{IsGood}
-use Rattle.rules_world.specs.World.{World as PlainWorld}
+use Rattle.rules_text.specs.nodes.Tree.{Tree, int}
+use Rattle.rules_world.specs.lines.Nodes.{over, ticket_fields}
+use Rattle.rules_data.specs.values.Tickets.{Identity}
+use Rattle.rules_world.specs.world.Good.{IsGood}
+use Rattle.rules_world.specs.world.World.{World as PlainWorld}
 use Rattle.mich_tickets.specs.Books.{Books}
 use Rattle.mich_tickets.specs.Lines.{Lines, by_identity}
 use Rattle.mich_tickets.specs.Sums.{totals_of, minted_of, burnt_of}

@@ -1,6 +1,6 @@
 -- Sums over tickets.
 use Rattle.std.specs.Prelude.{◌≡◌, ℤ, pos, ◌+ℤ◌, ◌-ℤ◌, List, [], ◌∷◌}
-use Rattle.rules_values.specs.Tickets.{Identity}
+use Rattle.rules_data.specs.values.Tickets.{Identity}
 use Rattle.mich_tickets.specs.Books.{Books}
 use Rattle.mich_tickets.specs.Sums.{minted_of, burnt_of}
 use Rattle.mich_report.specs.declared.summary.Sums.{Sums}

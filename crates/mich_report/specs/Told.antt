@@ -1,7 +1,7 @@
 -- The nodes of what is told of a group: those of its receipt, where what FAILWITH shows is told by nodes.
 use Rattle.std.specs.Prelude.{ℕ, [], ◌∷◌, map, codes}
-use Rattle.rules_base.specs.Tree.{Tree}
-use Rattle.rules_lines.specs.Nodes.{over, word, number, sequence, failure_node, effect_node, fault_node}
+use Rattle.rules_text.specs.nodes.Tree.{Tree}
+use Rattle.rules_world.specs.lines.Nodes.{over, word, number, sequence, failure_node, effect_node, fault_node}
 use Rattle.mich_ops.specs.Told.{Told, shown, plain, ToldStatus, Applied, Backtracked, Failed, Skipped, ToldReceipt, Refused, Done}
 
 abbrev pub told_node : Told → Tree

@@ -6,9 +6,9 @@ ghost use Rattle.std.specs.Map.{keys_of};
 ghost use Rattle.std.specs.Ordering.{is_eq};
 ghost use Rattle.std.specs.Cmp.{partial_order_from_agreeing_total, partial_equiv_from_equiv, eq_by_cmp_equiv};
 ghost use Rattle.std.proofs.lemmas.Cmp.{on_total};
-ghost use Rattle.laws_accounts.proofs.ForCallers.{identity_total};
-ghost use Rattle.rules_lines.specs.Nodes.{held_node};
-ghost use Rattle.rules_world.specs.World.{identity_order};
+ghost use Rattle.laws_world.proofs.accounts.ForCallers.{identity_total};
+ghost use Rattle.rules_world.specs.lines.Nodes.{held_node};
+ghost use Rattle.rules_world.specs.world.World.{identity_order};
 ghost use Rattle.mich_base.specs.View.{tree};
 ghost use Rattle.mich_term.specs.TicketView.{identity};
 ghost use Rattle.mich_report.specs.Amounts.{by_print, seen, with_amount};
@@ -32,8 +32,8 @@ pub(crate) struct Printed {
 
 impl Model for Printed {
     ghost use Rattle.std.specs.Prelude.{◌≡◌};
-    ghost use Rattle.rules_text.specs.Printed.{printed};
-    ghost use Rattle.rules_types.specs.Printing.{node_of};
+    ghost use Rattle.rules_text.specs.text.Printed.{printed};
+    ghost use Rattle.rules_data.specs.types.Printing.{node_of};
     ghost use Rattle.mich_base.specs.TypeView.{kind};
     ghost use Rattle.mich_term.specs.declared.ticket.TicketId.{TicketId};
     ghost use Rattle.mich_term.specs.contracts.ticket.TicketId as ticket_id;

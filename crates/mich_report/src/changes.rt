@@ -1,6 +1,6 @@
 // Changes of tickets.
 ghost use Rattle.std.specs.Prelude.{◌≡◌, IfOk, map};
-ghost use Rattle.rules_lines.specs.Nodes.{change_node, changes_node};
+ghost use Rattle.rules_world.specs.lines.Nodes.{change_node, changes_node};
 ghost use Rattle.mich_base.specs.View.{tree};
 ghost use Rattle.mich_ops.specs.View.{change};
 

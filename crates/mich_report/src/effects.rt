@@ -1,6 +1,6 @@
 // What operations did.
 ghost use Rattle.std.specs.Prelude.{◌≡◌, IfOk, map};
-ghost use Rattle.rules_lines.specs.Nodes.{effect_node, sequence};
+ghost use Rattle.rules_world.specs.lines.Nodes.{effect_node, sequence};
 ghost use Rattle.mich_base.specs.View.{tree};
 ghost use Rattle.mich_ops.specs.View.{effect};
 

@@ -1,6 +1,6 @@
 // Failures.
 ghost use Rattle.std.specs.Prelude.{◌≡◌, ◌∷◌, [], IfOk, codes};
-ghost use Rattle.rules_lines.specs.Nodes.{located, over};
+ghost use Rattle.rules_world.specs.lines.Nodes.{located, over};
 ghost use Rattle.mich_base.specs.View.{tree};
 ghost use Rattle.mich_ops.specs.View.{failure};
 ghost use Rattle.mich_report.specs.Told.{told_node};

@@ -4,10 +4,10 @@ ghost use Rattle.std.specs.Cmp.Lexicographic.{slice_cmp};
 ghost use Rattle.std.specs.Map.{lookup};
 ghost use Rattle.std.specs.Ordering.{nat_cmp};
 ghost use Rattle.std.specs.Prelude.{◌≡◌, ℕ, List, IfOk, if◌then◌else◌, is_some};
-ghost use Rattle.rules_forms.specs.Spelling.{implicit_place};
-ghost use Rattle.rules_values.specs.Tickets.{Identity};
+ghost use Rattle.rules_data.specs.forms.Spelling.{implicit_place};
+ghost use Rattle.rules_data.specs.values.Tickets.{Identity};
 ghost use Rattle.mich_tickets.specs.Owned.{amount_at};
-ghost use Rattle.mich_undo.specs.Undone.{changed_at};
+ghost use Rattle.mich_base.specs.undo.Undone.{changed_at};
 ghost use Rattle.mich_report.specs.Amounts.{held_in, with_amount, written};
 ghost use Rattle.mich_report.specs.State.{Gathers, Mints};
 

@@ -1,6 +1,6 @@
 // Nodes as lines.
 ghost use Rattle.std.specs.Prelude.{◌≡◌, ◌++◌, ◌∷◌, [], IfOk, codes};
-ghost use Rattle.rules_lines.specs.Nodes.{line};
+ghost use Rattle.rules_world.specs.lines.Nodes.{line};
 ghost use Rattle.mich_base.specs.View.{tree};
 
 use mich_base::{Memory, Node, Text};

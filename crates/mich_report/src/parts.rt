@@ -1,7 +1,7 @@
 // Parts of lines.
 ghost use Rattle.std.specs.Prelude.{◌≡◌, ◌++◌, ◌∷◌, [], IfOk, map};
-ghost use Rattle.rules_base.specs.Tree.{bytes, int, seq};
-ghost use Rattle.rules_lines.specs.Nodes.{number, ticket_fields};
+ghost use Rattle.rules_text.specs.nodes.Tree.{bytes, int, seq};
+ghost use Rattle.rules_world.specs.lines.Nodes.{number, ticket_fields};
 ghost use Rattle.mich_base.specs.TypeView.{kind};
 ghost use Rattle.mich_base.specs.View.{tree, trees};
 ghost use Rattle.mich_forms.specs.Spelled.{address_bytes, place_bytes};

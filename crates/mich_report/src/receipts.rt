@@ -1,7 +1,7 @@
 // What became of groups.
 ghost use Rattle.std.specs.Prelude.{◌≡◌, IfOk, map};
-ghost use Rattle.rules_lines.specs.Nodes.{fault_node, group_node, line, sequence};
-ghost use Rattle.rules_world.specs.Receipts.{Receipt};
+ghost use Rattle.rules_world.specs.lines.Nodes.{fault_node, group_node, line, sequence};
+ghost use Rattle.rules_world.specs.world.Receipts.{Receipt};
 ghost use Rattle.mich_base.specs.View.{tree};
 ghost use Rattle.mich_ops.specs.Told.{told_receipt};
 ghost use Rattle.mich_ops.specs.View.{fault, receipt, status};

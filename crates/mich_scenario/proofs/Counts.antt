@@ -1,10 +1,10 @@
 -- Forms of so many fields: where there are more or fewer, there is no statement, and no content.
 use Rattle.std.proofs.Common.{◌≡◌, ◌≢◌, length, ℕ, List, [], ◌∷◌, ◌++◌, Option, Some, None, refl, ap, ◌<◌, ◌≤◌, get_or, arith}
 use Rattle.std.specs.Prelude.{ℤ, codes}
-use Rattle.rules_base.specs.Limits.{most_mutez}
-use Rattle.rules_base.specs.Tree.{Tree}
-use Rattle.rules_world.specs.Contents.{Content}
-use Rattle.rules_statements.specs.Statements.{◌>>=◌, nodes_of, chain_of, account_of, block_of, costs_of, content_by, number_of, gas_of}
+use Rattle.rules_text.specs.nodes.Limits.{most_mutez}
+use Rattle.rules_text.specs.nodes.Tree.{Tree}
+use Rattle.rules_world.specs.world.Contents.{Content}
+use Rattle.rules_files.specs.statements.Statements.{◌>>=◌, nodes_of, chain_of, account_of, block_of, costs_of, content_by, number_of, gas_of}
 use Rattle.mich_base.specs.Counted.{IsNotEmpty, IsNotOne, IsNotTwo, IsNotThree}
 use Rattle.mich_base.specs.View.{tree, trees}
 use Rattle.mich_base.specs.declared.node.Node.{Node}

@@ -2,8 +2,8 @@
 use Rattle.std.proofs.Common.{◌≡◌, List, [], ◌∷◌, ◌++◌, Option, Some, None, refl, sym, ap, ◌∙◌, append_assoc, append-nil}
 use Rattle.std.proofs.lemmas.List.{map-append}
 use Rattle.std.specs.Prelude.{option_map}
-use Rattle.rules_world.specs.Contents as rules
-use Rattle.rules_statements.specs.Statements.{content_by, each_content, named, nodes_of, ◌>>=◌}
+use Rattle.rules_world.specs.world.Contents as rules
+use Rattle.rules_files.specs.statements.Statements.{content_by, each_content, named, nodes_of, ◌>>=◌}
 use Rattle.mich_base.specs.View.{tree, trees}
 use Rattle.mich_base.specs.declared.node.Node.{Node}
 use Rattle.mich_ops.specs.View.{content}

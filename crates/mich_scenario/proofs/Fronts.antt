@@ -1,8 +1,8 @@
 -- Fields of which the last are taken.
 use Rattle.std.proofs.Common.{◌≡◌, ℕ, List, [], ◌∷◌, ◌++◌, Option, refl, ap, sym, ◌∙◌, append_assoc}
-use Rattle.rules_base.specs.Tree.{Tree}
-use Rattle.rules_world.specs.Contents as rules
-use Rattle.rules_statements.specs.Statements.{content_by, nodes_of}
+use Rattle.rules_text.specs.nodes.Tree.{Tree}
+use Rattle.rules_world.specs.world.Contents as rules
+use Rattle.rules_files.specs.statements.Statements.{content_by, nodes_of}
 use Rattle.mich_base.specs.View.{tree, trees}
 use Rattle.mich_base.specs.declared.node.Node.{Node}
 

@@ -1,8 +1,8 @@
 -- Gifts by their eight fields.
 use Rattle.std.proofs.Common.{◌≡◌, List, [], ◌∷◌, ◌++◌, Option, Some, None, ap, sym, ◌∙◌}
 use Rattle.std.specs.Prelude.{codes, length, take, option_map, MatchOption}
-use Rattle.rules_base.specs.Tree.{Tree}
-use Rattle.rules_statements.specs.Statements.{content_by, nodes_of}
+use Rattle.rules_text.specs.nodes.Tree.{Tree}
+use Rattle.rules_files.specs.statements.Statements.{content_by, nodes_of}
 use Rattle.mich_base.specs.View.{tree, trees}
 use Rattle.mich_base.specs.declared.node.Node.{Node}
 use Rattle.mich_scenario.specs.Fronts.{given, IsGift}

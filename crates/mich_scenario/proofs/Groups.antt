@@ -2,10 +2,10 @@
 use Rattle.std.proofs.Common.{◌≡◌, ◌<◌, ◌≤◌, ℕ, Bool, true, false, ◌&&◌, List, [], ◌∷◌, ◌++◌, length, Option, Some, None, Result, Err, refl, sym, ap, ◌∙◌, subst, arith}
 use Rattle.std.specs.Prelude.{nat_le}
 use Rattle.std.proofs.lemmas.Bool.Decides.{nat_tests}
-use Rattle.rules_base.specs.Limits.{most_contents}
-use Rattle.rules_world.specs.Contents as rules
-use Rattle.rules_statements.specs.Statements.{◌>>=◌, contents_of, counted, each_content, group_of, nodes_of, only_if}
-use Rattle.rules_statements.specs.Statements as statements
+use Rattle.rules_text.specs.nodes.Limits.{most_contents}
+use Rattle.rules_world.specs.world.Contents as rules
+use Rattle.rules_files.specs.statements.Statements.{◌>>=◌, contents_of, counted, each_content, group_of, nodes_of, only_if}
+use Rattle.rules_files.specs.statements.Statements as statements
 use Rattle.mich_base.specs.Counted.{IsNotEmpty}
 use Rattle.mich_base.specs.View.{tree, trees}
 use Rattle.mich_base.specs.declared.node.Node.{Node}

@@ -1,8 +1,8 @@
 -- Contents by what stands before or round the nodes that are kept as they are.
 use Rattle.std.specs.Prelude.{◌≡◌, List, [], ◌∷◌, ◌++◌, codes, length, take, Some}
-use Rattle.rules_base.specs.Tree.{Tree}
-use Rattle.rules_world.specs.Contents.{Content, Originate, Call, Give}
-use Rattle.rules_statements.specs.Statements.{content_by, nodes_of}
+use Rattle.rules_text.specs.nodes.Tree.{Tree}
+use Rattle.rules_world.specs.world.Contents.{Content, Originate, Call, Give}
+use Rattle.rules_files.specs.statements.Statements.{content_by, nodes_of}
 use Rattle.mich_base.specs.View.{tree, trees}
 use Rattle.mich_base.specs.declared.node.Node.{Node}
 use Rattle.mich_forms.specs.Spelled.{place_bytes}

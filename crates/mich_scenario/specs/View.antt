@@ -1,9 +1,9 @@
 -- What the code's statements stand for.
 use Rattle.std.specs.Prelude.{◌≡◌, ℕ, [], ◌∷◌, ◌++◌, List, map, Option, Some, None, Result, Ok, Err}
-use Rattle.rules_base.specs.Tree.{Tree, int, str, bytes, prim, seq}
-use Rattle.rules_world.specs.Contents as rules
-use Rattle.rules_statements.specs.Statements as statements
-use Rattle.rules_statements.specs.Statements.{◌>>=◌, contents_of, group_of}
+use Rattle.rules_text.specs.nodes.Tree.{Tree, int, str, bytes, prim, seq}
+use Rattle.rules_world.specs.world.Contents as rules
+use Rattle.rules_files.specs.statements.Statements as statements
+use Rattle.rules_files.specs.statements.Statements.{◌>>=◌, contents_of, group_of}
 use Rattle.mich_base.specs.View.{tree}
 use Rattle.mich_ops.specs.View.{content}
 use Rattle.mich_ops.specs.declared.group.Content.{Content}

@@ -1,7 +1,7 @@
 // Contents: a fee, gas, and what is done.
 ghost use Rattle.std.specs.Prelude.{◌≡◌, ◌∷◌, ◌++◌, [], codes, length, option_map, Some, None, take, MatchOption};
-ghost use Rattle.rules_base.specs.Tree.{Tree};
-ghost use Rattle.rules_statements.specs.Statements.{content_by, nodes_of};
+ghost use Rattle.rules_text.specs.nodes.Tree.{Tree};
+ghost use Rattle.rules_files.specs.statements.Statements.{content_by, nodes_of};
 ghost use Rattle.mich_base.specs.View.{tree, trees};
 ghost use Rattle.mich_ops.specs.View.{content};
 ghost use Rattle.mich_scenario.specs.Fronts.{called, given, originated, IsGift};

@@ -2,8 +2,8 @@
 ghost use Rattle.std.specs.Prelude.{◌≡◌, ◌<◌, ◌≤◌, ◌^◌, ◌-◌, ℕ, ℤ, pos, neg_ℤ, unsigned_abs, Some, None, IfSome, option_map};
 ghost use Rattle.mich_base.specs.View.{tree};
 ghost use Rattle.mich_forms.specs.Spelled.{place_bytes};
-ghost use Rattle.rules_statements.specs.Statements.{within, number_of, moment_of, gas_of, ticket_amount_of, bytes_of, entrypoint_of};
-ghost use Rattle.rules_forms.specs.Spelling.{is_chain_id, is_contract, is_key_hash, is_place};
+ghost use Rattle.rules_files.specs.statements.Statements.{within, number_of, moment_of, gas_of, ticket_amount_of, bytes_of, entrypoint_of};
+ghost use Rattle.rules_data.specs.forms.Spelling.{is_chain_id, is_contract, is_key_hash, is_place};
 
 use mich_base::Node;
 use mich_forms::{ChainId, Entrypoint, KeyHash, Place};

@@ -1,7 +1,7 @@
 // The forms of statements.
 ghost use Rattle.std.specs.Prelude.{◌≡◌, ◌^◌, ℕ, [], Some, None, option_map, MatchOption};
-ghost use Rattle.rules_base.specs.Tree.{prim, seq};
-ghost use Rattle.rules_statements.specs.Statements.{account_of, block_of, chain_of, contents_of, content_by, costs_of, counted, each_content, form, group_of, named, nodes_of, statement_by};
+ghost use Rattle.rules_text.specs.nodes.Tree.{prim, seq};
+ghost use Rattle.rules_files.specs.statements.Statements.{account_of, block_of, chain_of, contents_of, content_by, costs_of, counted, each_content, form, group_of, named, nodes_of, statement_by};
 ghost use Rattle.mich_base.specs.View.{tree, trees};
 ghost use Rattle.mich_ops.specs.View.{content};
 ghost use Rattle.mich_scenario.specs.View.{IsForm, IsNoPlain, IsNoSequence, IsNoSource, IsSource, contents_said, said};

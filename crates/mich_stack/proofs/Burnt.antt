@@ -1,9 +1,9 @@
 -- What instructions burn.
 use Rattle.std.proofs.Common.{◌≡◌, Err, List, [], ◌∷◌, refl, ap, sym, ◌∙◌}
-use Rattle.rules_values.specs.Val.{Val}
-use Rattle.rules_values.specs.Tickets.{Held}
-use Rattle.rules_steps.specs.Changes.{burns}
-use Rattle.rules_steps.specs.Step.{Step, done}
+use Rattle.rules_data.specs.values.Val.{Val}
+use Rattle.rules_data.specs.values.Tickets.{Held}
+use Rattle.rules_code.specs.steps.Changes.{burns}
+use Rattle.rules_code.specs.steps.Step.{Step, done}
 use Rattle.mich_stack.specs.Ends.{burnt_among, gone, IsKept, IsEnd}
 use Rattle.mich_stack.specs.Given.{IsGiven}
 use Rattle.mich_stack.specs.Views.{Sight}

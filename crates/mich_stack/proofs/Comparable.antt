@@ -1,7 +1,7 @@
 -- A comparable value stands for the same however big maps are seen.
 use Rattle.std.proofs.Common.{◌≡◌, Bool, true, false, refl, sym, ap, ◌∙◌, subst}
 use Rattle.std.specs.Prelude.{◌&&◌}
-use Rattle.rules_values.specs.Val.{Val, Pairs, some, left, right, both, is_comparable}
+use Rattle.rules_data.specs.values.Val.{Val, Pairs, some, left, right, both, is_comparable}
 use Rattle.mich_term.specs.ValueView.{val, value_step, big_step}
 use Rattle.mich_term.specs.declared.value.Value.{Value, roll-Value, ind-Value, fold-roll-Value, map-Value}
 use Rattle.mich_term.specs.declared.value.Value.TheOpen.{Value-F}

@@ -1,8 +1,8 @@
 -- Values compare alike however big maps are seen.
 use Rattle.std.proofs.Common.{◌≡◌, refl, sym, ap, ◌∙◌, subst}
 use Rattle.std.specs.Ordering.{nat_cmp, ordering_then}
-use Rattle.rules_values.specs.Val.{Val, Pairs, unit, truth, number, text, bytes, nothing, some, left, right, both, list, set, table, big_table, lambda, operation, ticket, no_val}
-use Rattle.rules_values.specs.Order.{order, form}
+use Rattle.rules_data.specs.values.Val.{Val, Pairs, unit, truth, number, text, bytes, nothing, some, left, right, both, list, set, table, big_table, lambda, operation, ticket, no_val}
+use Rattle.rules_data.specs.values.Order.{order, form}
 use Rattle.mich_term.specs.ValueView.{val, value_step, big_step}
 use Rattle.mich_term.specs.declared.value.Value.{Value, roll-Value, ind-Value, fold-roll-Value, map-Value}
 use Rattle.mich_term.specs.declared.value.Value.TheOpen.{Value-F}

@@ -1,7 +1,7 @@
 -- Each key and content is comparable.
 use Rattle.std.proofs.Common.{◌≡◌, true, ap, ◌∙◌, subst}
 use Rattle.std.proofs.lemmas.Bool.{and_from}
-use Rattle.rules_values.specs.Val.{Val, is_comparable}
+use Rattle.rules_data.specs.values.Val.{Val, is_comparable}
 use Rattle.mich_term.specs.View.{datum, datum_step}
 use Rattle.mich_term.specs.ValueView.{val}
 use Rattle.mich_term.specs.declared.datum.Datum.{Datum, ind-Datum, fold-roll-Datum, roll-Datum, map-Datum}

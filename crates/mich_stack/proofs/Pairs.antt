@@ -1,6 +1,6 @@
 -- Pairs, however big maps are seen.
 use Rattle.std.proofs.Common.{◌≡◌, sym, ap, ◌∙◌}
-use Rattle.rules_values.specs.Val.{Val, Pairs, both}
+use Rattle.rules_data.specs.values.Val.{Val, Pairs, both}
 use Rattle.mich_term.specs.ValueView.{value_step}
 use Rattle.mich_term.specs.declared.value.Value.{Value, fold-roll-Value}
 use Rattle.mich_term.specs.declared.value.Value.TheOpen.{Value-F}

@@ -1,6 +1,6 @@
 -- What holds of the values that stand on a stack holds of the stack.
 use Rattle.std.proofs.Common.{◌≡◌, Bool, ℕ, ℤ, List, ◌∷◌, sym, ap, ◌∙◌, subst}
-use Rattle.rules_values.specs.Val.{Val, Pairs, truth, number, text, set}
+use Rattle.rules_data.specs.values.Val.{Val, Pairs, truth, number, text, set}
 use Rattle.mich_term.specs.View.{datums}
 use Rattle.mich_term.specs.ValueView.{value_step}
 use Rattle.mich_term.specs.declared.elements.Elements.{Elements}

@@ -1,9 +1,9 @@
 -- How an instruction ends.
 use Rattle.std.specs.Prelude.{◌≡◌, List, [], ◌∷◌, Result, Ok, Err}
-use Rattle.rules_values.specs.Val.{Val}
-use Rattle.rules_values.specs.Tickets.{Held}
-use Rattle.rules_steps.specs.Changes.{Change, minted, burnt, burns}
-use Rattle.rules_steps.specs.Step.{Step, done, fails, wrong, kept}
+use Rattle.rules_data.specs.values.Val.{Val}
+use Rattle.rules_data.specs.values.Tickets.{Held}
+use Rattle.rules_code.specs.steps.Changes.{Change, minted, burnt, burns}
+use Rattle.rules_code.specs.steps.Step.{Step, done, fails, wrong, kept}
 use Rattle.mich_term.specs.declared.value.Value.{Value}
 use Rattle.mich_stack.specs.declared.error.StepError.{StepError}
 use Rattle.mich_stack.specs.declared.error.StepError.TheVariants.{Failed, Memory}

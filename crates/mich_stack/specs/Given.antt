@@ -1,9 +1,9 @@
 -- How an instruction ends that hands out what it discards.
 use Rattle.std.specs.Prelude.{◌≡◌, List, Result, Ok, Err}
-use Rattle.rules_values.specs.Val.{Val}
-use Rattle.rules_values.specs.Tickets.{tickets}
-use Rattle.rules_steps.specs.Changes.{burns}
-use Rattle.rules_steps.specs.Step.{Step, done, fails}
+use Rattle.rules_data.specs.values.Val.{Val}
+use Rattle.rules_data.specs.values.Tickets.{tickets}
+use Rattle.rules_code.specs.steps.Changes.{burns}
+use Rattle.rules_code.specs.steps.Step.{Step, done, fails}
 use Rattle.mich_term.specs.declared.value.Value.{Value}
 use Rattle.mich_stack.specs.declared.error.StepError.{StepError}
 use Rattle.mich_stack.specs.declared.error.StepError.TheVariants.{Failed, Memory}

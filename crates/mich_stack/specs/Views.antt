@@ -1,8 +1,8 @@
 -- The stacks and failures that those of the code stand for.
 use Rattle.std.specs.Prelude.{List, [], ◌∷◌, map, reverse}
-use Rattle.rules_values.specs.Val.{Val, Pairs}
-use Rattle.rules_steps.specs.Failure.{Failure}
-use Rattle.rules_steps.specs.Failure as f
+use Rattle.rules_data.specs.values.Val.{Val, Pairs}
+use Rattle.rules_code.specs.steps.Failure.{Failure}
+use Rattle.rules_code.specs.steps.Failure as f
 use Rattle.mich_term.specs.declared.value.Value.{Value, fold-Value}
 use Rattle.mich_term.specs.declared.value.Value.TheOpen.{BigMap-F}
 use Rattle.mich_term.specs.ValueView.{val, value_step}

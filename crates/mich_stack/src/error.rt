@@ -1,7 +1,7 @@
 // Why an instruction doesn't end on a stack.
 ghost use Rattle.std.specs.Prelude.{◌≡◌};
 ghost use Rattle.mich_num.specs.View.{limit};
-ghost use Rattle.rules_steps.specs.Step.{past_limit};
+ghost use Rattle.rules_code.specs.steps.Step.{past_limit};
 ghost use Rattle.mich_stack.specs.Views.{failure};
 
 use mich_base::Memory;

@@ -1,7 +1,7 @@
 // Instructions that hand out what they discard.
 ghost use Rattle.std.specs.Prelude.{List};
-ghost use Rattle.rules_values.specs.Val.{Val};
-ghost use Rattle.rules_steps.specs.Step.{Step};
+ghost use Rattle.rules_data.specs.values.Val.{Val};
+ghost use Rattle.rules_code.specs.steps.Step.{Step};
 ghost use Rattle.mich_stack.specs.Ends.{IsKept};
 ghost use Rattle.mich_stack.specs.Given.{IsGiven};
 ghost use Rattle.mich_stack.specs.Views.{Sight};

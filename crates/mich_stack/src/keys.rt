@@ -1,6 +1,6 @@
 // Comparable values on top of a stack: elements of sets, keys of maps and contents of tickets.
 ghost use Rattle.std.specs.Prelude.{◌≡◌, ◌∷◌, true, IfOk};
-ghost use Rattle.rules_values.specs.Val.{is_comparable};
+ghost use Rattle.rules_data.specs.values.Val.{is_comparable};
 ghost use Rattle.mich_term.specs.View.{datum};
 ghost use Rattle.mich_term.specs.ValueView.{val};
 ghost use Rattle.mich_stack.specs.Views.{Sight, seen, values, plain};

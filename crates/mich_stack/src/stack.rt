@@ -1,6 +1,6 @@
 // Stacks of values, whose last element is on top.
 ghost use Rattle.std.specs.Prelude.{◌≡◌, [], ◌∷◌, ◌<◌, ◌≤◌, length, drop, insert, remove, slice_get, option_map, Some, IfOk, MatchOption};
-ghost use Rattle.rules_steps.specs.Step.{optional};
+ghost use Rattle.rules_code.specs.steps.Step.{optional};
 ghost use Rattle.mich_stack.specs.Views.{Sight, seen, values, IsBelowTwo, IsBelowThree};
 
 use mich_base::{Link, Memory, Rows};

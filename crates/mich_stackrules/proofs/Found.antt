@@ -1,18 +1,18 @@
 -- Arguments at a location further on.
 use Rattle.std.proofs.Common.{◌≡◌, ℕ, ◌+◌, pos, negsuc, nat_le, ◌&&◌, Bool, true, false, if◌then◌else◌, List, [], ◌∷◌, Err, refl, sym, ap, ◌∙◌, subst, add_assoc}
-use Rattle.rules_base.specs.Tree.{Tree, int, str, bytes, prim, seq, Trees, none, more, size}
-use Rattle.rules_forms.specs.Spelling.{default_name}
+use Rattle.rules_text.specs.nodes.Tree.{Tree, int, str, bytes, prim, seq, Trees, none, more, size}
+use Rattle.rules_data.specs.forms.Spelling.{default_name}
 use Rattle.std.proofs.Math.Nat.{add-zero}
-use Rattle.rules_base.specs.declared.Primitive.{Primitive}
-use Rattle.rules_base.specs.declared.Primitive.TheVariants as p
-use Rattle.rules_types.specs.Kind.{Kind}
-use Rattle.rules_types.specs.Attributes.{comparable, passable, packable, pushable}
-use Rattle.rules_types.specs.Reading.{Reading, a_type, bad_type, too_large}
-use Rattle.rules_instructions.specs.Straight.{Straight, on_collections, on_operations}
-use Rattle.rules_instructions.specs.Straight as i
-use Rattle.rules_instructions.specs.Overloads as o
-use Rattle.rules_instructions.specs.Arguments.{Found, found, fault, and_then, with_attribute, type_argument, one_type, count_argument, one_count, count_or, annotated, is_view_name, view_name_argument}
-use Rattle.rules_instructions.specs.Instructions.{Instruction, row, overloaded, instruction, emit_of, view_of}
+use Rattle.rules_text.specs.declared.nodes.Primitive.{Primitive}
+use Rattle.rules_text.specs.declared.nodes.Primitive.TheVariants as p
+use Rattle.rules_data.specs.types.Kind.{Kind}
+use Rattle.rules_data.specs.types.Attributes.{comparable, passable, packable, pushable}
+use Rattle.rules_data.specs.types.Reading.{Reading, a_type, bad_type, too_large}
+use Rattle.rules_code.specs.instructions.Straight.{Straight, on_collections, on_operations}
+use Rattle.rules_code.specs.instructions.Straight as i
+use Rattle.rules_code.specs.instructions.Overloads as o
+use Rattle.rules_code.specs.instructions.Arguments.{Found, found, fault, and_then, with_attribute, type_argument, one_type, count_argument, one_count, count_or, annotated, is_view_name, view_name_argument}
+use Rattle.rules_code.specs.instructions.Instructions.{Instruction, row, overloaded, instruction, emit_of, view_of}
 use Rattle.std.specs.Prelude.{Some, None}
 use Rattle.mich_base.specs.declared.node.Node.{Node}
 use Rattle.mich_base.specs.TypeView.{kind}

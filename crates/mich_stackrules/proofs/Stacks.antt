@@ -5,8 +5,8 @@ use Rattle.std.specs.List.{list_all}
 use Rattle.std.proofs.Math.Seq.{drop-cons}
 use Rattle.std.proofs.lemmas.List.Folds.{list_all-append, list_all-map}
 use Rattle.std.proofs.lemmas.List.{reverse-append, length-drop, map-append, take-append-drop, take_all, take_at, append_assoc}
-use Rattle.rules_base.specs.Limits.{type_limit}
-use Rattle.rules_types.specs.Kind.{Kind, nodes}
+use Rattle.rules_text.specs.nodes.Limits.{type_limit}
+use Rattle.rules_data.specs.types.Kind.{Kind, nodes}
 use Rattle.mich_base.specs.declared.ty.Ty.{Ty}
 use Rattle.mich_base.specs.TypeView.{kind}
 use Rattle.mich_overload.specs.View.{kinds}

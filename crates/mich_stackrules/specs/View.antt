@@ -1,17 +1,17 @@
 -- The instructions and the arguments that the code reads.
 use Rattle.std.specs.Prelude.{◌≡◌, ℕ, ℤ, pos, negsuc, Bool, true, false, ◌&&◌, nat_le, if◌then◌else◌, List, Option, Some, None}
-use Rattle.rules_base.specs.Limits.{count_limit, part_limit}
-use Rattle.rules_base.specs.Tree.{Tree, str, Trees, none, more}
-use Rattle.rules_base.specs.declared.Primitive.{Primitive}
-use Rattle.rules_base.specs.declared.Primitive.TheVariants as p
-use Rattle.rules_types.specs.Kind.{Kind}
-use Rattle.rules_types.specs.Attributes as a
-use Rattle.rules_types.specs.Reading.{any_kind}
-use Rattle.rules_instructions.specs.Straight.{Straight, on_stack, on_pairs, on_unions, on_collections, on_hashes}
-use Rattle.rules_instructions.specs.Straight as i
-use Rattle.rules_instructions.specs.Overloads as o
-use Rattle.rules_instructions.specs.Arguments.{Found, found, fault, type_argument, one_type, two_types, one_count}
-use Rattle.rules_instructions.specs.Instructions as r
+use Rattle.rules_text.specs.nodes.Limits.{count_limit, part_limit}
+use Rattle.rules_text.specs.nodes.Tree.{Tree, str, Trees, none, more}
+use Rattle.rules_text.specs.declared.nodes.Primitive.{Primitive}
+use Rattle.rules_text.specs.declared.nodes.Primitive.TheVariants as p
+use Rattle.rules_data.specs.types.Kind.{Kind}
+use Rattle.rules_data.specs.types.Attributes as a
+use Rattle.rules_data.specs.types.Reading.{any_kind}
+use Rattle.rules_code.specs.instructions.Straight.{Straight, on_stack, on_pairs, on_unions, on_collections, on_hashes}
+use Rattle.rules_code.specs.instructions.Straight as i
+use Rattle.rules_code.specs.instructions.Overloads as o
+use Rattle.rules_code.specs.instructions.Arguments.{Found, found, fault, type_argument, one_type, two_types, one_count}
+use Rattle.rules_code.specs.instructions.Instructions as r
 use Rattle.mich_base.specs.TypeView.{kind}
 use Rattle.mich_overload.specs.View.{straight}
 use Rattle.mich_overload.specs.Ops as ops

@@ -1,7 +1,7 @@
 // The arguments of instructions without bodies.
 ghost use Rattle.std.specs.Prelude.{◌≡◌, ◌+◌, ◌<◌, ◌^◌};
-ghost use Rattle.rules_base.specs.Tree.{size, sizes};
-ghost use Rattle.rules_instructions.specs.Arguments.{count_argument, type_argument};
+ghost use Rattle.rules_text.specs.nodes.Tree.{size, sizes};
+ghost use Rattle.rules_code.specs.instructions.Arguments.{count_argument, type_argument};
 ghost use Rattle.mich_base.specs.TypeView.{kind};
 ghost use Rattle.mich_base.specs.View.{tree, trees};
 ghost use Rattle.mich_stackrules.specs.Answers.{IsFound, found_from};

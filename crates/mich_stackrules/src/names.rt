@@ -1,10 +1,10 @@
 // The names in instructions: of entrypoints, events and views.
 ghost use Rattle.std.specs.Prelude.{◌≡◌, ◌+◌, ◌<◌, ◌^◌, [], MatchOption};
-ghost use Rattle.rules_base.specs.Tree.{size, sizes, str};
-ghost use Rattle.rules_forms.specs.Spelling.{default_name};
-ghost use Rattle.rules_instructions.specs.Arguments.{annotated, is_view_name};
-ghost use Rattle.rules_instructions.specs.Instructions.{emit_of, instruction, view_of};
-ghost use Rattle.rules_base.specs.declared.Primitive.TheVariants.{OpContract, OpEmit};
+ghost use Rattle.rules_text.specs.nodes.Tree.{size, sizes, str};
+ghost use Rattle.rules_data.specs.forms.Spelling.{default_name};
+ghost use Rattle.rules_code.specs.instructions.Arguments.{annotated, is_view_name};
+ghost use Rattle.rules_code.specs.instructions.Instructions.{emit_of, instruction, view_of};
+ghost use Rattle.rules_text.specs.declared.nodes.Primitive.TheVariants.{OpContract, OpEmit};
 ghost use Rattle.mich_base.specs.View.{tree, trees};
 ghost use Rattle.mich_stackrules.specs.Answers.{IsFound, found_from};
 ghost use Rattle.mich_stackrules.specs.View.{IsNoText, written};

@@ -2,12 +2,12 @@
 use Rattle.std.proofs.Common.{arith, ◌≡◌, ℕ, suc, ◌+◌, true, is_some, Option, Some, None, option_map, refl, ap, sym, ◌∙◌, subst}
 use Rattle.std.proofs.lemmas.List.{append-nil}
 use Rattle.std.specs.Prelude.{◌++◌, ◌∷◌, [], List}
-use Rattle.rules_instructions.specs.Straight as i
-use Rattle.rules_steps.specs.Changes.{burns}
-use Rattle.rules_steps.specs.Step.{done, discarding, on_some}
-use Rattle.rules_values.specs.Val.{Val, both}
-use Rattle.rules_values.specs.Tickets.{Held, tickets}
-use Rattle.rules_steps.specs.Stack.{Part, Replaced, behind, comb, pair_step, passing, part_at, replaced}
+use Rattle.rules_code.specs.instructions.Straight as i
+use Rattle.rules_code.specs.steps.Changes.{burns}
+use Rattle.rules_code.specs.steps.Step.{done, discarding, on_some}
+use Rattle.rules_data.specs.values.Val.{Val, both}
+use Rattle.rules_data.specs.values.Tickets.{Held, tickets}
+use Rattle.rules_code.specs.steps.Stack.{Part, Replaced, behind, comb, pair_step, passing, part_at, replaced}
 use Rattle.mich_step.specs.Parts.{IsPart, IsReplaced}
 
 some_there : {A B : Type 0} (f : A → B) (o : Option A) → is_some (option_map f o) ≡ true → is_some o ≡ true

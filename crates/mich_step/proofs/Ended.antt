@@ -1,7 +1,7 @@
 -- What is kept ends so.
 use Rattle.std.proofs.Common.{Result, Ok, Err, List, []}
-use Rattle.rules_values.specs.Val.{Val}
-use Rattle.rules_steps.specs.Step.{Step}
+use Rattle.rules_data.specs.values.Val.{Val}
+use Rattle.rules_code.specs.steps.Step.{Step}
 use Rattle.mich_stack.specs.Ends.{IsKept, IsEnd}
 use Rattle.mich_stack.specs.declared.error.StepError.{StepError}
 use Rattle.mich_stack.specs.declared.error.StepError.TheVariants.{Failed, Memory}

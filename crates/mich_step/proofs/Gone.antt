@@ -1,12 +1,12 @@
 -- What DROP burns.
 use Rattle.std.proofs.Common.{◌≡◌, arith, ℕ, suc, ◌+◌, ◌≤◌, Bool, true, false, nat_le, take, drop, length, List, ◌∷◌, ◌++◌, flat_map, refl, ap, sym, ◌∙◌}
 use Rattle.std.proofs.lemmas.Bool.Decides.{nat_tests}
-use Rattle.rules_values.specs.Val.{Val}
-use Rattle.rules_values.specs.Tickets.{tickets}
-use Rattle.rules_instructions.specs.Straight as i
-use Rattle.rules_steps.specs.Changes.{burns}
-use Rattle.rules_steps.specs.Step.{done, discarding, where_true}
-use Rattle.rules_steps.specs.Stack.{stack_step}
+use Rattle.rules_data.specs.values.Val.{Val}
+use Rattle.rules_data.specs.values.Tickets.{tickets}
+use Rattle.rules_code.specs.instructions.Straight as i
+use Rattle.rules_code.specs.steps.Changes.{burns}
+use Rattle.rules_code.specs.steps.Step.{done, discarding, where_true}
+use Rattle.rules_code.specs.steps.Stack.{stack_step}
 use Rattle.mich_term.specs.declared.value.Value.{Value}
 use Rattle.mich_stack.specs.Ends.{Fits, IsFitting, gone}
 use Rattle.mich_stack.specs.Views.{Sight, values}

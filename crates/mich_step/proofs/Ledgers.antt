@@ -3,8 +3,8 @@ use Rattle.std.proofs.Common.{◌≡◌, List, [], ◌∷◌, ◌++◌, map, app
 use Rattle.std.specs.Prelude.{ℤ, pos}
 use Rattle.std.proofs.lemmas.Int.{ints}
 use Rattle.std.proofs.lemmas.List.{append-nil, map-append}
-use Rattle.rules_values.specs.Tickets.{Identity, Held}
-use Rattle.rules_steps.specs.Changes.{burnt, burns, amount_among, minted_in, burnt_in}
+use Rattle.rules_data.specs.values.Tickets.{Identity, Held}
+use Rattle.rules_code.specs.steps.Changes.{burnt, burns, amount_among, minted_in, burnt_in}
 use Rattle.mich_term.specs.TicketView.{held}
 use Rattle.mich_term.specs.declared.ticket.Ticket.{Ticket}
 use Rattle.mich_tickets.specs.Books.{State}

@@ -8,3 +8,5 @@ pub mod Splitting
 pub mod Suiting
 pub mod Taken
 pub mod ForCallers
+pub mod collections_lemmas
+pub mod prices_lemmas

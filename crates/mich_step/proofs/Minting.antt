@@ -3,17 +3,17 @@ use Rattle.std.proofs.Common.{◌≡◌, ℕ, zero, suc, ◌-◌, ◌^◌, ◌�
 use Rattle.std.specs.Prelude.{ℤ, pos, negsuc, ◌+ℤ◌, ◌≤ℤ◌, ◌<ℤ◌, int_le, unsigned_abs, if◌then◌else◌, Ok, Err, Some, None}
 use Rattle.std.proofs.lemmas.Bool.Decides.{nat_tests}
 use Rattle.std.proofs.lemmas.Int.{ints}
-use Rattle.rules_base.specs.Limits.{most_minted}
-use Rattle.rules_forms.specs.Spelling.{contract_place}
-use Rattle.rules_types.specs.Kind.{Kind}
-use Rattle.rules_values.specs.Val.{Val, number, some}
-use Rattle.rules_values.specs.Tickets.{Identity, Held}
-use Rattle.rules_instructions.specs.Straight as i
-use Rattle.rules_steps.specs.Changes.{minted, identity_of}
-use Rattle.rules_steps.specs.Environment.{Environment}
-use Rattle.rules_steps.specs.Failure as f
-use Rattle.rules_steps.specs.Step.{Step, done, fails}
-use Rattle.rules_steps.specs.TicketSteps.{as_value, ticket_step, ticket_step_of}
+use Rattle.rules_text.specs.nodes.Limits.{most_minted}
+use Rattle.rules_data.specs.forms.Spelling.{contract_place}
+use Rattle.rules_data.specs.types.Kind.{Kind}
+use Rattle.rules_data.specs.values.Val.{Val, number, some}
+use Rattle.rules_data.specs.values.Tickets.{Identity, Held}
+use Rattle.rules_code.specs.instructions.Straight as i
+use Rattle.rules_code.specs.steps.Changes.{minted, identity_of}
+use Rattle.rules_code.specs.steps.Environment.{Environment}
+use Rattle.rules_code.specs.steps.Failure as f
+use Rattle.rules_code.specs.steps.Step.{Step, done, fails}
+use Rattle.rules_code.specs.steps.TicketSteps.{as_value, ticket_step, ticket_step_of}
 use Rattle.mich_base.specs.TypeView.{kind}
 use Rattle.mich_forms.specs.Spelled.{place_bytes}
 use Rattle.mich_term.specs.TicketView.{held}

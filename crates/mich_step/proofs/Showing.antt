@@ -3,18 +3,18 @@ use Rattle.std.proofs.Common.{◌≡◌, ℕ, zero, suc, Bool, true, false, List
 use Rattle.std.specs.Prelude.{pos, ◌-◌, Option, Some, None, Result, Ok, Err, option_map, option_to_list, if◌then◌else◌, nat_le, slice_get, insert, remove}
 use Rattle.std.specs.Ordering.{is_eq, nat_cmp, ordering_then}
 use Rattle.std.proofs.lemmas.List.{map-append}
-use Rattle.rules_numbers.specs.Limits.{Limit, int_or_limit}
-use Rattle.rules_values.specs.Val.{Val, truth, number, nothing, some, left, right, both, list, set, table, big_table, Vals, no_val, more_vals, Pairs, no_pair, more_pairs}
-use Rattle.rules_values.specs.Order.{order, form}
-use Rattle.rules_values.specs.Tables.{value_at}
-use Rattle.rules_values.specs.Tickets.{Held, tickets, all_tickets, pair_tickets}
-use Rattle.rules_instructions.specs.Straight.{StackRow, PairRow, CollectionRow}
-use Rattle.rules_instructions.specs.Straight as i
-use Rattle.rules_steps.specs.Changes.{burns}
-use Rattle.rules_steps.specs.Step.{Step, discarding, kept, on_some, where_true, within_limit}
-use Rattle.rules_steps.specs.Sets.{element_count, entry_count}
-use Rattle.rules_steps.specs.Stack.{Part, Replaced, stack_step, pair_step, comb, parts, part_at, passing, replaced, behind}
-use Rattle.rules_steps.specs.Collections.{collection_step, on_option, updated, exchanged}
+use Rattle.rules_data.specs.numbers.Limits.{Limit, int_or_limit}
+use Rattle.rules_data.specs.values.Val.{Val, truth, number, nothing, some, left, right, both, list, set, table, big_table, Vals, no_val, more_vals, Pairs, no_pair, more_pairs}
+use Rattle.rules_data.specs.values.Order.{order, form}
+use Rattle.rules_data.specs.values.Tables.{value_at}
+use Rattle.rules_data.specs.values.Tickets.{Held, tickets, all_tickets, pair_tickets}
+use Rattle.rules_code.specs.instructions.Straight.{StackRow, PairRow, CollectionRow}
+use Rattle.rules_code.specs.instructions.Straight as i
+use Rattle.rules_code.specs.steps.Changes.{burns}
+use Rattle.rules_code.specs.steps.Step.{Step, discarding, kept, on_some, where_true, within_limit}
+use Rattle.rules_code.specs.steps.Sets.{element_count, entry_count}
+use Rattle.rules_code.specs.steps.Stack.{Part, Replaced, stack_step, pair_step, comb, parts, part_at, passing, replaced, behind}
+use Rattle.rules_code.specs.steps.Collections.{collection_step, on_option, updated, exchanged}
 use Rattle.mich_overload.specs.Steps.{is_on_big_map}
 use Rattle.mich_step.specs.Shown.{as_entries, shown, all_shown, entries_shown}
 use Rattle.mich_step.specs.Tells.{changes_of}

@@ -1,13 +1,13 @@
 -- Tickets that are split and joined.
 use Rattle.std.proofs.Common.{◌≡◌, Result, Ok, Err, List, [], ◌∷◌, sym, ap, ◌∙◌, subst}
 use Rattle.std.specs.Prelude.{IfOk, ℤ, ◌+ℤ◌, Option, Some, None, option_map, if◌then◌else◌}
-use Rattle.rules_values.specs.Val.{Val, number, nothing, some, both, ticket}
-use Rattle.rules_values.specs.Tickets.{Identity}
-use Rattle.rules_instructions.specs.Straight as i
-use Rattle.rules_steps.specs.Changes.{Change}
-use Rattle.rules_steps.specs.Environment.{Environment}
-use Rattle.rules_steps.specs.Step.{Step, done, kept, discarding, optional}
-use Rattle.rules_steps.specs.TicketSteps.{as_value, ticket_step}
+use Rattle.rules_data.specs.values.Val.{Val, number, nothing, some, both, ticket}
+use Rattle.rules_data.specs.values.Tickets.{Identity}
+use Rattle.rules_code.specs.instructions.Straight as i
+use Rattle.rules_code.specs.steps.Changes.{Change}
+use Rattle.rules_code.specs.steps.Environment.{Environment}
+use Rattle.rules_code.specs.steps.Step.{Step, done, kept, discarding, optional}
+use Rattle.rules_code.specs.steps.TicketSteps.{as_value, ticket_step}
 use Rattle.mich_term.specs.TicketView.{held}
 use Rattle.mich_term.specs.declared.ticket.Ticket.{Ticket}
 use Rattle.mich_tickets.specs.Answers.{IsSplit, IsJoin}

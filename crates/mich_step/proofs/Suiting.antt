@@ -1,12 +1,12 @@
 -- What instructions ask of fitting values besides holds of stacks that show the same alike.
 use Rattle.std.proofs.Common.{◌≡◌, ℕ, zero, suc, ◌&&◌, List, [], ◌∷◌, map, refl, sym, ◌∙◌, subst}
 use Rattle.std.specs.Prelude.{◌-◌, Option, Some, None, option_map, slice_get, IfSome}
-use Rattle.rules_values.specs.Val.{Val, number, some, left, right, both, ticket, is_comparable}
-use Rattle.rules_values.specs.Tickets.{tickets}
-use Rattle.rules_instructions.specs.Straight.{Straight, StackRow, CollectionRow, NumberRow, TicketRow, on_stack, on_collections, on_numbers, on_tickets}
-use Rattle.rules_instructions.specs.Straight as i
+use Rattle.rules_data.specs.values.Val.{Val, number, some, left, right, both, ticket, is_comparable}
+use Rattle.rules_data.specs.values.Tickets.{tickets}
+use Rattle.rules_code.specs.instructions.Straight.{Straight, StackRow, CollectionRow, NumberRow, TicketRow, on_stack, on_collections, on_numbers, on_tickets}
+use Rattle.rules_code.specs.instructions.Straight as i
 use Rattle.mich_stack.specs.Keys.{IsKeyOnTop}
-use Rattle.mich_collections.specs.Keys.{SuitsCollections}
+use Rattle.mich_step.specs.collections.Keys.{SuitsCollections}
 use Rattle.mich_step.specs.Ends.{SuitsStack, SuitsNumbers}
 use Rattle.mich_step.specs.Rule.{Suits, SuitsTickets}
 use Rattle.mich_step.specs.Shown.{shown}

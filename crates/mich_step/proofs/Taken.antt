@@ -6,18 +6,18 @@ use Rattle.std.specs.Ordering.{is_eq}
 use Rattle.std.proofs.lemmas.Int.{ints}
 use Rattle.std.proofs.lemmas.List.{append-nil, take-append-drop}
 use Rattle.std.proofs.Common.{append_assoc}
-use Rattle.rules_numbers.specs.Limits.{Limit, int_or_limit}
-use Rattle.rules_values.specs.Val.{Val, truth, number, nothing, some, both, list, set, table, big_table, Pairs, no_pair, more_pairs}
-use Rattle.rules_values.specs.Order.{order}
-use Rattle.rules_values.specs.Tables.{value_at}
-use Rattle.rules_values.specs.Tickets.{Identity, Held, tickets, pair_tickets}
-use Rattle.rules_instructions.specs.Straight.{StackRow, PairRow, CollectionRow, TicketRow}
-use Rattle.rules_instructions.specs.Straight as i
-use Rattle.rules_steps.specs.Changes.{amount_among}
-use Rattle.rules_steps.specs.Step.{Step, discarding, kept, on_some, where_true, within_limit}
-use Rattle.rules_steps.specs.Sets.{element_count, entry_count}
-use Rattle.rules_steps.specs.Stack.{Part, Replaced, stack_step, pair_step, comb, parts, part_at, passing, replaced, behind}
-use Rattle.rules_steps.specs.Collections.{collection_step, on_option, updated, exchanged, map_with}
+use Rattle.rules_data.specs.numbers.Limits.{Limit, int_or_limit}
+use Rattle.rules_data.specs.values.Val.{Val, truth, number, nothing, some, both, list, set, table, big_table, Pairs, no_pair, more_pairs}
+use Rattle.rules_data.specs.values.Order.{order}
+use Rattle.rules_data.specs.values.Tables.{value_at}
+use Rattle.rules_data.specs.values.Tickets.{Identity, Held, tickets, pair_tickets}
+use Rattle.rules_code.specs.instructions.Straight.{StackRow, PairRow, CollectionRow, TicketRow}
+use Rattle.rules_code.specs.instructions.Straight as i
+use Rattle.rules_code.specs.steps.Changes.{amount_among}
+use Rattle.rules_code.specs.steps.Step.{Step, discarding, kept, on_some, where_true, within_limit}
+use Rattle.rules_code.specs.steps.Sets.{element_count, entry_count}
+use Rattle.rules_code.specs.steps.Stack.{Part, Replaced, stack_step, pair_step, comb, parts, part_at, passing, replaced, behind}
+use Rattle.rules_code.specs.steps.Collections.{collection_step, on_option, updated, exchanged, map_with}
 use Rattle.mich_stack.specs.Ends.{gone}
 use Rattle.mich_stack.proofs.ForCallers.{burnt_among_burns}
 use Rattle.mich_tickets.specs.Books.{Books}

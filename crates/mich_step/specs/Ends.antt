@@ -1,9 +1,9 @@
 -- What instructions ask of fitting values besides.
 use Rattle.std.specs.Prelude.{◌≡◌, ◌-◌, pos, ◌≤ℤ◌, List, [], ◌∷◌, slice_get, IfSome}
-use Rattle.rules_values.specs.Val.{Val, number}
-use Rattle.rules_values.specs.Tickets.{tickets}
-use Rattle.rules_instructions.specs.Straight.{StackRow, NumberRow}
-use Rattle.rules_instructions.specs.Straight as i
+use Rattle.rules_data.specs.values.Val.{Val, number}
+use Rattle.rules_data.specs.values.Tickets.{tickets}
+use Rattle.rules_code.specs.instructions.Straight.{StackRow, NumberRow}
+use Rattle.rules_code.specs.instructions.Straight as i
 
 -- what DUP asks of fitting values besides: what is copied holds no ticket
 abbrev pub SuitsStack : StackRow → List Val → Type 0

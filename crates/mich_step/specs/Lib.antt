@@ -4,3 +4,5 @@ pub mod Rule
 pub mod Shown
 pub mod Tells
 pub mod Views
+pub mod collections
+pub mod prices

@@ -1,8 +1,8 @@
 -- Parts of pairs and combs.
 use Rattle.std.specs.Prelude.{◌≡◌, List, ◌∷◌, ◌++◌, Option, Some, None, flat_map}
-use Rattle.rules_values.specs.Val.{Val, number, both, ticket}
-use Rattle.rules_values.specs.Tickets.{Held, tickets}
-use Rattle.rules_steps.specs.Stack.{Part, Replaced}
+use Rattle.rules_data.specs.values.Val.{Val, number, both, ticket}
+use Rattle.rules_data.specs.values.Tickets.{Held, tickets}
+use Rattle.rules_code.specs.steps.Stack.{Part, Replaced}
 
 abbrev pub IsPair : Val → Type 0
 IsPair (both v w) = Unit {0}

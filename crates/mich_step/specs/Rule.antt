@@ -1,19 +1,19 @@
 -- The rules of the instructions that ask for nothing but the stack, the tickets and what surrounds the run, and what they ask of
 -- fitting values besides (Michelson reference, "Instructions").
 use Rattle.std.specs.Prelude.{◌≡◌, ℤ, ◌+ℤ◌, ◌≤ℤ◌, true, false, List, [], ◌∷◌}
-use Rattle.rules_base.specs.Limits.{most_minted}
-use Rattle.rules_forms.specs.Spelling.{implicit_place}
-use Rattle.rules_values.specs.Val.{Val, bytes, both, ticket}
-use Rattle.rules_values.specs.Tickets.{Identity, Held, tickets}
-use Rattle.rules_instructions.specs.Straight.{Straight, OperationRow, TicketRow, on_stack, on_pairs, on_collections, on_numbers, on_operations, on_tickets}
-use Rattle.rules_instructions.specs.Straight as i
-use Rattle.rules_steps.specs.Environment.{Environment}
-use Rattle.rules_steps.specs.Changes.{is_alike}
-use Rattle.rules_steps.specs.Step.{Step, wrong, kept}
-use Rattle.rules_steps.specs.Steps.{step}
+use Rattle.rules_text.specs.nodes.Limits.{most_minted}
+use Rattle.rules_data.specs.forms.Spelling.{implicit_place}
+use Rattle.rules_data.specs.values.Val.{Val, bytes, both, ticket}
+use Rattle.rules_data.specs.values.Tickets.{Identity, Held, tickets}
+use Rattle.rules_code.specs.instructions.Straight.{Straight, OperationRow, TicketRow, on_stack, on_pairs, on_collections, on_numbers, on_operations, on_tickets}
+use Rattle.rules_code.specs.instructions.Straight as i
+use Rattle.rules_code.specs.steps.Environment.{Environment}
+use Rattle.rules_code.specs.steps.Changes.{is_alike}
+use Rattle.rules_code.specs.steps.Step.{Step, wrong, kept}
+use Rattle.rules_code.specs.steps.Steps.{step}
 use Rattle.mich_stack.specs.Ends.{gone}
 use Rattle.mich_stack.specs.Keys.{IsKeyOnTop}
-use Rattle.mich_collections.specs.Keys.{SuitsCollections}
+use Rattle.mich_step.specs.collections.Keys.{SuitsCollections}
 use Rattle.mich_step.specs.Ends.{SuitsStack, SuitsNumbers}
 
 -- an address without an entrypoint is a place, and that of a contract is the contract (Michelson reference, "Operations on contracts")

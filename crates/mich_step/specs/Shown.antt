@@ -1,8 +1,8 @@
 -- What an instruction that isn't one on big maps sees of a big map: the tickets in it.
 use Rattle.std.specs.Prelude.{◌≡◌, List, [], ◌∷◌, map}
-use Rattle.rules_values.specs.Val.{Val, unit, some, left, right, both, list, table, big_table, Vals, no_val, more_vals, Pairs, no_pair, more_pairs}
-use Rattle.rules_values.specs.Tickets.{Held, pair_tickets}
-use Rattle.rules_steps.specs.TicketSteps.{as_value}
+use Rattle.rules_data.specs.values.Val.{Val, unit, some, left, right, both, list, table, big_table, Vals, no_val, more_vals, Pairs, no_pair, more_pairs}
+use Rattle.rules_data.specs.values.Tickets.{Held, pair_tickets}
+use Rattle.rules_code.specs.steps.TicketSteps.{as_value}
 use Rattle.mich_term.specs.declared.value.Value.{Value}
 use Rattle.mich_stack.specs.Views.{Sight, values, plain}
 

@@ -1,9 +1,9 @@
 -- How instructions that may change what a ledger tells end.
 use Rattle.std.specs.Prelude.{◌≡◌, List, [], ◌∷◌, Option, Some, None, option_map, Result, Ok, Err}
-use Rattle.rules_values.specs.Val.{Val}
-use Rattle.rules_steps.specs.Changes.{Change, burnt}
-use Rattle.rules_steps.specs.Step.{Step, done, fails, wrong, optional}
-use Rattle.rules_steps.specs.TicketSteps.{as_value}
+use Rattle.rules_data.specs.values.Val.{Val}
+use Rattle.rules_code.specs.steps.Changes.{Change, burnt}
+use Rattle.rules_code.specs.steps.Step.{Step, done, fails, wrong, optional}
+use Rattle.rules_code.specs.steps.TicketSteps.{as_value}
 use Rattle.mich_term.specs.TicketView.{held}
 use Rattle.mich_term.specs.declared.ticket.Ticket.{Ticket}
 use Rattle.mich_tickets.specs.Books.{State}

@@ -1,6 +1,6 @@
 -- The surroundings that those of the code stand for.
 use Rattle.mich_forms.specs.Spelled.{place_bytes}
-use Rattle.rules_steps.specs.Environment.{Environment}
+use Rattle.rules_code.specs.steps.Environment.{Environment}
 use Rattle.mich_step.specs.declared.environment.Env.{Env}
 
 -- where and for whom the code runs

@@ -1,25 +1,25 @@
 // Groups of instructions that burn tickets, over the ledger.
 ghost use Rattle.std.specs.Prelude.{◌≡◌, [], false, IfOk, map};
-ghost use Rattle.mich_undo.specs.History.{Keeps as KeepsBooks};
-ghost use Rattle.rules_steps.specs.Changes.{burns};
-ghost use Rattle.rules_steps.specs.Collections.{collection_step};
-ghost use Rattle.rules_steps.specs.Stack.{pair_step, stack_step};
+ghost use Rattle.mich_base.specs.undo.History.{Keeps as KeepsBooks};
+ghost use Rattle.rules_code.specs.steps.Changes.{burns};
+ghost use Rattle.rules_code.specs.steps.Collections.{collection_step};
+ghost use Rattle.rules_code.specs.steps.Stack.{pair_step, stack_step};
 ghost use Rattle.mich_overload.specs.View.{collection_row, pair_row, stack_row};
 ghost use Rattle.mich_overload.specs.Steps.{is_on_big_map};
 ghost use Rattle.mich_term.specs.TicketView.{held};
 ghost use Rattle.mich_stack.specs.Views.{Sight, values, plain};
 ghost use Rattle.mich_stack.specs.Ends.{Fits, gone};
-ghost use Rattle.mich_collections.specs.Keys.{SuitsCollections};
+ghost use Rattle.mich_step.specs.collections.Keys.{SuitsCollections};
 ghost use Rattle.mich_tickets.specs.Effects.{Tells};
 ghost use Rattle.mich_tickets.specs.Limits.{IsReady};
 ghost use Rattle.mich_step.specs.Ends.{SuitsStack};
 ghost use Rattle.mich_step.specs.Shown.{ShowsTickets};
 ghost use Rattle.mich_step.specs.Tells.{changes_of, Steps};
 
+use crate::collections::collection_step;
 use crate::order::stack_step;
 use crate::pairs::pair_step;
 use mich_base::{Memory, Rows};
-use mich_collections::collection_step;
 use mich_overload::{CollectionRow, PairRow, StackRow};
 use mich_stack::StepError;
 use mich_term::{Ticket, Value};
@@ -28,7 +28,7 @@ use std::alloc::Global;
 
 /// Burns tickets, the first before those behind it. After Memory the ledger is given up, and what was written to it can be taken back
 /// (Octez "Tickets").
-#[tactic(auto, using(mich_undo::proofs::ForCallers::keeps_same, mich_undo::proofs::ForCallers::keeps_trans, crate::proofs::Ledgers::tells_same))]
+#[tactic(auto, using(mich_base::proofs::undo_lemmas::ForCallers::keeps_same, mich_base::proofs::undo_lemmas::ForCallers::keeps_trans, crate::proofs::Ledgers::tells_same))]
 pub fn burn_all(alloc: Global, ledger: &mut Ledger, tickets: Rows<Ticket>) -> Result<(), Memory>
     requires { IsReady ledger.old.books.present (map held tickets) }
     ensures tells { IfOk result (λ _. Tells (burns (map held tickets)) ledger.old ledger.new) }
@@ -49,7 +49,7 @@ fn collector(alloc: Global) -> Collector
     }
 }
 
-#[tactic(auto, using(mich_undo::proofs::ForCallers::keeps_same))]
+#[tactic(auto, using(mich_base::proofs::undo_lemmas::ForCallers::keeps_same))]
 pub(crate) fn order(
     alloc: Global,
     row: &StackRow,
@@ -73,7 +73,7 @@ pub(crate) fn order(
     }
 }
 
-#[tactic(auto, using(mich_undo::proofs::ForCallers::keeps_same))]
+#[tactic(auto, using(mich_base::proofs::undo_lemmas::ForCallers::keeps_same))]
 pub(crate) fn pairs(
     alloc: Global,
     row: &PairRow,
@@ -96,7 +96,7 @@ pub(crate) fn pairs(
     }
 }
 
-#[tactic(auto, using(mich_undo::proofs::ForCallers::keeps_same))]
+#[tactic(auto, using(mich_base::proofs::undo_lemmas::ForCallers::keeps_same))]
 pub(crate) fn collections(
     alloc: Global,
     row: &CollectionRow,

@@ -1,7 +1,7 @@
 // One instruction without bodies.
 ghost use Rattle.std.specs.Prelude.{◌≡◌, ℤ, true, flat_map, IfOk};
-ghost use Rattle.mich_undo.specs.History.{Keeps as KeepsBooks};
-ghost use Rattle.rules_values.specs.Tickets.{Identity, tickets};
+ghost use Rattle.mich_base.specs.undo.History.{Keeps as KeepsBooks};
+ghost use Rattle.rules_data.specs.values.Tickets.{Identity, tickets};
 ghost use Rattle.mich_overload.specs.Steps.{in_step};
 ghost use Rattle.mich_overload.specs.View.{straight};
 ghost use Rattle.mich_stack.specs.Views.{Sight, values, plain};
@@ -15,6 +15,7 @@ ghost use Rattle.mich_step.specs.Tells.{changes_of, Steps};
 ghost use Rattle.mich_step.specs.Views.{environment};
 
 use crate::burning::{collections, order, pairs};
+use crate::collections::text_step;
 use crate::environment::{Env, environment_step};
 use crate::logic::logic_step;
 use crate::numbers::number_step;
@@ -22,7 +23,6 @@ use crate::operations::operation_step;
 use crate::tickets::ticket_step;
 use crate::unions::union_step;
 use mich_base::Rows;
-use mich_collections::text_step;
 use mich_overload::Simple;
 use mich_stack::StepError;
 use mich_term::Value;
@@ -52,7 +52,7 @@ fn quiet(alloc: Global, instr: &Simple, stack: &mut Rows<Value>, env: &Env) -> R
 /// What an instruction without bodies makes of a stack and of a ledger of tickets, where and for whom code runs. Failed exactly
 /// where its rule fails; after that and after Memory stack and ledger are given up, and what was written to the ledger can be taken
 /// back. Not for instructions that pack, hash, look up or issue, or work on big maps (Michelson reference, "Instructions").
-#[tactic(auto, using(mich_undo::proofs::ForCallers::keeps_same, crate::proofs::Ledgers::tells_same))]
+#[tactic(auto, using(mich_base::proofs::undo_lemmas::ForCallers::keeps_same, crate::proofs::Ledgers::tells_same))]
 pub fn step(
     alloc: Global,
     instr: &Simple,

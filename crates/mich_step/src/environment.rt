@@ -1,8 +1,8 @@
 // What surrounds a run.
 ghost use Rattle.std.specs.Prelude.{◌≡◌, IfOk};
 ghost use Rattle.mich_forms.specs.Spelled.{place_bytes};
-ghost use Rattle.rules_values.specs.Val.{bytes};
-ghost use Rattle.rules_steps.specs.Reading.{environment_step, reading};
+ghost use Rattle.rules_data.specs.values.Val.{bytes};
+ghost use Rattle.rules_code.specs.steps.Reading.{environment_step, reading};
 ghost use Rattle.mich_overload.specs.View.{environment_row};
 ghost use Rattle.mich_stack.specs.Views.{Sight, seen};
 ghost use Rattle.mich_step.specs.Views.{environment};

@@ -2,6 +2,7 @@
 #![tactic(auto)]
 
 mod burning;
+pub mod collections;
 mod dispatching;
 mod environment;
 mod logic;
@@ -9,6 +10,7 @@ mod numbers;
 mod operations;
 mod order;
 mod pairs;
+pub mod prices;
 mod tickets;
 mod unions;
 

@@ -1,8 +1,8 @@
 // Truth values, bits and comparison.
 ghost use Rattle.std.specs.Prelude.{◌≡◌};
-ghost use Rattle.rules_instructions.specs.Straight as i;
-ghost use Rattle.rules_values.specs.Order.{order};
-ghost use Rattle.rules_steps.specs.Numbers.{comparison, logic_step};
+ghost use Rattle.rules_code.specs.instructions.Straight as i;
+ghost use Rattle.rules_data.specs.values.Order.{order};
+ghost use Rattle.rules_code.specs.steps.Numbers.{comparison, logic_step};
 ghost use Rattle.mich_overload.specs.View.{logic_row};
 ghost use Rattle.mich_stack.specs.Views.{Sight, seen};
 ghost use Rattle.mich_stack.specs.Ends.{Fits, Keeps};

@@ -1,9 +1,9 @@
 // Arithmetic.
 ghost use Rattle.std.specs.Prelude.{◌≡◌, ◌<◌, ◌≤ℤ◌, ◌^◌, pos, drop, IfOk, IfSome, unsigned_abs, option_map, ◌*◌};
-ghost use Rattle.rules_numbers.specs.Limits.{mutez_or_limit};
-ghost use Rattle.rules_instructions.specs.Straight as i;
-ghost use Rattle.rules_steps.specs.Step.{Step, within_limit};
-ghost use Rattle.rules_steps.specs.Numbers.{give_amount, natural, number_step, quotient};
+ghost use Rattle.rules_data.specs.numbers.Limits.{mutez_or_limit};
+ghost use Rattle.rules_code.specs.instructions.Straight as i;
+ghost use Rattle.rules_code.specs.steps.Step.{Step, within_limit};
+ghost use Rattle.rules_code.specs.steps.Numbers.{give_amount, natural, number_step, quotient};
 ghost use Rattle.mich_num.specs.View.{limited};
 ghost use Rattle.mich_overload.specs.View.{number_row};
 ghost use Rattle.mich_stack.specs.Views.{Sight, seen, values, plain};
@@ -109,7 +109,7 @@ fn size(x: i128) -> u128
 }
 
 // A number as an amount of mutez.
-#[tactic(auto, unfolding(rules_numbers::specs::Limits::mutez_or_limit))]
+#[tactic(auto, unfolding(rules_data::specs::numbers::Limits::mutez_or_limit))]
 fn amount(n: u128) -> Result<u64, NumFault>
     ensures { limited result ≡ mutez_or_limit n }
 {

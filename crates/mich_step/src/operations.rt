@@ -1,9 +1,9 @@
 // Addresses of contracts.
 ghost use Rattle.std.specs.Prelude.{◌≡◌, true, IfOk};
-ghost use Rattle.rules_forms.specs.Spelling.{implicit_place};
-ghost use Rattle.rules_instructions.specs.Straight as i;
-ghost use Rattle.rules_instructions.specs.Straight.{on_operations};
-ghost use Rattle.rules_values.specs.Val.{bytes};
+ghost use Rattle.rules_data.specs.forms.Spelling.{implicit_place};
+ghost use Rattle.rules_code.specs.instructions.Straight as i;
+ghost use Rattle.rules_code.specs.instructions.Straight.{on_operations};
+ghost use Rattle.rules_data.specs.values.Val.{bytes};
 ghost use Rattle.mich_overload.specs.Steps.{in_step};
 ghost use Rattle.mich_overload.specs.View.{operation_row};
 ghost use Rattle.mich_stack.specs.Views.{Sight, seen};

@@ -1,10 +1,10 @@
 // The order of the stack.
 ghost use Rattle.std.specs.Prelude.{◌≡◌, ◌≤◌, ◌-◌, ◌<◌, [], ◌∷◌, ◌++◌, List, length, take, drop, remove, insert, IfOk, flat_map};
-ghost use Rattle.rules_instructions.specs.Straight as i;
-ghost use Rattle.rules_values.specs.Tickets.{Held, tickets};
+ghost use Rattle.rules_code.specs.instructions.Straight as i;
+ghost use Rattle.rules_data.specs.values.Tickets.{Held, tickets};
 ghost use Rattle.mich_term.specs.ValueView.{val};
 ghost use Rattle.mich_stack.specs.Views.{Sight, seen, values, plain};
-ghost use Rattle.rules_steps.specs.Stack.{stack_step};
+ghost use Rattle.rules_code.specs.steps.Stack.{stack_step};
 ghost use Rattle.mich_base.specs.TypeView.{kind};
 ghost use Rattle.mich_overload.specs.View.{stack_row};
 ghost use Rattle.mich_stack.specs.Ends.{Fits, Keeps, Ends, gone};

@@ -1,9 +1,9 @@
 // Pairs, and combs of pairs.
 ghost use Rattle.std.specs.Prelude.{◌≡◌, ◌∷◌, ◌++◌, List, drop, IfOk, Some, is_some, true, option_map};
-ghost use Rattle.rules_instructions.specs.Straight as i;
-ghost use Rattle.rules_values.specs.Tickets.{Held, tickets};
-ghost use Rattle.rules_values.specs.Val.{both};
-ghost use Rattle.rules_steps.specs.Stack.{comb, pair_step, part_at, parts, replaced};
+ghost use Rattle.rules_code.specs.instructions.Straight as i;
+ghost use Rattle.rules_data.specs.values.Tickets.{Held, tickets};
+ghost use Rattle.rules_data.specs.values.Val.{both};
+ghost use Rattle.rules_code.specs.steps.Stack.{comb, pair_step, part_at, parts, replaced};
 ghost use Rattle.mich_overload.specs.View.{pair_row};
 ghost use Rattle.mich_stack.specs.Views.{Sight, seen, values, plain};
 ghost use Rattle.mich_stack.specs.Ends.{Fits, Keeps, Ends, gone};

@@ -1,12 +1,12 @@
 // Tickets.
 ghost use Rattle.std.specs.Prelude.{◌≡◌, ℤ, pos, ◌+ℤ◌, ◌≤ℤ◌, ◌∷◌, List, IfOk, option_map, unsigned_abs};
-ghost use Rattle.mich_undo.specs.History.{Keeps as KeepsBooks};
-ghost use Rattle.rules_values.specs.Val.{Val, number, bytes, both};
-ghost use Rattle.rules_values.specs.Tickets.{Identity};
-ghost use Rattle.rules_steps.specs.Environment.{Environment};
-ghost use Rattle.rules_instructions.specs.Straight as i;
-ghost use Rattle.rules_steps.specs.Step.{optional};
-ghost use Rattle.rules_steps.specs.TicketSteps.{as_value, ticket_step, ticket_step_of};
+ghost use Rattle.mich_base.specs.undo.History.{Keeps as KeepsBooks};
+ghost use Rattle.rules_data.specs.values.Val.{Val, number, bytes, both};
+ghost use Rattle.rules_data.specs.values.Tickets.{Identity};
+ghost use Rattle.rules_code.specs.steps.Environment.{Environment};
+ghost use Rattle.rules_code.specs.instructions.Straight as i;
+ghost use Rattle.rules_code.specs.steps.Step.{optional};
+ghost use Rattle.rules_code.specs.steps.TicketSteps.{as_value, ticket_step, ticket_step_of};
 ghost use Rattle.mich_base.specs.TypeView.{kind};
 ghost use Rattle.mich_forms.specs.Spelled.{place_bytes};
 ghost use Rattle.mich_overload.specs.View.{ticket_row};
@@ -48,7 +48,7 @@ fn optional_ticket(alloc: Global, ticket: Option<Ticket>) -> Result<Value, Memor
 }
 
 // Mints so many tickets. None where that is 0.
-#[tactic(auto, using(mich_undo::proofs::ForCallers::keeps_same, crate::proofs::Ledgers::tells_same, crate::proofs::Minting::minted_none, crate::proofs::Minting::minted_ok, crate::proofs::Minting::minted_failed))]
+#[tactic(auto, using(mich_base::proofs::undo_lemmas::ForCallers::keeps_same, crate::proofs::Ledgers::tells_same, crate::proofs::Minting::minted_none, crate::proofs::Minting::minted_ok, crate::proofs::Minting::minted_failed))]
 fn mint_tickets(
     alloc: Global,
     ledger: &mut Ledger,
@@ -70,7 +70,7 @@ fn mint_tickets(
     }
 }
 
-#[tactic(auto, using(mich_undo::proofs::ForCallers::keeps_same, crate::proofs::Minting::mint_is))]
+#[tactic(auto, using(mich_base::proofs::undo_lemmas::ForCallers::keeps_same, crate::proofs::Minting::mint_is))]
 fn mint(
     alloc: Global,
     env: &Env,
@@ -237,7 +237,7 @@ fn join_tickets(
 
 // What minting, reading, splitting and joining tickets makes of a stack and of a ledger. IntegerLimit exactly where so many
 // tickets of an identity would ever have been minted that the total is over 2^127-1 (Michelson reference, "Operations on tickets").
-#[tactic(auto, using(mich_undo::proofs::ForCallers::keeps_same, crate::proofs::Ledgers::tells_same))]
+#[tactic(auto, using(mich_base::proofs::undo_lemmas::ForCallers::keeps_same, crate::proofs::Ledgers::tells_same))]
 pub(crate) fn ticket_step(
     alloc: Global,
     env: &Env,

@@ -1,7 +1,7 @@
 // Options, unions and lists.
 ghost use Rattle.std.specs.Prelude.{◌≡◌, ◌∷◌, IfOk};
-ghost use Rattle.rules_instructions.specs.Straight as i;
-ghost use Rattle.rules_steps.specs.Stack.{union_step};
+ghost use Rattle.rules_code.specs.instructions.Straight as i;
+ghost use Rattle.rules_code.specs.steps.Stack.{union_step};
 ghost use Rattle.mich_overload.specs.View.{union_row};
 ghost use Rattle.mich_stack.specs.Views.{Sight, seen, values};
 ghost use Rattle.mich_stack.specs.Ends.{Fits, Keeps};

@@ -1,6 +1,6 @@
 -- Two comparable values that are seen as one are equal.
 use Rattle.std.proofs.Common.{◌≡◌, sym, ap, ◌∙◌, subst}
-use Rattle.rules_values.specs.Val.{Val, truth, number, text, bytes, nothing, some, left, right, both}
+use Rattle.rules_data.specs.values.Val.{Val, truth, number, text, bytes, nothing, some, left, right, both}
 use Rattle.mich_term.specs.View.{datum, datum_step}
 use Rattle.mich_term.specs.declared.datum.Datum.{Datum, ind-Datum, fold-roll-Datum, roll-Datum, map-Datum}
 use Rattle.mich_term.specs.declared.datum.Datum.TheOpen.{Datum-F}

@@ -1,9 +1,9 @@
 -- What the order tells of values.
 use Rattle.std.proofs.Common.{◌≡◌, refl, ap}
-use Rattle.rules_values.specs.Val.{unit, truth, number, text, bytes, nothing, some, left, right, both, list, set, table, big_table, lambda, operation, ticket}
+use Rattle.rules_data.specs.values.Val.{unit, truth, number, text, bytes, nothing, some, left, right, both, list, set, table, big_table, lambda, operation, ticket}
 use Rattle.std.proofs.lemmas.Map.Lookups.{exact_signed, exact_bytes}
 use Rattle.mich_term.specs.Laws.{OrderIsLawful, EqualOrderMeansEqual}
-use Rattle.laws_values.proofs.ForCallers.{order_lawful, same_truth, first_equal, then_equal, first_true, then_true}
+use Rattle.laws_data.proofs.values_lemmas.ForCallers.{order_lawful, same_truth, first_equal, then_equal, first_true, then_true}
 
 pub lawful : OrderIsLawful
 lawful = order_lawful

@@ -1,8 +1,8 @@
 -- A big map is seen as the entries that its overlay puts, and the tickets among them.
 use Rattle.std.proofs.Common.{◌≡◌, ℕ, Bool, List, [], ◌∷◌, ◌++◌, refl, ap, ◌∙◌}
 use Rattle.std.specs.Prelude.{Option, Some, None}
-use Rattle.rules_values.specs.Val.{Val, Pairs, more_pairs}
-use Rattle.rules_values.specs.Tickets.{tickets, pair_tickets}
+use Rattle.rules_data.specs.values.Val.{Val, Pairs, more_pairs}
+use Rattle.rules_data.specs.values.Tickets.{tickets, pair_tickets}
 use Rattle.mich_term.specs.View.{datum}
 use Rattle.mich_term.specs.ValueView.{value_step, big_step, val, big_pairs, put_pairs}
 use Rattle.mich_term.specs.declared.datum.Datum.{Datum}

@@ -7,10 +7,10 @@ use Rattle.std.specs.Ordering.{match_ordering, is_eq, ordering_reverse}
 use Rattle.std.specs.Map.{keys_of}
 use Rattle.std.specs.List.{AllByRecursion}
 use Rattle.std.proofs.lemmas.Map.Keys.{sorted_head, sorted_tail}
-use Rattle.rules_values.specs.Val.{Val, Pairs, no_pair, more_pairs}
-use Rattle.rules_values.specs.Order.{order}
-use Rattle.laws_values.proofs.ForCallers.{order_lawful}
-use Rattle.rules_values.specs.Tables.{value_at, with_value, without_key, AreKeysAbove, AreIncreasingKeys}
+use Rattle.rules_data.specs.values.Val.{Val, Pairs, no_pair, more_pairs}
+use Rattle.rules_data.specs.values.Order.{order}
+use Rattle.laws_data.proofs.values_lemmas.ForCallers.{order_lawful}
+use Rattle.rules_data.specs.values.Tables.{value_at, with_value, without_key, AreKeysAbove, AreIncreasingKeys}
 use Rattle.mich_term.specs.Laws.{PutsIncreasing, TakesIncreasing}
 use Rattle.mich_term.specs.Keyed.{found, with, without, by, IsIncreasing}
 use Rattle.mich_term.specs.View.{datum}

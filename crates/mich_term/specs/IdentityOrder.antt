@@ -10,12 +10,12 @@ use Rattle.std.specs.Ordering.{nat_cmp, ordering_then, on, then_cmp}
 use Rattle.std.specs.Cmp.{IsTotalOrder, nat_cmp_is}
 use Rattle.std.specs.Cmp.Lexicographic.{slice_cmp}
 use Rattle.std.proofs.lemmas.Cmp.{on_total, then_total, nat_list_cmp_total}
-use Rattle.rules_types.specs.declared.Simple.{Simple}
-use Rattle.rules_types.specs.declared.Simple.TheVariants as s
-use Rattle.rules_types.specs.Kind.{Kind, simple, operation, option, or, pair, list, set, map, big_map, lambda, contract, ticket}
-use Rattle.rules_values.specs.Order.{order}
-use Rattle.rules_values.specs.Tickets.{Identity}
-use Rattle.laws_values.proofs.ForCallers.{order_lawful}
+use Rattle.rules_data.specs.declared.types.Simple.{Simple}
+use Rattle.rules_data.specs.declared.types.Simple.TheVariants as s
+use Rattle.rules_data.specs.types.Kind.{Kind, simple, operation, option, or, pair, list, set, map, big_map, lambda, contract, ticket}
+use Rattle.rules_data.specs.values.Order.{order}
+use Rattle.rules_data.specs.values.Tickets.{Identity}
+use Rattle.laws_data.proofs.values_lemmas.ForCallers.{order_lawful}
 
 abbrev pub simple_place : Simple → ℕ
 simple_place s.Unit = 0

@@ -8,7 +8,7 @@ use Rattle.std.specs.BTreeSet.{insert_key}
 use Rattle.std.specs.Set.{remove_key}
 use Rattle.std.specs.List.{list_any}
 use Rattle.mich_term.specs.declared.datum.Datum.{Datum}
-use Rattle.rules_values.specs.Order.{order}
+use Rattle.rules_data.specs.values.Order.{order}
 use Rattle.mich_term.specs.View.{datum}
 
 -- the order of keys

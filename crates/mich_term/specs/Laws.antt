@@ -2,9 +2,9 @@
 use Rattle.std.specs.Prelude.{◌≡◌, true}
 use Rattle.std.specs.declared.cmp.Ordering.TheVariants.{Equal}
 use Rattle.std.specs.Cmp.{IsTotalOrder}
-use Rattle.rules_values.specs.Val.{Val, is_comparable, Pairs}
-use Rattle.rules_values.specs.Order.{order}
-use Rattle.rules_values.specs.Tables.{with_value, without_key, AreIncreasingKeys}
+use Rattle.rules_data.specs.values.Val.{Val, is_comparable, Pairs}
+use Rattle.rules_data.specs.values.Order.{order}
+use Rattle.rules_data.specs.values.Tables.{with_value, without_key, AreIncreasingKeys}
 
 -- the order is total
 abbrev pub OrderIsLawful : Type 0

@@ -2,7 +2,7 @@
 use Rattle.std.specs.Prelude.{◌≡◌, true, false, Option, Some, None, is_some, []}
 use Rattle.std.specs.Map.{keys_of}
 use Rattle.std.specs.List.{AllByRecursion}
-use Rattle.rules_values.specs.Tickets.{pair_tickets}
+use Rattle.rules_data.specs.values.Tickets.{pair_tickets}
 use Rattle.mich_term.specs.Keyed.{IsIncreasing}
 use Rattle.mich_term.specs.ValueView.{put_pairs}
 use Rattle.mich_term.specs.declared.value.Value.{Value, every-Value}

@@ -1,5 +1,5 @@
 -- The tickets that tickets of the code stand for.
-use Rattle.rules_values.specs.Tickets.{Identity, Held}
+use Rattle.rules_data.specs.values.Tickets.{Identity, Held}
 use Rattle.mich_forms.specs.Spelled.{place_bytes}
 use Rattle.mich_base.specs.TypeView.{kind}
 use Rattle.mich_term.specs.View.{datum}

@@ -3,7 +3,7 @@ use Rattle.std.specs.Prelude.{Option, Some, None, option_map, List, [], ◌∷�
 use Rattle.mich_forms.specs.Spelled.{place_bytes}
 use Rattle.mich_base.specs.View.{tree}
 use Rattle.mich_base.specs.TypeView.{kind}
-use Rattle.rules_values.specs.Val.{Val, unit, truth, number, text, bytes, nothing, some, left, right, both, list, set, table, big_table, lambda, operation, ticket, Vals, Pairs, no_pair, more_pairs}
+use Rattle.rules_data.specs.values.Val.{Val, unit, truth, number, text, bytes, nothing, some, left, right, both, list, set, table, big_table, lambda, operation, ticket, Vals, Pairs, no_pair, more_pairs}
 use Rattle.mich_term.specs.View.{datum, datums, vals_of, pairs_of}
 use Rattle.mich_term.specs.declared.datum.Datum.{Datum}
 use Rattle.mich_term.specs.declared.value.Value.{Value, fold-Value}

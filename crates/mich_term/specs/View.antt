@@ -1,6 +1,6 @@
 -- The values that comparable values stand for.
 use Rattle.std.specs.Prelude.{List, [], ◌∷◌, map}
-use Rattle.rules_values.specs.Val.{Val, unit, truth, number, text, bytes, nothing, some, left, right, both, Vals, no_val, more_vals, Pairs, no_pair, more_pairs}
+use Rattle.rules_data.specs.values.Val.{Val, unit, truth, number, text, bytes, nothing, some, left, right, both, Vals, no_val, more_vals, Pairs, no_pair, more_pairs}
 use Rattle.mich_term.specs.declared.datum.Datum.{Datum, fold-Datum}
 use Rattle.mich_term.specs.declared.datum.Datum.TheOpen.{Datum-F}
 

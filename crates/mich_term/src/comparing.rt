@@ -1,6 +1,6 @@
 // The order of values.
 ghost use Rattle.std.specs.Prelude.{◌≡◌};
-ghost use Rattle.rules_values.specs.Order.{order, form as form_place};
+ghost use Rattle.rules_data.specs.values.Order.{order, form as form_place};
 ghost use Rattle.mich_term.specs.ValueView.{val};
 
 use crate::value::Value;

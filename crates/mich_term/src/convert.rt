@@ -1,6 +1,6 @@
 // Comparable values as values, and back.
 ghost use Rattle.std.specs.Prelude.{◌≡◌, IfOk, IfSome, is_some};
-ghost use Rattle.rules_values.specs.Val.{is_comparable};
+ghost use Rattle.rules_data.specs.values.Val.{is_comparable};
 ghost use Rattle.mich_term.specs.View.{datum as seen};
 ghost use Rattle.mich_term.specs.ValueView.{val};
 

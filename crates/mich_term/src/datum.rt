@@ -3,8 +3,8 @@ ghost use Rattle.std.specs.Prelude.{◌≡◌, IfOk, Some, refl};
 ghost use Rattle.std.specs.Ordering.{is_eq};
 ghost use Rattle.std.specs.Cmp.{partial_order_from_agreeing_total, partial_equiv_from_equiv, eq_by_cmp_equiv};
 ghost use Rattle.std.proofs.lemmas.Cmp.{on_total};
-ghost use Rattle.rules_values.specs.Order.{order, form as form_place};
-ghost use Rattle.laws_values.proofs.ForCallers.{order_lawful};
+ghost use Rattle.rules_data.specs.values.Order.{order, form as form_place};
+ghost use Rattle.laws_data.proofs.values_lemmas.ForCallers.{order_lawful};
 ghost use Rattle.mich_term.specs.View.{datum};
 
 use mich_base::{Bytes, Link, Memory, Text};

@@ -1,6 +1,6 @@
 // Discarding: each ticket of a value is told to a burner.
 ghost use Rattle.std.specs.Prelude.{◌≡◌, IfOk, List, ◌++◌};
-ghost use Rattle.rules_values.specs.Tickets.{Held, tickets, all_tickets, pair_tickets};
+ghost use Rattle.rules_data.specs.values.Tickets.{Held, tickets, all_tickets, pair_tickets};
 ghost use Rattle.mich_term.specs.ValueView.{val, vals, pairs, big_pairs};
 
 use crate::chain::Chain;

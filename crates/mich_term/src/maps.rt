@@ -1,6 +1,6 @@
 //! Maps of values, as the definitions see them.
 ghost use Rattle.std.specs.Prelude.{◌≡◌, length, IfOk, OnErr, option_map};
-ghost use Rattle.rules_values.specs.Tables.{value_at, with_value, without_key, AreIncreasingKeys};
+ghost use Rattle.rules_data.specs.values.Tables.{value_at, with_value, without_key, AreIncreasingKeys};
 ghost use Rattle.mich_term.specs.Keyed.{found, with, without};
 ghost use Rattle.mich_term.specs.Laws.{PutsIncreasing, TakesIncreasing};
 ghost use Rattle.mich_term.specs.View.{datum};

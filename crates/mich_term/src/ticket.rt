@@ -1,6 +1,6 @@
 // Tickets, and who is told of those that are burnt.
 ghost use Rattle.std.specs.Prelude.{◌≡◌, IfOk, List, [], ◌∷◌, ◌++◌};
-ghost use Rattle.rules_values.specs.Tickets.{Held};
+ghost use Rattle.rules_data.specs.values.Tickets.{Held};
 ghost use Rattle.mich_term.specs.TicketView.{held};
 
 use crate::datum::{Datum, copy_datum};

@@ -1,6 +1,6 @@
 // All values.
 ghost use Rattle.std.specs.Prelude.{◌≡◌, IfOk, []};
-ghost use Rattle.rules_values.specs.Tickets.{tickets};
+ghost use Rattle.rules_data.specs.values.Tickets.{tickets};
 ghost use Rattle.mich_term.specs.ValueView.{val};
 
 use crate::chain::Chain;

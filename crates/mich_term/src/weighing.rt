@@ -1,6 +1,6 @@
 // What values weigh.
 ghost use Rattle.std.specs.Prelude.{◌≡◌};
-ghost use Rattle.rules_values.specs.Weight.{weight as whole, weights, pair_weights};
+ghost use Rattle.rules_data.specs.values.Weight.{weight as whole, weights, pair_weights};
 ghost use Rattle.mich_term.specs.Weights.{capped};
 ghost use Rattle.mich_term.specs.View.{datum, datums};
 ghost use Rattle.mich_term.specs.ValueView.{val, vals, pairs};

@@ -3,6 +3,7 @@ pub use Rattle.mich_text.proofs.grammar.Fronts.{step_ok}
 pub use Rattle.mich_text.proofs.grammar.Signs.{no_inner}
 pub use Rattle.mich_text.proofs.grammar.Sizes.{stands_fits}
 pub use Rattle.mich_text.proofs.grammar.Whole.{NoStatement, statement_within, still_none}
+pub use Rattle.mich_text.proofs.limits.Alone.{no_sign}
 pub use Rattle.mich_text.proofs.limits.Conditions.{too_deep_cut, too_deep_kept, unexpected_cut, unexpected_kept}
 pub use Rattle.mich_text.proofs.limits.Limited.{closed_rest, split}
 pub use Rattle.mich_text.proofs.limits.Limits.{kept_fault, kept_node, long_end, long_file, long_late, long_open, open_tells, unlimited, up_to}
@@ -10,6 +11,7 @@ pub use Rattle.mich_text.proofs.limits.OneReading.{no_fault_at_end, no_fault_at_
 pub use Rattle.mich_text.proofs.limits.Past.{none_closed}
 pub use Rattle.mich_text.proofs.limits.Places.{limited_within}
 pub use Rattle.mich_text.proofs.limits.Unlimited.{end_same, node_same}
+pub use Rattle.mich_text.proofs.printed.WrittenLines.{can_be_written, line_bare, line_stands, written_again, written_in_line}
 pub use Rattle.mich_text.proofs.readings.AtEnd.{nothing_here, open_at_end, unclosed_node}
 pub use Rattle.mich_text.proofs.readings.Closed.{cut_rest, ends_kept, sign_rest, stands_cut, stands_kept}
 pub use Rattle.mich_text.proofs.readings.Comments.{comment_behind, comment_first}

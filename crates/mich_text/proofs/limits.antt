@@ -19,3 +19,5 @@ pub mod Limits
 pub mod Places
 -- a text is one thing only
 pub mod OneReading
+-- a text that is one statement without its `;`
+pub mod Alone

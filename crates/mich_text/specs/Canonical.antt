@@ -1,7 +1,7 @@
 -- The one way in which a node is put together where it is printed.
 use Rattle.std.specs.Prelude.{ℕ, List, [], ◌∷◌}
-use Rattle.rules_base.specs.Tree.{Tree, int, str, prim, seq, Trees, none, more}
-use Rattle.rules_text.specs.Syntax.{Node, number, bytes, string, parens, braces, braces_to, Items, no_items, with_annotation, with_name, with_node, Element, alone, application, Separated, nothing, followed}
+use Rattle.rules_text.specs.nodes.Tree.{Tree, int, str, prim, seq, Trees, none, more}
+use Rattle.rules_text.specs.text.Syntax.{Node, number, bytes, string, parens, braces, braces_to, Items, no_items, with_annotation, with_name, with_node, Element, alone, application, Separated, nothing, followed}
 
 abbrev pub with_notes : Items → List (List ℕ) → Items
 with_notes i [] = i

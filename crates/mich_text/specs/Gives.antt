@@ -1,6 +1,6 @@
 -- What a function returned, by what reading gives.
 use Rattle.std.specs.Prelude.{◌≡◌, Result, Ok, Err}
-use Rattle.rules_text.specs.Fault.{Flaw}
+use Rattle.rules_text.specs.text.Fault.{Flaw}
 use Rattle.mich_text.specs.declared.fault.Flaw.{Flaw as CodeFlaw}
 use Rattle.mich_text.specs.declared.fault.LexError.{LexError}
 use Rattle.mich_text.specs.declared.fault.LexError.TheVariants as errors

@@ -1,6 +1,6 @@
 -- A text up to its first byte past a limit.
 use Rattle.std.specs.Prelude.{◌≡◌, ℕ, ◌+◌, ◌≤◌, ◌<◌, List, ◌++◌, length, Bool, true, false}
-use Rattle.rules_text.specs.Text.{IsLimit, IsFileLimit}
+use Rattle.rules_text.specs.text.Text.{IsLimit, IsFileLimit}
 
 -- the number for which a condition holds, or 0 where it holds for none
 abbrev pub IsOnly : (ℕ → Type 0) → ℕ → Type 0

@@ -1,7 +1,7 @@
 -- Elements of a sequence, as they are written one after another.
 use Rattle.std.specs.Prelude.{ℕ, List, [], ◌++◌, Bool, ◌&&◌, nat_le}
-use Rattle.rules_base.specs.Tree.{Trees, none, more}
-use Rattle.rules_text.specs.Printed.{printed, elements_text}
+use Rattle.rules_text.specs.nodes.Tree.{Trees, none, more}
+use Rattle.rules_text.specs.text.Printed.{printed, elements_text}
 
 -- the first behind this separator, each other behind a `;`
 abbrev pub joined : List ℕ → Trees → List ℕ

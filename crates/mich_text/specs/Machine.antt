@@ -1,9 +1,9 @@
 -- The parser on tokens: a stack of open nodes, the innermost first, and last the list of statements.
 use Rattle.std.specs.Prelude.{ℕ, List, [], ◌∷◌, ◌++◌, length, Bool, true, false, nat_lt, Option, Some, None, Result, Ok, Err, if◌then◌else◌}
-use Rattle.rules_base.specs.Tree.{Tree, int, str, prim, seq, none, trees_of}
-use Rattle.rules_text.specs.Token.{Token}
-use Rattle.rules_text.specs.declared.Shape.{Shape}
-use Rattle.rules_text.specs.declared.Shape.TheVariants.{Digits, Quoted, Word, Note, OpenBrace, CloseBrace, OpenParen, CloseParen, Semicolon}
+use Rattle.rules_text.specs.nodes.Tree.{Tree, int, str, prim, seq, none, trees_of}
+use Rattle.rules_text.specs.text.Token.{Token}
+use Rattle.rules_text.specs.declared.text.Shape.{Shape}
+use Rattle.rules_text.specs.declared.text.Shape.TheVariants.{Digits, Quoted, Word, Note, OpenBrace, CloseBrace, OpenParen, CloseParen, Semicolon}
 
 pub data Frame : Type 0 where
   -- a sequence in braces, or the list of statements: its nodes so far; and whether a further one may begin

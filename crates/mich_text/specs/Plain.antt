@@ -1,11 +1,11 @@
 -- What a text is where no limit on its statement and file is looked at. The reader is proved against this first.
 use Rattle.std.specs.Prelude.{◌≡◌, ℕ, ◌≤◌, ◌<◌, ◌⊎◌, List, [], length, Some, Err}
-use Rattle.rules_base.specs.Tree.{Tree}
-use Rattle.rules_text.specs.Token.{Token}
-use Rattle.rules_text.specs.Lexical.{after_gap, token_at}
-use Rattle.rules_text.specs.Text.{Leads, IsInComment, IsOpen, IsUnexpected, IsTooDeep, Stands}
-use Rattle.rules_text.specs.declared.TextKind.{TextKind}
-use Rattle.rules_text.specs.declared.TextKind.TheVariants.{BadChar, BadString, BadBytes, BadNumber, Unclosed, Unexpected, TooDeep, TooLong}
+use Rattle.rules_text.specs.nodes.Tree.{Tree}
+use Rattle.rules_text.specs.text.Token.{Token}
+use Rattle.rules_text.specs.text.Lexical.{after_gap, token_at}
+use Rattle.rules_text.specs.text.Text.{Leads, IsInComment, IsOpen, IsUnexpected, IsTooDeep, Stands}
+use Rattle.rules_text.specs.declared.text.TextKind.{TextKind}
+use Rattle.rules_text.specs.declared.text.TextKind.TheVariants.{BadChar, BadString, BadBytes, BadNumber, Unclosed, Unexpected, TooDeep, TooLong}
 
 -- a byte begins no token, or a token is wrong in itself
 pub record IsFlawedWithoutLimits (text : List ℕ) (kind : TextKind) (left : ℕ) : Type 0 where

@@ -1,21 +1,21 @@
 -- What the reader's functions return.
 use Rattle.std.specs.Prelude.{◌≡◌, ℕ, ◌+◌, ◌≤◌, ◌<◌, List, [], length, drop, Bool, true, false, nat_eq, Option, Some, None, Result, Ok, Err, if◌then◌else◌}
-use Rattle.rules_base.specs.Limits.{depth_limit}
-use Rattle.rules_base.specs.Tree.{size}
-use Rattle.rules_text.specs.Token.{Token}
+use Rattle.rules_text.specs.nodes.Limits.{depth_limit}
+use Rattle.rules_text.specs.nodes.Tree.{size}
+use Rattle.rules_text.specs.text.Token.{Token}
 use Rattle.mich_text.specs.Machine.{Stack, Refusal, unexpected, too_deep, finish, has_statement, ready_for, refused, put, step}
-use Rattle.rules_text.specs.Lexical.{token_at, first_shape}
+use Rattle.rules_text.specs.text.Lexical.{token_at, first_shape}
 use Rattle.mich_text.specs.Plain.{IsFaultWithoutLimits, IsNodeWithoutLimits, IsEndWithoutLimits}
-use Rattle.rules_text.specs.Text as within
+use Rattle.rules_text.specs.text.Text as within
 use Rattle.mich_base.specs.View.{tree}
 use Rattle.mich_text.specs.Gives.{flaw_view}
 use Rattle.mich_text.specs.Limited.{IsUpTo}
-use Rattle.rules_text.specs.declared.Shape.{Shape}
-use Rattle.rules_text.specs.Fault.{Flaw}
+use Rattle.rules_text.specs.declared.text.Shape.{Shape}
+use Rattle.rules_text.specs.text.Fault.{Flaw}
 use Rattle.mich_text.specs.declared.fault.LexError.{LexError}
 use Rattle.mich_text.specs.declared.fault.LexError.TheVariants as errors
-use Rattle.rules_text.specs.declared.TextKind.{TextKind}
-use Rattle.rules_text.specs.declared.TextKind.TheVariants.{Unexpected, TooDeep}
+use Rattle.rules_text.specs.declared.text.TextKind.{TextKind}
+use Rattle.rules_text.specs.declared.text.TextKind.TheVariants.{Unexpected, TooDeep}
 use Rattle.mich_text.specs.declared.plain.Found.{Found}
 use Rattle.mich_text.specs.declared.reader.Placed.{Placed}
 use Rattle.mich_text.specs.declared.fault.TextError.{TextError}

@@ -2,8 +2,8 @@
 use Rattle.std.specs.Prelude.{◌≡◌, ℕ, ◌<◌, List, length, drop}
 use Rattle.std.specs.List.{prefix_len}
 use Rattle.std.specs.Char.{is_ascii_hexdigit}
-use Rattle.rules_text.specs.declared.TextKind.{TextKind}
-use Rattle.rules_text.specs.declared.TextKind.TheVariants.{BadChar, BadString, BadBytes, BadNumber, Unclosed, Unexpected, TooDeep, TooLong}
+use Rattle.rules_text.specs.declared.text.TextKind.{TextKind}
+use Rattle.rules_text.specs.declared.text.TextKind.TheVariants.{BadChar, BadString, BadBytes, BadNumber, Unclosed, Unexpected, TooDeep, TooLong}
 
 -- a flaw of this kind in two bytes or more: what is unclosed may be closed, and digits may go on
 abbrev pub Counts : List ℕ → TextKind → Type 0

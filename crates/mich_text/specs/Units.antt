@@ -1,6 +1,6 @@
 -- One step of a string.
 use Rattle.std.specs.Prelude.{ℕ, ◌+◌, ◌<◌, ◌≤◌, List, length, [], Option, None, Ok, Err}
-use Rattle.rules_text.specs.Lexical.{Spelt, spelt, with_byte, after_gap, after_block}
+use Rattle.rules_text.specs.text.Lexical.{Spelt, spelt, with_byte, after_gap, after_block}
 use Rattle.mich_text.specs.Gives.{flaw_view}
 use Rattle.mich_text.specs.declared.lexical.Block.{Block}
 use Rattle.mich_text.specs.declared.lexical.Block.TheVariants.{Inside, Outside, Unclosed}

@@ -1,5 +1,5 @@
 -- What the code's tokens are.
-use Rattle.rules_text.specs.Token.{Token, number, bytes, string, name, annotation, open_brace, close_brace, open_paren, close_paren, semicolon}
+use Rattle.rules_text.specs.text.Token.{Token, number, bytes, string, name, annotation, open_brace, close_brace, open_paren, close_paren, semicolon}
 use Rattle.mich_text.specs.declared.token.Token.{Token as CodeToken}
 use Rattle.mich_text.specs.declared.token.Token.TheVariants as code
 

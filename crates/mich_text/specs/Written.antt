@@ -1,10 +1,10 @@
 -- The nodes that a text can give (Octez "Micheline", its concrete syntax, within the limits of a token).
 use Rattle.std.specs.Prelude.{◌≡◌, ◌^◌, ◌<◌, ◌≤◌, ◌==◌, ◌&&◌, ◌||◌, ℕ, ℤ, pos, negsuc, Bool, true, nat_le, nat_lt, List, [], ◌∷◌, length, drop, Some}
 use Rattle.std.specs.List.{list_all}
-use Rattle.rules_base.specs.Limits.{name_limit, byte_limit, depth_limit}
-use Rattle.rules_base.specs.Tree.{Tree, int, str, bytes, prim, seq, Trees, none, more, depth}
-use Rattle.rules_text.specs.Lexical.{is_word, is_noted, first_shape}
-use Rattle.rules_text.specs.declared.Shape.TheVariants.{Word, Note}
+use Rattle.rules_text.specs.nodes.Limits.{name_limit, byte_limit, depth_limit}
+use Rattle.rules_text.specs.nodes.Tree.{Tree, int, str, bytes, prim, seq, Trees, none, more, depth}
+use Rattle.rules_text.specs.text.Lexical.{is_word, is_noted, first_shape}
+use Rattle.rules_text.specs.declared.text.Shape.TheVariants.{Word, Note}
 
 -- from -2^127 to 2^127-1
 abbrev pub IsNumber : ℤ → Type 0

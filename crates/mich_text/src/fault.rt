@@ -2,7 +2,7 @@
 ghost use Rattle.std.specs.Prelude.{◌≡◌};
 
 use mich_base::Memory;
-use rules_text::TextKind;
+use rules_text::text::TextKind;
 use std::alloc::{AllocError, AllocFailed};
 use thiserror::Error;
 

@@ -1,11 +1,11 @@
 //! Laws of texts and of printed lines.
 ghost use Rattle.std.specs.Prelude.{◌≡◌, ◌≤◌, ℕ, List, length, true};
 ghost use Rattle.std.specs.List.{list_all};
-ghost use Rattle.rules_base.specs.Limits.{statement_limit};
-ghost use Rattle.rules_base.specs.Tree.{Tree};
-ghost use Rattle.rules_text.specs.Printed.{printed};
-ghost use Rattle.rules_text.specs.Text.{Stands, IsFault, IsNode, IsEnd};
-ghost use Rattle.rules_text.specs.declared.TextKind.{TextKind};
+ghost use Rattle.rules_text.specs.nodes.Limits.{statement_limit};
+ghost use Rattle.rules_text.specs.nodes.Tree.{Tree};
+ghost use Rattle.rules_text.specs.text.Printed.{printed};
+ghost use Rattle.rules_text.specs.text.Text.{Stands, IsFault, IsNode, IsEnd};
+ghost use Rattle.rules_text.specs.declared.text.TextKind.{TextKind};
 ghost use Rattle.mich_text.specs.Line.{is_printing};
 ghost use Rattle.mich_text.specs.Written.{CanBeWritten, HasTextForm};
 

@@ -1,10 +1,10 @@
 //! From bytes to tokens.
 ghost use Rattle.std.specs.Prelude.{◌≡◌, ℕ, ◌+◌, ◌<◌, ◌≤◌, ◌↔◌, ◌∷◌, ◌*◌, ◌^◌, option_map, if◌then◌else◌, ◌-◌, length, take, drop, IsTrue, MatchOption, IfOk, None, Some};
 ghost use Rattle.std.specs.List.{prefix_len, AllPass};
-ghost use Rattle.rules_text.specs.Lexical.{digits_at, number_at, is_minus, token_at, signed, shape_of, begins_bytes, opens, closes, bytes_at, is_word, is_noted, is_white, begins_word, after_gap, after_line, after_block, name_at, annotation_at, string_at, spelt, spelt_escape, escaped};
+ghost use Rattle.rules_text.specs.text.Lexical.{digits_at, number_at, is_minus, token_at, signed, shape_of, begins_bytes, opens, closes, bytes_at, is_word, is_noted, is_white, begins_word, after_gap, after_line, after_block, name_at, annotation_at, string_at, spelt, spelt_escape, escaped};
 ghost use Rattle.std.specs.Char.{is_ascii_hexdigit, is_ascii_digit};
 ghost use Rattle.std.specs.Str.Parse.{digits_value};
-ghost use Rattle.rules_base.specs.Limits.{name_limit, byte_limit};
+ghost use Rattle.rules_text.specs.nodes.Limits.{name_limit, byte_limit};
 ghost use Rattle.mich_text.specs.Gives.{Gives, flaw_view};
 ghost use Rattle.mich_text.specs.Views.{token_view};
 ghost use Rattle.mich_text.specs.Units.{spelt_by, IsBehind, after_block_by, IsInBlock};
@@ -13,7 +13,7 @@ use super::fault::{Flaw, LexError};
 use super::token::Token;
 use hex::FromHexError;
 use mich_base::{BYTE_LIMIT, Bytes, NAME_LIMIT, Text};
-use rules_text::{Shape, TextKind};
+use rules_text::text::{Shape, TextKind};
 use std::alloc::Global;
 
 fn is_word(c: u8) -> bool
@@ -61,7 +61,7 @@ fn flaw(kind: TextKind, text: &[u8]) -> LexError
     })
 }
 
-#[tactic(auto, unfolding(rules_text::specs::Lexical::name_at), using(crate::proofs::tokens::Strings::test_laws))]
+#[tactic(auto, unfolding(rules_text::specs::text::Lexical::name_at), using(crate::proofs::tokens::Strings::test_laws))]
 fn name_at(alloc: Global, text: &[u8]) -> Result<(Text, &[u8]), LexError>
     ensures { Gives (λ x. (x.0, x.1.now)) result (name_at text.now) }
 {
@@ -73,7 +73,7 @@ fn name_at(alloc: Global, text: &[u8]) -> Result<(Text, &[u8]), LexError>
     Ok((Text::from_slice(alloc, name)?, rest))
 }
 
-#[tactic(auto, unfolding(rules_text::specs::Lexical::annotation_at), using(crate::proofs::tokens::Strings::test_laws))]
+#[tactic(auto, unfolding(rules_text::specs::text::Lexical::annotation_at), using(crate::proofs::tokens::Strings::test_laws))]
 fn annotation_at(alloc: Global, text: &[u8]) -> Result<(Text, &[u8]), LexError>
     requires { 0 < length text.now }
     ensures { Gives (λ x. (x.0, x.1.now)) result (annotation_at text.now) }
@@ -287,7 +287,7 @@ pub(crate) fn hex_len(text: &[u8]) -> usize
     text.iter().take_while(|c| c.is_ascii_hexdigit()).count()
 }
 
-#[tactic(auto, unfolding(rules_text::specs::Lexical::bytes_at), using(crate::proofs::tokens::Strings::test_laws))]
+#[tactic(auto, unfolding(rules_text::specs::text::Lexical::bytes_at), using(crate::proofs::tokens::Strings::test_laws))]
 fn bytes_at(alloc: Global, text: &[u8]) -> Result<(Bytes, &[u8]), LexError>
     requires { 2 ≤ length text.now }
     ensures { Gives (λ x. (x.0, x.1.now)) result (bytes_at text.now) }
@@ -357,7 +357,7 @@ fn signed(negative: bool, value: u128) -> i128
     }
 }
 
-#[tactic(auto, unfolding(rules_text::specs::Lexical::number_at), using(crate::proofs::tokens::Strings::test_laws))]
+#[tactic(auto, unfolding(rules_text::specs::text::Lexical::number_at), using(crate::proofs::tokens::Strings::test_laws))]
 fn number_at(text: &[u8]) -> Result<(i128, &[u8]), LexError>
     ensures { Gives (λ x. (x.0, x.1.now)) result (number_at text.now) }
 {
@@ -404,7 +404,7 @@ fn begins_bytes(text: &[u8]) -> bool
 }
 
 // The token at the front of the text.
-#[tactic(auto, unfolding(rules_text::specs::Lexical::token_at))]
+#[tactic(auto, unfolding(rules_text::specs::text::Lexical::token_at))]
 pub(crate) fn token_at(alloc: Global, text: &[u8]) -> Result<(Token, &[u8]), LexError>
     requires { 0 < length text.now }
     ensures { Gives (λ x. (token_view x.0, x.1.now)) result (token_at text.now) }

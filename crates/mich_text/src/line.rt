@@ -2,9 +2,9 @@
 ghost use Rattle.std.specs.Prelude.{◌≡◌, ◌<◌, ◌∷◌, ◌++◌, [], IfOk, OnOk};
 ghost use Rattle.std.specs.Fmt.{signed_decimal};
 ghost use Rattle.hex.specs.Hex.{encode_lower};
-ghost use Rattle.rules_base.specs.Tree.{seq};
+ghost use Rattle.rules_text.specs.nodes.Tree.{seq};
 ghost use Rattle.mich_base.specs.View.{tree, trees, app_tree};
-ghost use Rattle.rules_text.specs.Printed.{spelling, string_text, annotations_text, is_wrapped, printed, arguments_text};
+ghost use Rattle.rules_text.specs.text.Printed.{spelling, string_text, annotations_text, is_wrapped, printed, arguments_text};
 ghost use Rattle.mich_text.specs.Line.{joined};
 
 use mich_base::{App, Memory, Node, Nodes, Text, Texts};

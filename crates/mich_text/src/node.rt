@@ -1,6 +1,6 @@
 //! Nodes from their parts.
 ghost use Rattle.std.specs.Prelude.{◌≡◌, map};
-ghost use Rattle.rules_base.specs.Tree.{prim, seq, trees_of};
+ghost use Rattle.rules_text.specs.nodes.Tree.{prim, seq, trees_of};
 ghost use Rattle.mich_base.specs.View.{tree};
 
 use mich_base::{App, Node, Nodes, Text, Texts};

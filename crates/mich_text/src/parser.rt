@@ -1,8 +1,8 @@
 //! The stack of open nodes.
 ghost use Rattle.std.specs.Prelude.{◌≡◌, ◌∷◌, [], option_map, map, length, IsTrue, OnOk, IfOk, Ok, None, true};
-ghost use Rattle.rules_base.specs.Limits.{depth_limit};
-ghost use Rattle.rules_base.specs.Tree.{Tree, prim};
-ghost use Rattle.rules_text.specs.Token.{token_shape};
+ghost use Rattle.rules_text.specs.nodes.Limits.{depth_limit};
+ghost use Rattle.rules_text.specs.nodes.Tree.{Tree, prim};
+ghost use Rattle.rules_text.specs.text.Token.{token_shape};
 ghost use Rattle.mich_text.specs.Machine.{Stack, add, finish, on, refused, put, put_name, put_annotation, close_named, close_elements, go_on, no_begin, is_open, has_statement, is_root, start, ended_tree};
 ghost use Rattle.mich_text.specs.Views.{token_view};
 ghost use Rattle.mich_base.specs.View.{tree};
@@ -11,7 +11,7 @@ ghost use Rattle.mich_text.specs.Nodes.{frame_view, stack_view, refusal_view};
 use super::node::{application, sequence};
 use super::token::Token;
 use mich_base::{DEPTH_LIMIT, Memory, Node, Nodes, Rows, Text, Texts};
-use rules_text::Shape;
+use rules_text::text::Shape;
 use std::alloc::Global;
 
 // A node that is open.

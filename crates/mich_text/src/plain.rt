@@ -1,6 +1,6 @@
 //! Reading one statement, where no limit of a statement and of a file is looked at.
 ghost use Rattle.std.specs.Prelude.{◌≡◌, ◌+◌, ◌<◌, ◌≤◌, ◌↔◌, option_map, length, IsTrue, OnOk, Ok, None};
-ghost use Rattle.rules_text.specs.Token.{token_shape, semicolon};
+ghost use Rattle.rules_text.specs.text.Token.{token_shape, semicolon};
 ghost use Rattle.mich_text.specs.Machine.{ready_for};
 ghost use Rattle.mich_base.specs.View.{tree};
 ghost use Rattle.mich_text.specs.Gives.{flaw_view};
@@ -15,7 +15,7 @@ use super::parser::{
 };
 use super::token::Token;
 use mich_base::{Memory, Node};
-use rules_text::{Shape, TextKind};
+use rules_text::text::{Shape, TextKind};
 use std::alloc::Global;
 
 /// A statement, by the bytes that are left at its first byte and behind it.

@@ -1,18 +1,18 @@
 //! Reading one statement, within the limits of a statement and of a file.
 ghost use Rattle.std.specs.Prelude.{◌≡◌, ℕ, ◌+◌, ◌-◌, ◌^◌, ◌<◌, ◌≤◌, Bool, List, length, take, drop, true, false, MatchBool, Ok, Some, Err};
-ghost use Rattle.rules_text.specs.Text.{IsStatementLimit, IsFileLimit};
-ghost use Rattle.rules_text.specs.declared.TextKind.{TextKind};
+ghost use Rattle.rules_text.specs.text.Text.{IsLimit, IsStatementLimit, IsFileLimit};
+ghost use Rattle.rules_text.specs.declared.text.TextKind.{TextKind};
 ghost use Rattle.mich_text.specs.Plain.{IsFaultWithoutLimits};
 ghost use Rattle.mich_text.specs.Shown.{IsOpenBytes};
 ghost use Rattle.mich_text.specs.Limited.{IsOnly};
 ghost use Rattle.mich_text.specs.Results.{IsRead, IsWithinText, IsLimitedRead, FrontTells, IsText, IsWithinBytes};
-ghost use Rattle.mich_text.specs.Parts.{IsPart};
+ghost use Rattle.mich_text.specs.Parts.{IsAloneRead, IsPart};
 
 use super::fault::{Flaw, LexError, TextError};
 use super::lexical::{after_gap, hex_len};
 use super::plain::{Found, statement_at, statement_within};
-use mich_base::{FILE_LIMIT, Node, STATEMENT_LIMIT};
-use rules_text::TextKind;
+use mich_base::{FILE_LIMIT, Memory, Node, STATEMENT_LIMIT};
+use rules_text::text::TextKind;
 use std::alloc::Global;
 
 /// A statement with its places, in bytes from 0: that of its first byte, and the one behind its `;`, or the length of the
@@ -225,4 +225,47 @@ pub fn read_statement(alloc: Global, bytes: &[u8], place: u64) -> Result<Option<
     ensures nodes { IsWithinBytes result }
 {
     read_part(alloc, &bytes[place as usize..], place)
+}
+
+/// A text with a flaw is no statement.
+fn none_alone(error: LexError) -> Result<Option<Node>, Memory>
+    ensures { (text : List ℕ) → ((limit : ℕ) → IsLimit 0 text limit → ⊥) → IsRead text (Err error) → IsAloneRead text result }
+{
+    match error {
+        LexError::Flaw(_) => Ok(None),
+        LexError::Memory => Err(Memory),
+    }
+}
+
+/// What a text without a byte past a limit is alone, where this is read of it.
+fn alone(read: Result<Option<Found>, LexError>) -> Result<Option<Node>, Memory>
+    ensures { (text : List ℕ) → ((limit : ℕ) → IsLimit 0 text limit → ⊥) → IsRead text read → IsAloneRead text result }
+{
+    match read {
+        Ok(Some(found)) => {
+            if found.closed {
+                Ok(None)
+            } else {
+                Ok(Some(found.node))
+            }
+        }
+        Ok(None) => Ok(None),
+        Err(error) => none_alone(error),
+    }
+}
+
+/// The node of a text that is one statement without its `;`, with white space and comments round it, or none where the text is
+/// anything else or is longer than a statement may be. Memory where there is no room for the node (Octez "Micheline").
+pub fn read_alone(alloc: Global, text: &[u8]) -> Result<Option<Node>, Memory>
+    ensures { IsAloneRead text.now result }
+{
+    let statement = statement_limit(text);
+    if statement > 0 {
+        return Ok(None);
+    }
+    let file = file_limit(text, 0);
+    if file > 0 {
+        return Ok(None);
+    }
+    alone(statement_at(alloc, text))
 }

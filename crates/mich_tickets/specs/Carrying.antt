@@ -1,8 +1,8 @@
 -- The tickets of a value that is stored, or stored no more.
 use Rattle.std.specs.Prelude.{◌≡◌, ℕ, ℤ, neg_ℤ, ◌+ℤ◌, ◌≤ℤ◌, List, ◌++◌}
 use Rattle.std.specs.List.{AllByRecursion}
-use Rattle.rules_values.specs.Tickets.{Identity, Held}
-use Rattle.rules_steps.specs.Changes.{amount_among}
+use Rattle.rules_data.specs.values.Tickets.{Identity, Held}
+use Rattle.rules_code.specs.steps.Changes.{amount_among}
 use Rattle.mich_tickets.specs.Books.{Books}
 use Rattle.mich_tickets.specs.Most.{most}
 use Rattle.mich_tickets.specs.Sums.{held_of}

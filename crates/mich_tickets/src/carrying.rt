@@ -1,7 +1,7 @@
 // The tickets of a value that is stored, or stored no more.
 ghost use Rattle.std.specs.Prelude.{◌≡◌, [], ◌∷◌, IfOk, map};
-ghost use Rattle.mich_undo.specs.History.{Keeps};
-ghost use Rattle.rules_values.specs.Tickets.{tickets};
+ghost use Rattle.mich_base.specs.undo.History.{Keeps};
+ghost use Rattle.rules_data.specs.values.Tickets.{tickets};
 ghost use Rattle.mich_forms.specs.Spelled.{place_bytes};
 ghost use Rattle.mich_term.specs.TicketView.{held};
 ghost use Rattle.mich_term.specs.ValueView.{val};
@@ -77,7 +77,7 @@ fn tickets_of(alloc: Global, value: &Value) -> Result<Rows<Ticket>, Memory>
 }
 
 // Tickets come to an owner or go from one, the first before those behind it.
-#[tactic(auto, using(mich_undo::proofs::ForCallers::keeps_same, mich_undo::proofs::ForCallers::keeps_trans))]
+#[tactic(auto, using(mich_base::proofs::undo_lemmas::ForCallers::keeps_same, mich_base::proofs::undo_lemmas::ForCallers::keeps_trans))]
 fn carry(
     alloc: Global,
     ledger: &mut Ledger,
@@ -99,7 +99,7 @@ fn carry(
 impl Ledger {
     /// Adds the tickets of a value that is stored to what an owner holds. After Memory the ledger is given up with its world, and
     /// the books have only writes that can be taken back.
-    #[tactic(auto, using(mich_undo::proofs::ForCallers::keeps_same))]
+    #[tactic(auto, using(mich_base::proofs::undo_lemmas::ForCallers::keeps_same))]
     pub fn enter(&mut self, alloc: Global, owner: Place, value: &Value) -> Result<(), Memory>
         requires { MayEnter (place_bytes owner) self.old.books.present (tickets (val value.now)) }
         ensures moves { IfOk result (λ _. Enters (place_bytes owner) (tickets (val value.now)) self.old.books.present self.new.books.present) }
@@ -113,7 +113,7 @@ impl Ledger {
 
     /// Takes the tickets of a value that is stored no more from what an owner holds. After Memory the ledger is given up with its
     /// world, and the books have only writes that can be taken back.
-    #[tactic(auto, using(mich_undo::proofs::ForCallers::keeps_same))]
+    #[tactic(auto, using(mich_base::proofs::undo_lemmas::ForCallers::keeps_same))]
     pub fn leave(&mut self, alloc: Global, owner: Place, value: &Value) -> Result<(), Memory>
         requires { MayLeave (place_bytes owner) self.old.books.present (tickets (val value.now)) }
         ensures moves { IfOk result (λ _. Leaves (place_bytes owner) (tickets (val value.now)) self.old.books.present self.new.books.present) }

@@ -1,9 +1,9 @@
 -- Branches that are taken one list after another.
 use Rattle.std.proofs.Common.{◌≡◌, ℕ, ◌+◌, Bool, true, false, List, [], ◌∷◌, ◌++◌, map, Result, Err, refl, ap, ◌∙◌, sym, subst}
-use Rattle.rules_base.specs.Tree.{Tree, prim, none, more, size}
-use Rattle.rules_types.specs.Kind.{Kind}
-use Rattle.rules_types.specs.Kind as k
-use Rattle.rules_types.specs.Entrypoints.{Entry, Branch, Entries, entries, bad_name, repeated, then_entries, with_branch, with_branches, in_order, branch, below}
+use Rattle.rules_text.specs.nodes.Tree.{Tree, prim, none, more, size}
+use Rattle.rules_data.specs.types.Kind.{Kind}
+use Rattle.rules_data.specs.types.Kind as k
+use Rattle.rules_data.specs.types.Entrypoints.{Entry, Branch, Entries, entries, bad_name, repeated, then_entries, with_branch, with_branches, in_order, branch, below}
 use Rattle.mich_types.specs.declared.parameter.Entry.{Entry as CodeEntry}
 use Rattle.mich_types.specs.declared.error.TypeError.{TypeError}
 use Rattle.mich_types.specs.declared.error.TypeError.TheVariants as error

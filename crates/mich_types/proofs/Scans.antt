@@ -1,16 +1,16 @@
 -- The walk that finds faults, and the type that is made, against the reading of a node as a type.
 use Rattle.std.proofs.Common.{◌≡◌, ℕ, ◌+◌, ◌<◌, ◌≤◌, min, Bool, true, false, cond, ◌&&◌, List, [], ◌∷◌, map, Result, Ok, Err, refl, ap, ◌∙◌, sym, arith, nat_le}
 use Rattle.std.proofs.lemmas.Bool.Decides.{nat_tests}
-use Rattle.rules_base.specs.Limits.{type_limit}
-use Rattle.rules_base.specs.Tree.{Tree, int, str, bytes, prim, seq, Trees, none, more, size}
-use Rattle.rules_types.specs.declared.OneArgument.{OneArgument}
-use Rattle.rules_types.specs.declared.OneArgument.TheVariants as one
-use Rattle.rules_types.specs.declared.TwoArguments.{TwoArguments}
-use Rattle.rules_types.specs.declared.TwoArguments.TheVariants as two
-use Rattle.rules_types.specs.Kind.{Kind, nodes}
-use Rattle.rules_types.specs.Kind as k
-use Rattle.rules_types.specs.Attributes.{comparable, passable, big_value}
-use Rattle.rules_types.specs.Reading.{Reading, Former, simple_type, operation_type, one_argument, two_arguments, pair_type, no_type, former_of_name, asked_of_argument, of_argument, asked_of_first, asked_of_second, of_arguments, Read, good, bad, Part, part, with_part, on_good, paired, applied, typed, parts, type_at, limited, a_type, bad_type, too_large}
+use Rattle.rules_text.specs.nodes.Limits.{type_limit}
+use Rattle.rules_text.specs.nodes.Tree.{Tree, int, str, bytes, prim, seq, Trees, none, more, size}
+use Rattle.rules_data.specs.declared.types.OneArgument.{OneArgument}
+use Rattle.rules_data.specs.declared.types.OneArgument.TheVariants as one
+use Rattle.rules_data.specs.declared.types.TwoArguments.{TwoArguments}
+use Rattle.rules_data.specs.declared.types.TwoArguments.TheVariants as two
+use Rattle.rules_data.specs.types.Kind.{Kind, nodes}
+use Rattle.rules_data.specs.types.Kind as k
+use Rattle.rules_data.specs.types.Attributes.{comparable, passable, big_value}
+use Rattle.rules_data.specs.types.Reading.{Reading, Former, simple_type, operation_type, one_argument, two_arguments, pair_type, no_type, former_of_name, asked_of_argument, of_argument, asked_of_first, asked_of_second, of_arguments, Read, good, bad, Part, part, with_part, on_good, paired, applied, typed, parts, type_at, limited, a_type, bad_type, too_large}
 use Rattle.mich_types.specs.declared.scan.Summary.{Summary}
 use Rattle.mich_types.specs.Scanned as s
 use Rattle.mich_types.specs.Built.{built, built_all, made, pair_of}

@@ -1,6 +1,6 @@
 -- What the answers of the calls say.
 use Rattle.std.specs.Prelude.{ℕ, ◌≡◌, List, [], ◌∷◌, Result, Ok, Err}
-use Rattle.rules_types.specs.Reading.{Reading, a_type, bad_type, too_large}
+use Rattle.rules_data.specs.types.Reading.{Reading, a_type, bad_type, too_large}
 use Rattle.mich_base.specs.declared.ty.Ty.{Ty}
 use Rattle.mich_base.specs.TypeView.{kind}
 use Rattle.mich_types.specs.declared.scan.Found.{Found}

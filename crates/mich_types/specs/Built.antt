@@ -1,12 +1,12 @@
 -- The type of a node that is one; the unit type of another.
 use Rattle.std.specs.Prelude.{List, [], ◌∷◌}
-use Rattle.rules_base.specs.Tree.{Tree, int, str, bytes, prim, seq, Trees, none, more}
-use Rattle.rules_types.specs.declared.Simple.TheVariants as s
-use Rattle.rules_types.specs.Kind.{Kind}
-use Rattle.rules_types.specs.Kind as k
-use Rattle.rules_types.specs.Reading.{Former, simple_type, operation_type, one_argument, two_arguments, pair_type, no_type, former_of_name, of_argument, of_arguments}
-use Rattle.rules_types.specs.declared.OneArgument.{OneArgument}
-use Rattle.rules_types.specs.declared.TwoArguments.{TwoArguments}
+use Rattle.rules_text.specs.nodes.Tree.{Tree, int, str, bytes, prim, seq, Trees, none, more}
+use Rattle.rules_data.specs.declared.types.Simple.TheVariants as s
+use Rattle.rules_data.specs.types.Kind.{Kind}
+use Rattle.rules_data.specs.types.Kind as k
+use Rattle.rules_data.specs.types.Reading.{Former, simple_type, operation_type, one_argument, two_arguments, pair_type, no_type, former_of_name, of_argument, of_arguments}
+use Rattle.rules_data.specs.declared.types.OneArgument.{OneArgument}
+use Rattle.rules_data.specs.declared.types.TwoArguments.{TwoArguments}
 
 abbrev pub no_kind : Kind
 no_kind = k.simple s.Unit

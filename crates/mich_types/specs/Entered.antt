@@ -1,9 +1,9 @@
 -- What the answers of the calls on parameters say.
 use Rattle.std.specs.Prelude.{ℕ, ◌≡◌, List, [], map, Result, Ok, Err}
-use Rattle.rules_base.specs.Tree.{Tree, prim, none, more}
-use Rattle.rules_types.specs.Kind.{Kind}
-use Rattle.rules_types.specs.Kind as k
-use Rattle.rules_types.specs.Entrypoints as rules
+use Rattle.rules_text.specs.nodes.Tree.{Tree, prim, none, more}
+use Rattle.rules_data.specs.types.Kind.{Kind}
+use Rattle.rules_data.specs.types.Kind as k
+use Rattle.rules_data.specs.types.Entrypoints as rules
 use Rattle.mich_base.specs.TypeView.{kind}
 use Rattle.mich_types.specs.declared.parameter.Entry.{Entry}
 use Rattle.mich_types.specs.declared.parameter.Parameter.{Parameter}

@@ -1,11 +1,11 @@
 -- What a walk over a node knows of it as a type, without the type itself.
 use Rattle.std.specs.Prelude.{ℕ, ◌+◌, min, Bool, true, false, ◌&&◌, if◌then◌else◌, List, [], ◌∷◌, Result, Ok, Err}
-use Rattle.rules_base.specs.Tree.{Tree, int, str, bytes, prim, seq, Trees, none, more, size}
-use Rattle.rules_types.specs.declared.OneArgument.{OneArgument}
-use Rattle.rules_types.specs.declared.OneArgument.TheVariants as one
-use Rattle.rules_types.specs.declared.TwoArguments.{TwoArguments}
-use Rattle.rules_types.specs.declared.TwoArguments.TheVariants as two
-use Rattle.rules_types.specs.Reading.{Former, simple_type, operation_type, one_argument, two_arguments, pair_type, no_type, former_of_name}
+use Rattle.rules_text.specs.nodes.Tree.{Tree, int, str, bytes, prim, seq, Trees, none, more, size}
+use Rattle.rules_data.specs.declared.types.OneArgument.{OneArgument}
+use Rattle.rules_data.specs.declared.types.OneArgument.TheVariants as one
+use Rattle.rules_data.specs.declared.types.TwoArguments.{TwoArguments}
+use Rattle.rules_data.specs.declared.types.TwoArguments.TheVariants as two
+use Rattle.rules_data.specs.types.Reading.{Former, simple_type, operation_type, one_argument, two_arguments, pair_type, no_type, former_of_name}
 use Rattle.mich_types.specs.declared.scan.Summary.{Summary}
 
 abbrev pub nodes_over : ℕ → ℕ → ℕ

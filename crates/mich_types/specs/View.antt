@@ -1,5 +1,5 @@
 -- What the types of the code stand for.
-use Rattle.rules_types.specs.Reading.{Former, simple_type, operation_type, one_argument, two_arguments, pair_type, no_type}
+use Rattle.rules_data.specs.types.Reading.{Former, simple_type, operation_type, one_argument, two_arguments, pair_type, no_type}
 use Rattle.mich_types.specs.declared.former.Former.{Former as CodeFormer}
 use Rattle.mich_types.specs.declared.former.Former.TheVariants as f
 

@@ -1,7 +1,7 @@
 // Field annotations and the places of nodes.
 ghost use Rattle.std.specs.Prelude.{◌≡◌, ℕ, ◌+◌, ◌<◌, ◌^◌, [], ◌∷◌, MatchOption, option_map};
-ghost use Rattle.rules_base.specs.Tree.{size, sizes};
-ghost use Rattle.rules_types.specs.Entrypoints.{annotations, behind_sign, field_name, nonempty};
+ghost use Rattle.rules_text.specs.nodes.Tree.{size, sizes};
+ghost use Rattle.rules_data.specs.types.Entrypoints.{annotations, behind_sign, field_name, nonempty};
 ghost use Rattle.mich_base.specs.View.{tree, trees};
 
 use mich_base::{Node, Nodes, Texts};

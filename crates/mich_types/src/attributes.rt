@@ -1,6 +1,6 @@
 // The attributes of types.
 ghost use Rattle.std.specs.Prelude.{◌≡◌};
-ghost use Rattle.rules_types.specs.Attributes.{big_value, comparable, duplicable, packable, passable, pushable, storable};
+ghost use Rattle.rules_data.specs.types.Attributes.{big_value, comparable, duplicable, packable, passable, pushable, storable};
 ghost use Rattle.mich_base.specs.TypeView.{kind};
 
 use mich_base::Ty;

@@ -1,14 +1,14 @@
 // Types from nodes that are known to be types.
 ghost use Rattle.std.specs.Prelude.{◌≡◌, IfOk, map};
-ghost use Rattle.rules_types.specs.Kind.{pair, simple};
-ghost use Rattle.rules_types.specs.Reading.{of_argument, of_arguments};
+ghost use Rattle.rules_data.specs.types.Kind.{pair, simple};
+ghost use Rattle.rules_data.specs.types.Reading.{of_argument, of_arguments};
 ghost use Rattle.mich_base.specs.View.{tree, trees};
 ghost use Rattle.mich_base.specs.TypeView.{kind};
 ghost use Rattle.mich_types.specs.Built.{built, built_all, pair_of};
 
 use crate::former::{Former, former_of_name};
 use mich_base::{Link, Memory, Node, Nodes, Rows, Ty};
-use rules_types::{OneArgument, Simple, TwoArguments};
+use rules_data::types::{OneArgument, Simple, TwoArguments};
 use std::alloc::Global;
 
 fn simple_type(simple_type: Simple) -> Ty

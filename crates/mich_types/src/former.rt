@@ -1,10 +1,10 @@
 // What the names of types make of their arguments.
 ghost use Rattle.std.specs.Prelude.{◌≡◌};
-ghost use Rattle.rules_types.specs.Reading.{former_of, former_of_name};
+ghost use Rattle.rules_data.specs.types.Reading.{former_of, former_of_name};
 ghost use Rattle.mich_types.specs.View.{former};
 
 use mich_base::{Primitive, Text, primitive_of_name};
-use rules_types::{OneArgument, Simple, TwoArguments};
+use rules_data::types::{OneArgument, Simple, TwoArguments};
 
 // What a name makes of its arguments.
 #[derive(Clone, Copy, Debug)]
@@ -18,7 +18,7 @@ pub(crate) enum Former {
 }
 
 // What a name of a type makes of its arguments.
-#[tactic(auto, unfolding(rules_types::specs::Reading::former_of_name))]
+#[tactic(auto, unfolding(rules_data::specs::types::Reading::former_of_name))]
 pub(crate) fn former_of_name(name: &Text) -> Former
     ensures { former result ≡ former_of_name name.now }
 {

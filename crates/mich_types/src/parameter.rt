@@ -1,9 +1,9 @@
 // Parameters and their entrypoints.
 ghost use Rattle.std.specs.Prelude.{◌≡◌, ℕ, ◌+◌, ◌<◌, ◌^◌, [], ◌∷◌, ◌++◌, Bool, false, true, Some, map, IfOk, MatchOption, option_map};
-ghost use Rattle.rules_base.specs.Tree.{more, none, prim, size};
-ghost use Rattle.rules_types.specs.Kind.{or};
-ghost use Rattle.rules_types.specs.Reading.{type_at};
-ghost use Rattle.rules_types.specs.Entrypoints.{annotations, below, branch, bad_parameter, entries_of, find_entry, of_reading, parameter, field_name, root_by, with_branch, with_branches, with_default, with_name};
+ghost use Rattle.rules_text.specs.nodes.Tree.{more, none, prim, size};
+ghost use Rattle.rules_data.specs.types.Kind.{or};
+ghost use Rattle.rules_data.specs.types.Reading.{type_at};
+ghost use Rattle.rules_data.specs.types.Entrypoints.{annotations, below, branch, bad_parameter, entries_of, find_entry, of_reading, parameter, field_name, root_by, with_branch, with_branches, with_default, with_name};
 ghost use Rattle.mich_base.specs.View.{tree};
 ghost use Rattle.mich_base.specs.TypeView.{kind};
 ghost use Rattle.mich_types.specs.Entered.{HasNoTwo, IsEntered, IsEntries, IsNoOr, IsParameter, entry_of, name_of};

@@ -1,7 +1,7 @@
 // Nodes from types.
 ghost use Rattle.std.specs.Prelude.{◌≡◌, IfOk, [], ◌∷◌};
-ghost use Rattle.rules_base.specs.Tree.{none, more, prim};
-ghost use Rattle.rules_types.specs.Printing.{node_of, named};
+ghost use Rattle.rules_text.specs.nodes.Tree.{none, more, prim};
+ghost use Rattle.rules_data.specs.types.Printing.{node_of, named};
 ghost use Rattle.mich_base.specs.View.{tree, trees};
 ghost use Rattle.mich_base.specs.TypeView.{kind};
 

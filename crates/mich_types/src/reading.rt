@@ -1,7 +1,7 @@
 // Types from nodes.
 ghost use Rattle.std.specs.Prelude.{◌≡◌, ◌+◌, ◌<◌, ◌^◌};
-ghost use Rattle.rules_base.specs.Tree.{size};
-ghost use Rattle.rules_types.specs.Reading.{type_at};
+ghost use Rattle.rules_text.specs.nodes.Tree.{size};
+ghost use Rattle.rules_data.specs.types.Reading.{type_at};
 ghost use Rattle.mich_base.specs.View.{tree};
 ghost use Rattle.mich_types.specs.Answers.{IsReading};
 

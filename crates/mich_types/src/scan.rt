@@ -1,13 +1,13 @@
 // A walk over a node that finds its first fault as a type, without making the type.
 ghost use Rattle.std.specs.Prelude.{◌≡◌, ℕ, ◌+◌, ◌<◌, ◌^◌, ◌∷◌, MatchOption};
-ghost use Rattle.rules_base.specs.Tree.{size, sizes};
+ghost use Rattle.rules_text.specs.nodes.Tree.{size, sizes};
 ghost use Rattle.mich_base.specs.View.{tree, trees};
 ghost use Rattle.mich_types.specs.Scanned.{asked_of_argument, asked_of_first, asked_of_second, of_argument, of_arguments, of_simple, of_operation, of_pair, nodes_over, scanned, scans, bare, over_one, over_two, over_pair, joined};
 ghost use Rattle.mich_types.specs.Answers.{IsScan, IsBelowTwo};
 
 use crate::former::{Former, former_of_name};
 use mich_base::{Node, Nodes};
-use rules_types::{OneArgument, TwoArguments};
+use rules_data::types::{OneArgument, TwoArguments};
 
 // What must be known of a type to judge the types around it: how many nodes it has, 2,001 for all larger ones,
 // and the attributes that arguments must have.

@@ -8,18 +8,18 @@ use Rattle.std.specs.List.{sum_by}
 use Rattle.std.specs.List.Sorted.{IsStrictlySortedBy}
 use Rattle.std.specs.Map.{lookup, values_of, keys_of}
 use Rattle.std.proofs.lemmas.Cmp.{nat_list_cmp_total}
-use Rattle.rules_evaluation.specs.Contracts.{hash_in}
-use Rattle.rules_evaluation.specs.Surroundings.{Contract as PlainContract}
-use Rattle.rules_forms.specs.Spelling.{is_implicit, is_place}
-use Rattle.rules_values.specs.Tickets.{Identity}
-use Rattle.rules_world.specs.Balances as rules
-use Rattle.rules_world.specs.Forms.{IsWorld}
-use Rattle.rules_world.specs.Holdings.{amount_held, held_by_account, held_by_contract}
-use Rattle.rules_world.specs.World.{World as PlainWorld, Account, account_at as account_in, contract_at as plain_contract_at, account_or_none, no_account, key_hash_in}
+use Rattle.rules_code.specs.evaluation.Contracts.{hash_in}
+use Rattle.rules_code.specs.evaluation.Surroundings.{Contract as PlainContract}
+use Rattle.rules_data.specs.forms.Spelling.{is_implicit, is_place}
+use Rattle.rules_data.specs.values.Tickets.{Identity}
+use Rattle.rules_world.specs.world.Balances as rules
+use Rattle.rules_world.specs.world.Forms.{IsWorld}
+use Rattle.rules_world.specs.world.Holdings.{amount_held, held_by_account, held_by_contract}
+use Rattle.rules_world.specs.world.World.{World as PlainWorld, Account, account_at as account_in, contract_at as plain_contract_at, account_or_none, no_account, key_hash_in}
 use Rattle.mich_forms.specs.Spelled.{place_bytes}
 use Rattle.mich_forms.specs.declared.places.Place.{Place}
 use Rattle.mich_forms.specs.declared.places.Place.TheVariants as place
-use Rattle.mich_undo.specs.Undone.{changed_at}
+use Rattle.mich_base.specs.undo.Undone.{changed_at}
 use Rattle.mich_bigmap.specs.Bases.{Bases}
 use Rattle.mich_tickets.specs.Books.{Books}
 use Rattle.mich_tickets.proofs.ForCallers.{found_close, found_inserted, found_changed}

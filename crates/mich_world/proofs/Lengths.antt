@@ -1,7 +1,7 @@
 -- A journal has an entry for each state before the present one.
 use Rattle.std.proofs.Common.{◌≡◌, List, [], ◌∷◌, length, reverse, refl, ap, ◌∙◌, suc}
 use Rattle.std.proofs.lemmas.List.{length-reverse}
-use Rattle.mich_undo.specs.History.{height_of}
+use Rattle.mich_base.specs.undo.History.{height_of}
 use Rattle.mich_world.specs.Holders.{Holders}
 use Rattle.mich_world.specs.Journal.{past_of, before, history}
 use Rattle.mich_world.specs.declared.entry.Entry.{Entry}

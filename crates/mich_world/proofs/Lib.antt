@@ -9,3 +9,5 @@ pub mod Seen
 pub mod Stored
 pub mod Sums
 pub mod ForCallers
+pub mod simulation_lemmas
+pub mod preconditions_lemmas

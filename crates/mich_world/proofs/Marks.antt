@@ -1,7 +1,7 @@
 -- Marks stay good.
 use Rattle.std.proofs.Common.{◌≡◌, ◌≤◌, ℕ, ℤ, refl, sym, ap, ◌∙◌, arith, subst}
-use Rattle.mich_undo.specs.History.{History, height_of, rewound, Keeps}
-use Rattle.mich_undo.proofs.ForCallers.{keeps_same, keeps_trans, keeps_equal, rewound_twice}
+use Rattle.mich_base.specs.undo.History.{History, height_of, rewound, Keeps}
+use Rattle.mich_base.proofs.undo_lemmas.ForCallers.{keeps_same, keeps_trans, keeps_equal, rewound_twice}
 use Rattle.mich_tickets.specs.Books.{State}
 use Rattle.mich_bigmap.specs.Stored.{Stored}
 use Rattle.mich_world.specs.Holders.{Holders, total}

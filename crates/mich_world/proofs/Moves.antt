@@ -5,7 +5,7 @@ use Rattle.std.specs.BTreeMap.{is_at}
 use Rattle.std.specs.Map.{lookup}
 use Rattle.mich_forms.specs.declared.places.Place.{Place}
 use Rattle.mich_forms.specs.declared.places.Place.TheVariants as place
-use Rattle.mich_undo.specs.Undone.{changed_at}
+use Rattle.mich_base.specs.undo.Undone.{changed_at}
 use Rattle.mich_world.specs.Holders.{Holders, by_bytes, contract_at, may_receive, rebalanced, with_balance}
 
 module _ {K X : Type 0} (t u : K → Bool) (f : X → X) where

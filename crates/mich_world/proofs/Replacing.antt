@@ -4,9 +4,9 @@ use Rattle.std.specs.Prelude.{pos, neg_ℤ, ◌+ℤ◌, ◌≤ℤ◌, if◌then�
 use Rattle.std.specs.Str.{bytes_eq}
 use Rattle.std.proofs.lemmas.Slice.Eq.{bytes_eq-Decides}
 use Rattle.std.specs.declared.option.Option.{Option}
-use Rattle.rules_values.specs.Tickets.{Identity, Held, tickets}
+use Rattle.rules_data.specs.values.Tickets.{Identity, Held, tickets}
 use Rattle.mich_term.specs.ValueView.{val}
-use Rattle.rules_steps.specs.Changes.{amount_among}
+use Rattle.rules_code.specs.steps.Changes.{amount_among}
 use Rattle.mich_tickets.specs.Books.{Books}
 use Rattle.mich_tickets.specs.Carrying.{MayEnter, MayLeave, Enters, Leaves}
 use Rattle.mich_tickets.specs.Most.{most}

@@ -12,7 +12,7 @@ use Rattle.std.proofs.lemmas.List.Sums.{sum_by-cons}
 use Rattle.std.proofs.lemmas.Map.{lookup-none}
 use Rattle.std.proofs.lemmas.Map.Keys.{sorted_tail}
 use Rattle.std.proofs.lemmas.Map.Entries.{none_below_head}
-use Rattle.mich_undo.specs.Undone.{changed_at}
+use Rattle.mich_base.specs.undo.Undone.{changed_at}
 
 module _ {K X Y : Type 0} (f : X → Y) where
   abbrev pub seen : K × X → K × Y

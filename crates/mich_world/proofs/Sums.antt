@@ -9,8 +9,8 @@ use Rattle.std.specs.Map.{keys_of}
 use Rattle.std.specs.List.Sorted.{IsStrictlySortedBy}
 use Rattle.std.proofs.lemmas.Cmp.{nat_list_cmp_total}
 use Rattle.std.proofs.lemmas.Map.Entries.{sum_by-insert_entry, sum_by-set_value}
-use Rattle.mich_undo.specs.Undone.{changed_at}
-use Rattle.mich_undo.proofs.ForCallers.{changed_is_set}
+use Rattle.mich_base.specs.undo.Undone.{changed_at}
+use Rattle.mich_base.proofs.undo_lemmas.ForCallers.{changed_is_set}
 use Rattle.mich_world.specs.Holders.{by_bytes}
 
 module _ {K X : Type 0} (f : X → ℕ) (test : K → Bool) where

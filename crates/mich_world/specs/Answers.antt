@@ -1,11 +1,11 @@
 -- What the calls answer, and what becomes of the holders then.
 use Rattle.std.specs.Prelude.{◌≡◌, ◌+◌, ◌<◌, ◌≤◌, ℕ, true, false, is_some, List, Result, Ok, Err}
-use Rattle.rules_base.specs.Limits.{most_mutez}
+use Rattle.rules_text.specs.nodes.Limits.{most_mutez}
 use Rattle.mich_forms.specs.declared.places.Place.{Place}
 use Rattle.mich_forms.specs.declared.places.Place.TheVariants as place
 use Rattle.mich_instr.specs.declared.instr.Script.{Script}
 use Rattle.mich_term.specs.declared.value.Value.{Value}
-use Rattle.mich_undo.specs.History.{History}
+use Rattle.mich_base.specs.undo.History.{History}
 use Rattle.mich_world.specs.Holders.{Holders, account_at, balance_or_none, may_receive, moved, fee_taken, endowed}
 use Rattle.mich_world.specs.Marks.{IsSame}
 use Rattle.mich_world.specs.Storages.{Installs}

@@ -2,7 +2,7 @@
 use Rattle.std.specs.Prelude.{ℕ, Option, List}
 use Rattle.mich_forms.specs.declared.places.Place.{Place}
 use Rattle.mich_forms.specs.declared.places.Place.TheVariants as place
-use Rattle.mich_undo.specs.Undone.{undone}
+use Rattle.mich_base.specs.undo.Undone.{undone}
 use Rattle.mich_world.specs.Holders.{by_bytes}
 
 -- where old stands at the account of a place again, or nothing

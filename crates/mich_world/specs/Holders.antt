@@ -7,11 +7,11 @@ use Rattle.std.specs.Cmp.Lexicographic.{slice_cmp}
 use Rattle.std.specs.BTreeMap.{is_at, insert_entry}
 use Rattle.std.specs.List.{sum_by}
 use Rattle.std.specs.Map.{lookup, values_of}
-use Rattle.rules_base.specs.Limits.{most_mutez}
+use Rattle.rules_text.specs.nodes.Limits.{most_mutez}
 use Rattle.mich_forms.specs.declared.places.Place.{Place}
 use Rattle.mich_forms.specs.declared.places.Place.TheVariants as place
 use Rattle.mich_term.specs.declared.value.Value.{Value}
-use Rattle.mich_undo.specs.Undone.{changed_at}
+use Rattle.mich_base.specs.undo.Undone.{changed_at}
 use Rattle.mich_world.specs.declared.contract.Contract.{Contract}
 
 -- the balances of accounts by the bytes of their key hashes, and the contracts by their 20 bytes

@@ -1,8 +1,8 @@
 -- What a journal of writes makes of holders.
 use Rattle.std.specs.Prelude.{◌≡◌, ℕ, Option, List, [], ◌∷◌, reverse, refl}
 use Rattle.std.specs.Coded.{Coded, code_by, coded×, coded_list, coded_ℕ}
-use Rattle.mich_undo.specs.History.{History}
-use Rattle.mich_undo.specs.Undone.{undone}
+use Rattle.mich_base.specs.undo.History.{History}
+use Rattle.mich_base.specs.undo.Undone.{undone}
 use Rattle.mich_forms.specs.declared.places.Place.{Place}
 use Rattle.mich_world.specs.Before.{accounts_before}
 use Rattle.mich_world.specs.Holders.{Holders, no_holders, by_bytes, rebalanced, restored, with_change, with_fees, with_granted, total, IsSound}

@@ -1,9 +1,9 @@
 -- The laws of marks, and of the world of the definitions that a world stands for.
 use Rattle.std.specs.Prelude.{◌≡◌, ℕ, true, List}
-use Rattle.rules_forms.specs.Spelling.{implicit_place, is_place}
-use Rattle.rules_world.specs.Balances as rules
-use Rattle.rules_world.specs.Forms.{IsWorld}
-use Rattle.rules_world.specs.World.{World as PlainWorld}
+use Rattle.rules_data.specs.forms.Spelling.{implicit_place, is_place}
+use Rattle.rules_world.specs.world.Balances as rules
+use Rattle.rules_world.specs.world.Forms.{IsWorld}
+use Rattle.rules_world.specs.world.World.{World as PlainWorld}
 use Rattle.mich_forms.specs.Spelled.{place_bytes}
 use Rattle.mich_forms.specs.declared.places.Place.{Place}
 use Rattle.mich_world.specs.Holders.{total, balance_at, may_receive, moved, fee_taken}

@@ -8,3 +8,5 @@ pub mod Marks
 pub mod Standing
 pub mod Storages
 pub mod World
+pub mod simulation
+pub mod preconditions

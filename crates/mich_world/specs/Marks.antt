@@ -1,6 +1,6 @@
 -- Places in the journals of a world.
 use Rattle.std.specs.Prelude.{◌≡◌, ◌≤◌, []}
-use Rattle.mich_undo.specs.History.{height_of, rewound, Keeps}
+use Rattle.mich_base.specs.undo.History.{height_of, rewound, Keeps}
 use Rattle.mich_world.specs.World.{World}
 use Rattle.mich_world.specs.declared.mark.Mark.{Mark}
 

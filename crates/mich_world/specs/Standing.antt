@@ -1,10 +1,10 @@
 -- The world of the definitions that a world of the code stands for.
 use Rattle.std.specs.Prelude.{◌≡◌, ℕ, true, List, map}
-use Rattle.rules_evaluation.specs.Surroundings.{Contract as PlainContract}
-use Rattle.rules_forms.specs.Spelling.{is_place}
-use Rattle.rules_values.specs.Tickets.{Identity}
-use Rattle.rules_world.specs.Holdings.{held_by, minted_ever, burnt_ever}
-use Rattle.rules_world.specs.World.{World as PlainWorld, Account}
+use Rattle.rules_code.specs.evaluation.Surroundings.{Contract as PlainContract}
+use Rattle.rules_data.specs.forms.Spelling.{is_place}
+use Rattle.rules_data.specs.values.Tickets.{Identity}
+use Rattle.rules_world.specs.world.Holdings.{held_by, minted_ever, burnt_ever}
+use Rattle.rules_world.specs.world.World.{World as PlainWorld, Account}
 use Rattle.mich_bigmap.specs.Bases.{Bases}
 use Rattle.mich_bigmap.specs.Standing.{val_in}
 use Rattle.mich_instr.specs.View.{script_node}

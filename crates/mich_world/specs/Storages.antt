@@ -1,8 +1,8 @@
 -- Storages of contracts, and what calls make of them (Octez "Tickets"; Michelson reference, "big_map").
 use Rattle.std.specs.Prelude.{◌≡◌, ◌+ℤ◌, ◌≤ℤ◌, neg_ℤ, ℕ, Option, Some, None, List, []}
 use Rattle.std.specs.List.{AllByRecursion}
-use Rattle.rules_values.specs.Tickets.{Identity, Held, tickets}
-use Rattle.rules_steps.specs.Changes.{amount_among}
+use Rattle.rules_data.specs.values.Tickets.{Identity, Held, tickets}
+use Rattle.rules_code.specs.steps.Changes.{amount_among}
 use Rattle.mich_forms.specs.Spelled.{place_bytes}
 use Rattle.mich_forms.specs.declared.places.Place.{Place}
 use Rattle.mich_forms.specs.declared.places.Place.TheVariants as place

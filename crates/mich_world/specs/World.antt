@@ -2,7 +2,7 @@
 -- its journal, and the clock.
 use Rattle.std.specs.Prelude.{ℕ, ℤ, List, refl}
 use Rattle.std.specs.Coded.{Coded, code_by, coded×, coded_list, coded_ℕ, coded_ℤ}
-use Rattle.mich_undo.specs.History.{History}
+use Rattle.mich_base.specs.undo.History.{History}
 use Rattle.mich_tickets.specs.Books.{State, state_code, fresh, no_books}
 use Rattle.mich_bigmap.specs.Stored.{Stored, stored_code, no_bases}
 use Rattle.mich_world.specs.Holders.{Holders}

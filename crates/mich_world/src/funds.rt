@@ -1,6 +1,6 @@
 // Accounts and contracts, fees and grants, with a journal by which writes are taken back.
 ghost use Rattle.std.specs.Prelude.{◌≡◌, ◌+◌, ◌-◌, ◌≤◌, true, is_some, option_map, unwrap_or, IfOk, OnErr};
-ghost use Rattle.mich_undo.specs.History.{height_of, grown, stepped_back, rewound, kept};
+ghost use Rattle.mich_base.specs.undo.History.{height_of, grown, stepped_back, rewound, kept};
 ghost use Rattle.mich_world.specs.Holders.{IsSound, account_at, contract_at, balance_at, balance_or_none, total, with_account, with_contract, rebalanced, restored, with_change, with_fees, with_granted};
 ghost use Rattle.mich_world.specs.Journal.{no_history};
 
@@ -11,9 +11,9 @@ use crate::maps::{
     swap_balance, swap_storage,
 };
 use mich_base::Memory;
+use mich_base::undo::{note, put_back};
 use mich_forms::{KeyHash, Place};
 use mich_term::Value;
-use mich_undo::{note, put_back};
 use std::alloc::Global;
 use std::collections::BTreeMap;
 use std::marker::Model;
@@ -31,7 +31,7 @@ pub(crate) struct Funds {
 }
 
 impl Model for Funds {
-    ghost use Rattle.mich_undo.specs.History.{History};
+    ghost use Rattle.mich_base.specs.undo.History.{History};
     ghost use Rattle.mich_world.specs.Holders.{Holders};
     ghost use Rattle.mich_world.specs.Journal.{history, history_code, AreSound};
 
@@ -276,7 +276,7 @@ impl Funds {
     }
 
     // Takes all writes past a height back, last first; takes no memory.
-    #[tactic(auto, using(mich_undo::proofs::ForCallers::rewound_here, mich_undo::proofs::ForCallers::rewound_step))]
+    #[tactic(auto, using(mich_base::proofs::undo_lemmas::ForCallers::rewound_here, mich_base::proofs::undo_lemmas::ForCallers::rewound_step))]
     pub(crate) fn undo_to(&mut self, height: u64)
         requires { height ≤ height_of self.old }
         ensures { self.new ≡ rewound self.old height }

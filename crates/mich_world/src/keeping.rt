@@ -4,7 +4,7 @@ ghost use Rattle.std.specs.List.{AllByRecursion};
 ghost use Rattle.mich_bigmap.specs.Kept.{all_of};
 ghost use Rattle.mich_bigmap.specs.Notes.{Notes};
 ghost use Rattle.mich_bigmap.specs.Ticketless.{HoldNoTickets};
-ghost use Rattle.mich_undo.specs.History.{kept};
+ghost use Rattle.mich_base.specs.undo.History.{kept};
 ghost use Rattle.mich_world.specs.Storages.{Stands, AreStored, named_in};
 
 use crate::maps::Contracts;

@@ -14,6 +14,8 @@ mod laws;
 mod maps;
 mod mark;
 mod moving;
+pub mod preconditions;
+pub mod simulation;
 mod storing;
 mod world;
 

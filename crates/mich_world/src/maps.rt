@@ -3,15 +3,15 @@ ghost use Rattle.std.specs.Prelude.{◌≡◌, ◌+◌, ◌≤◌, IfOk, OnErr, 
 ghost use Rattle.std.specs.BTreeMap.{is_at, insert_entry};
 ghost use Rattle.std.specs.List.{sum_by};
 ghost use Rattle.std.specs.Map.{lookup, values_of};
-ghost use Rattle.mich_undo.specs.Undone.{undone, changed_at};
+ghost use Rattle.mich_base.specs.undo.Undone.{undone, changed_at};
 ghost use Rattle.mich_world.specs.Holders.{by_bytes, rebalanced, restored};
 ghost use Rattle.mich_world.specs.Before.{accounts_before};
 
 use crate::contract::Contract;
 use mich_base::Memory;
+use mich_base::undo::{put, put_back};
 use mich_forms::{KeyHash, Place};
 use mich_term::Value;
-use mich_undo::{put, put_back};
 use std::collections::BTreeMap;
 use std::mem;
 

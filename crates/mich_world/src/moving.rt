@@ -1,8 +1,8 @@
 // Moves of mutez, all or nothing.
 ghost use Rattle.std.specs.Prelude.{◌≡◌, ◌+◌, ◌≤◌, true, false, is_some, unwrap_or, IfOk, OnErr, OnOk, ℕ, List};
-ghost use Rattle.rules_base.specs.Limits.{most_mutez};
+ghost use Rattle.rules_text.specs.nodes.Limits.{most_mutez};
 ghost use Rattle.mich_forms.specs.declared.places.Place.TheVariants as place;
-ghost use Rattle.mich_undo.specs.History.{grown, Keeps};
+ghost use Rattle.mich_base.specs.undo.History.{grown, Keeps};
 ghost use Rattle.mich_world.specs.Answers.{IsGrant, IsMove, IsFee};
 ghost use Rattle.mich_world.specs.Holders.{IsSound, account_at, contract_at, balance_or_none, may_receive, total, with_balance, with_less, moved, fee_taken, endowed, founded, committed};
 
@@ -48,7 +48,7 @@ impl Funds {
     }
 
     // Takes so much from the balance at a place.
-    #[tactic(auto, using(mich_undo::proofs::ForCallers::keeps_to, mich_undo::proofs::ForCallers::keeps_equal, crate::proofs::Moves::contracts_there, crate::proofs::Moves::granted_same))]
+    #[tactic(auto, using(mich_base::proofs::undo_lemmas::ForCallers::keeps_to, mich_base::proofs::undo_lemmas::ForCallers::keeps_equal, crate::proofs::Moves::contracts_there, crate::proofs::Moves::granted_same))]
     fn pay(&mut self, place: &Place, mutez: u64) -> Result<(), Memory>
         requires there { may_receive self.old.present place.now ≡ true }
         requires enough { mutez ≤ balance_or_none self.old.present place.now }
@@ -65,7 +65,7 @@ impl Funds {
     }
 
     // Makes an account with a balance.
-    #[tactic(auto, using(mich_undo::proofs::ForCallers::keeps_to, mich_undo::proofs::ForCallers::keeps_equal, mich_undo::proofs::ForCallers::keeps_trans, crate::proofs::Moves::nothing))]
+    #[tactic(auto, using(mich_base::proofs::undo_lemmas::ForCallers::keeps_to, mich_base::proofs::undo_lemmas::ForCallers::keeps_equal, mich_base::proofs::undo_lemmas::ForCallers::keeps_trans, crate::proofs::Moves::nothing))]
     fn endow(&mut self, who: KeyHash, mutez: u64) -> Result<(), Memory>
         requires absent { is_some (account_at self.old.present who) ≡ false }
         requires fits { self.old.present.granted + mutez ≤ most_mutez }
@@ -80,7 +80,7 @@ impl Funds {
     }
 
     // The same, all or nothing.
-    #[tactic(auto, using(mich_undo::proofs::ForCallers::keeps_same))]
+    #[tactic(auto, using(mich_base::proofs::undo_lemmas::ForCallers::keeps_same))]
     pub(crate) fn grant(&mut self, who: KeyHash, mutez: u64) -> Result<(), GrantError>
         ensures answer { IsGrant who mutez self.old self.new result }
         ensures total { OnOk result (total self.new.present ≡ total self.old.present + mutez) }
@@ -101,7 +101,7 @@ impl Funds {
     }
 
     // A fee goes from an account to the fees.
-    #[tactic(auto, using(mich_undo::proofs::ForCallers::keeps_to, mich_undo::proofs::ForCallers::keeps_equal, mich_undo::proofs::ForCallers::keeps_trans))]
+    #[tactic(auto, using(mich_base::proofs::undo_lemmas::ForCallers::keeps_to, mich_base::proofs::undo_lemmas::ForCallers::keeps_equal, mich_base::proofs::undo_lemmas::ForCallers::keeps_trans))]
     fn pay_fee(&mut self, who: KeyHash, fee: u64) -> Result<(), Memory>
         requires { fee ≤ balance_or_none self.old.present (place.Implicit who) }
         ensures taken { IfOk result (λ _. self.new.present ≡ fee_taken self.old.present who fee) }
@@ -115,7 +115,7 @@ impl Funds {
     }
 
     // The same, all or nothing.
-    #[tactic(auto, using(mich_undo::proofs::ForCallers::keeps_same))]
+    #[tactic(auto, using(mich_base::proofs::undo_lemmas::ForCallers::keeps_same))]
     pub(crate) fn take_fee(&mut self, who: KeyHash, fee: u64) -> Result<(), MoveError>
         ensures answer { IsFee who fee self.old self.new result }
         ensures total { total self.new.present ≡ total self.old.present }
@@ -133,7 +133,7 @@ impl Funds {
     }
 
     // Mutez go from one place to another.
-    #[tactic(auto, using(mich_undo::proofs::ForCallers::keeps_to, mich_undo::proofs::ForCallers::keeps_equal, mich_undo::proofs::ForCallers::keeps_trans, crate::proofs::Moves::receives))]
+    #[tactic(auto, using(mich_base::proofs::undo_lemmas::ForCallers::keeps_to, mich_base::proofs::undo_lemmas::ForCallers::keeps_equal, mich_base::proofs::undo_lemmas::ForCallers::keeps_trans, crate::proofs::Moves::receives))]
     fn carry(&mut self, from: &Place, to: &Place, amount: u64) -> Result<(), Memory>
         requires from_there { may_receive self.old.present from.now ≡ true }
         requires to_there { may_receive self.old.present to.now ≡ true }
@@ -149,7 +149,7 @@ impl Funds {
     }
 
     // The same, all or nothing.
-    #[tactic(auto, using(mich_undo::proofs::ForCallers::keeps_same))]
+    #[tactic(auto, using(mich_base::proofs::undo_lemmas::ForCallers::keeps_same))]
     pub(crate) fn move_mutez(
         &mut self,
         from: &Place,
@@ -176,7 +176,7 @@ impl Funds {
     }
 
     // A contract is made, and a place pays its balance. After Memory the funds have only writes that can be taken back.
-    #[tactic(auto, using(mich_undo::proofs::ForCallers::keeps_to, mich_undo::proofs::ForCallers::keeps_equal, mich_undo::proofs::ForCallers::keeps_trans, crate::proofs::Moves::nothing_of))]
+    #[tactic(auto, using(mich_base::proofs::undo_lemmas::ForCallers::keeps_to, mich_base::proofs::undo_lemmas::ForCallers::keeps_equal, mich_base::proofs::undo_lemmas::ForCallers::keeps_trans, crate::proofs::Moves::nothing_of))]
     pub(crate) fn found(
         &mut self,
         from: &Place,
@@ -196,7 +196,7 @@ impl Funds {
     }
 
     // A contract has a new storage.
-    #[tactic(auto, using(mich_undo::proofs::ForCallers::keeps_to, mich_undo::proofs::ForCallers::keeps_equal))]
+    #[tactic(auto, using(mich_base::proofs::undo_lemmas::ForCallers::keeps_to, mich_base::proofs::undo_lemmas::ForCallers::keeps_equal))]
     pub(crate) fn commit(&mut self, hash: &[u8; 20], storage: Value) -> Result<(), Memory>
         requires { is_some (contract_at self.old.present hash.now) ≡ true }
         ensures committed { IfOk result (λ _. self.new.present ≡ committed self.old.present hash.now storage) }

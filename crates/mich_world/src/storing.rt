@@ -1,6 +1,6 @@
 // Contracts that are made, and storages that are kept.
 ghost use Rattle.std.specs.Prelude.{◌≡◌, ◌≤◌, true, false, is_some, IfOk, OnErr, OnOk};
-ghost use Rattle.rules_values.specs.Tickets.{tickets};
+ghost use Rattle.rules_data.specs.values.Tickets.{tickets};
 ghost use Rattle.mich_term.specs.Layers.{AreFormed};
 ghost use Rattle.mich_bigmap.specs.Layers.{HasBases};
 ghost use Rattle.mich_term.specs.ValueView.{val};
@@ -21,7 +21,7 @@ use mich_term::Value;
 use std::alloc::Global;
 
 impl World {
-    #[tactic(auto, using(mich_undo::proofs::ForCallers::keeps_same, crate::proofs::Marks::keeps_parts))]
+    #[tactic(auto, using(mich_base::proofs::undo_lemmas::ForCallers::keeps_same, crate::proofs::Marks::keeps_parts))]
     // A contract is made. After Memory the world has only writes that can be taken back.
     fn put_contract(
         &mut self,
@@ -91,7 +91,7 @@ impl World {
         Ok(())
     }
 
-    #[tactic(auto, using(mich_undo::proofs::ForCallers::keeps_same, crate::proofs::Marks::keeps_parts, crate::proofs::Replacing::may_leave_stored, crate::proofs::Replacing::may_enter_stored, crate::proofs::Replacing::replaces_stored))]
+    #[tactic(auto, using(mich_base::proofs::undo_lemmas::ForCallers::keeps_same, crate::proofs::Marks::keeps_parts, crate::proofs::Replacing::may_leave_stored, crate::proofs::Replacing::may_enter_stored, crate::proofs::Replacing::replaces_stored))]
     // A contract has a new storage. After Memory the world has only writes that can be taken back.
     fn put_storage(&mut self, alloc: Global, hash: &[u8; 20], storage: Value) -> Result<(), Memory>
         requires there { is_some (contract_at self.old.funds.present hash.now) ≡ true }

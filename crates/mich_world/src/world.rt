@@ -1,7 +1,7 @@
 // The world.
 ghost use Rattle.std.specs.Borrow.{sem};
 ghost use Rattle.std.specs.Prelude.{◌≡◌, ◌+◌, true, [], OnOk, option_map};
-ghost use Rattle.mich_undo.specs.History.{Keeps};
+ghost use Rattle.mich_base.specs.undo.History.{Keeps};
 ghost use Rattle.mich_world.specs.Answers.{IsGrant, IsMove, IsFee};
 ghost use Rattle.mich_world.specs.Holders.{balance_at, contract_at, may_receive, total};
 ghost use Rattle.mich_world.specs.Lending.{LendsLedger, LendsStore};

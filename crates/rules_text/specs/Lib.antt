@@ -1,6 +1,5 @@
-pub mod Fault
-pub mod Token
-pub mod Syntax
-pub mod Lexical
-pub mod Text
-pub mod Printed
+pub mod nodes
+pub mod binary
+pub mod hash
+pub mod streams
+pub mod text

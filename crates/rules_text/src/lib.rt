@@ -1,30 +1,6 @@
-// Micheline text: its tokens, its grammar and its faults, in specs/; and the names that definitions and code share.
+//! Definitions alone: nodes, their text and their binary form, hashes, and what files and outputs do.
 #![tactic(auto)]
 
-/// The kinds of fault of a text.
-#[derive(Clone, Copy, Debug, PartialEq, Eq)]
-pub enum TextKind {
-    BadChar,
-    BadString,
-    BadBytes,
-    BadNumber,
-    Unclosed,
-    Unexpected,
-    TooDeep,
-    TooLong,
-}
-
-/// What a token is, by its first byte.
-#[derive(Clone, Copy, Debug, PartialEq, Eq)]
-pub enum Shape {
-    /// A number or bytes.
-    Digits,
-    Quoted,
-    Word,
-    Note,
-    OpenBrace,
-    CloseBrace,
-    OpenParen,
-    CloseParen,
-    Semicolon,
-}
+pub mod binary;
+pub mod nodes;
+pub mod text;

@@ -1,5 +1,12 @@
-//! Tests of `mich_base`, by its public calls.
+//! Tests of the lowest crates, by their public calls.
 #![tactic(auto)]
 
+pub mod base;
+pub mod blake;
+pub mod forms;
+pub mod gas;
+pub mod generate;
+pub mod io;
+pub mod num;
 #[cfg(test)]
-mod tests;
+mod support;

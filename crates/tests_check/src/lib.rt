@@ -1,7 +1,15 @@
-//! Tests of `mich_check`, by its public calls.
+//! Tests of types, of the rows of typing and of checked scripts, by public calls.
 #![tactic(auto)]
 
+pub mod cache;
+pub mod control;
+pub mod instr;
+pub mod overload;
+pub mod scripts;
+pub mod sections;
 #[cfg(test)]
-mod tests;
+mod short_types;
+pub mod stackrules;
 #[cfg(test)]
-mod worked;
+mod support;
+pub mod types;

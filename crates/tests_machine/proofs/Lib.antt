@@ -1,3 +1,1 @@
-pub mod Begins
-pub mod Calling
-pub mod Founded
+pub mod machine_lemmas

@@ -1,2 +1,1 @@
-pub mod Home
-pub mod Start
+pub mod machine

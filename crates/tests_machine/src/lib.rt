@@ -1,13 +1,7 @@
-//! Tests of `mich_interpreter` and `mich_machine`, by their public calls.
+//! Tests of literals in a world, of runs and of groups, by public calls.
 #![tactic(auto)]
 
-#[cfg(test)]
-mod call_tests;
-#[cfg(test)]
-mod calls;
-#[cfg(test)]
-mod code_tests;
-#[cfg(test)]
-mod runs;
-#[cfg(test)]
-mod settings;
+pub mod arguments;
+pub mod group;
+pub mod machine;
+pub mod unpack;

@@ -1,5 +1,11 @@
-//! Tests of `mich_step`, by its public calls.
+//! Tests of instructions without bodies, by public calls.
 #![tactic(auto)]
 
+pub mod collections;
+pub mod entries;
+pub mod hashes;
+pub mod prices;
+pub mod stack;
+pub mod step;
 #[cfg(test)]
-mod tests;
+mod support;

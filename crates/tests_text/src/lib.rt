@@ -1,5 +1,9 @@
-//! Tests of `mich_text`, by its public calls.
+//! Tests of what is read and printed, by public calls.
 #![tactic(auto)]
 
-#[cfg(test)]
-mod tests;
+pub mod answers;
+pub mod binary;
+pub mod reader;
+pub mod report;
+pub mod scenario;
+pub mod text;

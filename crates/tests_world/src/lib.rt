@@ -1,5 +1,8 @@
-//! Tests of `mich_world`, by its public calls.
+//! Tests of tickets, big maps and worlds, by public calls.
 #![tactic(auto)]
 
+pub mod bigmap;
 #[cfg(test)]
-mod tests;
+mod support;
+pub mod tickets;
+pub mod world;

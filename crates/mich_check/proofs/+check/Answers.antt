@@ -1,14 +1,14 @@
 use Rattle.std.proofs.Common.{rules, arith, ◌+◌, subst, ap, sym, ◌∙◌}
 use Rattle.std.specs.Prelude.{Err}
-use Rattle.rules_base.specs.Tree.{prim, size, sizes}
-use Rattle.rules_typing.specs.Typing.{shift}
-use Rattle.rules_typing.specs.Nodes.{tree_type, trees_type}
+use Rattle.rules_text.specs.nodes.Tree.{prim, size, sizes}
+use Rattle.rules_code.specs.typing.Typing.{shift}
+use Rattle.rules_code.specs.typing.Nodes.{tree_type, trees_type}
 use Rattle.mich_base.specs.TypeView.{kind}
 use Rattle.mich_base.specs.View.{tree, trees}
 use Rattle.mich_data.proofs.ForCallers.{sizes_at}
 use Rattle.mich_overload.specs.View.{kinds}
 use Rattle.mich_control.specs.View.{context}
-use Rattle.rules_typing.specs.Literals.{fault_of_bodies}
+use Rattle.rules_code.specs.typing.Literals.{fault_of_bodies}
 use Rattle.mich_data.specs.View.{pending, all_pending}
 use Rattle.mich_data.specs.declared.pending.Pending.{Pending as Item}
 use Rattle.mich_check.specs.Pending.{IsFaulty, item_fault, moved}
@@ -18,9 +18,9 @@ use Rattle.mich_check.proofs.Blocks.{left_size, block_fault, block_step, block_c
 use Rattle.mich_check.proofs.PushTyping.{push_type, push_literal, push_body, push_made, items_room, items_size, items_fault, items_step, items_end, called_item}
 use Rattle.std.specs.Prelude.{map}
 use Rattle.std.proofs.Common.{◌<◌, ◌≤◌, refl, subst}
-use Rattle.rules_typing.specs.Scripts.{with_views}
+use Rattle.rules_code.specs.typing.Scripts.{with_views}
 use Rattle.mich_base.specs.TypeView.{kind}
-use Rattle.mich_sections.specs.View.{outline_of, view_of}
+use Rattle.mich_check.specs.sections.View.{outline_of, view_of}
 use Rattle.mich_instr.specs.declared.instr.Script.{Script, out-Script}
 use Rattle.mich_check.specs.Scripts.{AreTypedViews, largest_of}
 use Rattle.mich_check.proofs.CreateTyping.{created, create_script, shared_typed, storage_other}

@@ -1,8 +1,8 @@
 use Rattle.std.proofs.Common.{◌≡◌, ◌+◌, ◌*◌, ◌≤◌, [], ◌∷◌, drop}
-use Rattle.rules_base.specs.Tree.{size, sizes}
-use Rattle.rules_typing.specs.Typing.{shift}
-use Rattle.rules_typing.specs.Nodes.{trees_type}
-use Rattle.rules_typing.specs.Literals.{fault_of_bodies}
+use Rattle.rules_text.specs.nodes.Tree.{size, sizes}
+use Rattle.rules_code.specs.typing.Typing.{shift}
+use Rattle.rules_code.specs.typing.Nodes.{trees_type}
+use Rattle.rules_code.specs.typing.Literals.{fault_of_bodies}
 use Rattle.mich_base.specs.View.{tree, trees}
 use Rattle.mich_data.specs.View.{all_pending, pending}
 use Rattle.mich_overload.specs.View.{kinds}
@@ -11,9 +11,9 @@ use Rattle.mich_check.specs.Pending.{largest, moved, reach}
 use Rattle.mich_control.specs.View.{context}
 use Rattle.mich_check.proofs.Blocks.{rest_type, Completes}
 use Rattle.std.specs.Prelude.{map}
-use Rattle.rules_typing.specs.Scripts.{with_views}
+use Rattle.rules_code.specs.typing.Scripts.{with_views}
 use Rattle.mich_base.specs.TypeView.{kind}
-use Rattle.mich_sections.specs.View.{view_of}
+use Rattle.mich_check.specs.sections.View.{view_of}
 use Rattle.mich_check.specs.Scripts.{largest_of}
 use Rattle.mich_check.proofs.ScriptTyping.{Reached}
 use Rattle.mich_check.proofs.+check.Given as goal

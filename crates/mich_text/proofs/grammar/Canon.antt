@@ -1,8 +1,8 @@
 -- A node that is put together as it is printed stands for itself.
 use Rattle.std.proofs.Common.{◌≡◌, ℕ, List, [], ◌∷◌, ◌++◌, refl, sym, ap, ◌∙◌, append_assoc}
 use Rattle.std.proofs.lemmas.List.{append-nil}
-use Rattle.rules_base.specs.Tree.{Tree, int, str, prim, seq, Trees, none, more, trees_of}
-use Rattle.rules_text.specs.Syntax.{Items, no_items, with_annotation, Element, Separated, nothing, followed, annotations, arguments, node_tree, element_tree, separated_trees}
+use Rattle.rules_text.specs.nodes.Tree.{Tree, int, str, prim, seq, Trees, none, more, trees_of}
+use Rattle.rules_text.specs.text.Syntax.{Items, no_items, with_annotation, Element, Separated, nothing, followed, annotations, arguments, node_tree, element_tree, separated_trees}
 use Rattle.mich_text.specs.Canonical.{with_notes, wrapped, element_of, with_argument, with_arguments, sequence}
 
 list_of : Trees → List Tree

@@ -1,9 +1,9 @@
 -- The parser takes the tokens of every list of statements that is no deeper than its limit, and so each front of them.
 use Rattle.std.proofs.Common.{◌≡◌, ℕ, ◌+◌, ◌≤◌, Bool, true, false, List, [], ◌∷◌, ◌++◌, length, Result, Ok, Err, refl, ap, ◌∙◌, arith}
 use Rattle.std.proofs.lemmas.Bool.{le-ltb}
-use Rattle.rules_base.specs.Tree.{Tree}
-use Rattle.rules_text.specs.Token.{Token}
-use Rattle.rules_text.specs.Syntax.{Node, number, bytes, string, parens, braces, braces_to, Items, no_items, with_annotation, with_name, with_node, Element, alone, application, Separated, nothing, followed, Statements, ended, unended, node_tokens, item_tokens, element_tokens, separated_tokens, statements_tokens, annotations, node_tree, arguments, element_tree, separated_trees, node_depth, items_depth, element_depth, separated_depth, statements_depth}
+use Rattle.rules_text.specs.nodes.Tree.{Tree}
+use Rattle.rules_text.specs.text.Token.{Token}
+use Rattle.rules_text.specs.text.Syntax.{Node, number, bytes, string, parens, braces, braces_to, Items, no_items, with_annotation, with_name, with_node, Element, alone, application, Separated, nothing, followed, Statements, ended, unended, node_tokens, item_tokens, element_tokens, separated_tokens, statements_tokens, annotations, node_tree, arguments, element_tree, separated_trees, node_depth, items_depth, element_depth, separated_depth, statements_depth}
 use Rattle.mich_text.specs.Machine.{elements, named, paren, Refusal, Stack, is_open, add, begins, finish, at_semicolon, at_close_brace, is_root, step, then_run, run, start}
 
 after : (r : Result Stack Refusal) (f g : Stack → Result Stack Refusal) (h : Stack → Result Stack Refusal)

@@ -1,7 +1,7 @@
 -- The depth of a node as it is written, and as it is printed.
 use Rattle.std.proofs.Common.{◌≡◌, ℕ, ◌+◌, ◌≤◌, max, List, [], ◌∷◌, ◌++◌, refl, arith}
-use Rattle.rules_base.specs.Tree.{Tree, int, str, prim, seq, Trees, none, more, trees_of, depth, depths}
-use Rattle.rules_text.specs.Syntax.{Node, number, bytes, string, parens, braces, braces_to, Items, no_items, with_annotation, with_name, with_node, Element, alone, application, Separated, nothing, followed, node_tree, arguments, element_tree, separated_trees, node_depth, items_depth, element_depth, separated_depth}
+use Rattle.rules_text.specs.nodes.Tree.{Tree, int, str, prim, seq, Trees, none, more, trees_of, depth, depths}
+use Rattle.rules_text.specs.text.Syntax.{Node, number, bytes, string, parens, braces, braces_to, Items, no_items, with_annotation, with_name, with_node, Element, alone, application, Separated, nothing, followed, node_tree, arguments, element_tree, separated_trees, node_depth, items_depth, element_depth, separated_depth}
 use Rattle.mich_text.specs.Canonical.{with_notes, wrapped, element_of, with_argument, with_arguments, sequence}
 
 depths-append : (xs ys : List Tree) → depths (trees_of (xs ++ ys)) ≡ max (depths (trees_of xs)) (depths (trees_of ys))

@@ -2,10 +2,10 @@
 use Rattle.std.proofs.Common.{◌≡◌, ℕ, ◌≤◌, max, Bool, true, false, cond, ltb, List, [], ◌∷◌, ◌++◌, length, Option, Some, None, Result, Ok, Err, refl, sym, ap, subst, ◌∙◌, append_assoc, arith}
 use Rattle.std.proofs.lemmas.Bool.{ltb-false, le-ltb}
 use Rattle.std.proofs.lemmas.List.{append-nil}
-use Rattle.rules_text.specs.Token.{Token, token_shape}
-use Rattle.rules_text.specs.declared.Shape.{Shape}
-use Rattle.rules_text.specs.declared.Shape.TheVariants.{Digits, Quoted, Word, Note, OpenBrace, CloseBrace, OpenParen, CloseParen, Semicolon}
-use Rattle.rules_text.specs.Syntax.{statements_depth, IsFront, IsFrontWithin}
+use Rattle.rules_text.specs.text.Token.{Token, token_shape}
+use Rattle.rules_text.specs.declared.text.Shape.{Shape}
+use Rattle.rules_text.specs.declared.text.Shape.TheVariants.{Digits, Quoted, Word, Note, OpenBrace, CloseBrace, OpenParen, CloseParen, Semicolon}
+use Rattle.rules_text.specs.text.Syntax.{statements_depth, IsFront, IsFrontWithin}
 use Rattle.mich_text.specs.Machine.{elements, named, paren, Refusal, unexpected, too_deep, Stack, is_open, begins, step, on, put, no_begin, no_word, no_note, no_close_paren, no_close_brace, no_semicolon, refused, ready_for, then_run, run, start}
 use Rattle.mich_text.proofs.grammar.Complete.{run-append, run_then, run_one, run_none, statements_run}
 use Rattle.mich_text.proofs.grammar.Sound.{Spelt, start_spelt, step_spelt, completes}

@@ -1,8 +1,8 @@
 -- No statement holds a `;` outside its brackets, and so none begins with another and its `;`.
 use Rattle.std.proofs.Common.{◌≡◌, ℕ, zero, suc, List, [], ◌∷◌, ◌++◌, refl, sym, ap, ◌∙◌, append_assoc, arith}
 use Rattle.std.proofs.lemmas.List.{append-nil}
-use Rattle.rules_text.specs.Token.{Token}
-use Rattle.rules_text.specs.Syntax.{nothing, element_tokens, Element, Node, number, bytes, string, parens, braces, braces_to, Items, no_items, with_annotation, with_name, with_node, alone, application, Separated, followed, node_tokens, item_tokens, separated_tokens}
+use Rattle.rules_text.specs.text.Token.{Token}
+use Rattle.rules_text.specs.text.Syntax.{nothing, element_tokens, Element, Node, number, bytes, string, parens, braces, braces_to, Items, no_items, with_annotation, with_name, with_node, alone, application, Separated, followed, node_tokens, item_tokens, separated_tokens}
 use Rattle.mich_text.proofs.grammar.Whole.{NoStatement}
 
 less : ℕ → ℕ

@@ -1,11 +1,11 @@
 -- A statement has at most as many nodes as bytes.
 use Rattle.std.proofs.Common.{◌≡◌, ℕ, ◌+◌, ◌≤◌, List, [], ◌∷◌, ◌++◌, length, Option, Some, None, Result, Ok, Err, sym, ap, ◌∙◌, subst, arith}
 use Rattle.std.proofs.lemmas.List.{length-append}
-use Rattle.rules_base.specs.Tree.{Tree, size, sizes, trees_of}
-use Rattle.rules_text.specs.Token.{Token}
-use Rattle.rules_text.specs.Lexical.{after_gap}
-use Rattle.rules_text.specs.Syntax.{Node, number, bytes, string, parens, braces, braces_to, Items, no_items, with_annotation, with_name, with_node, Element, alone, application, Separated, nothing, followed, node_tokens, item_tokens, element_tokens, separated_tokens, node_tree, arguments, element_tree, separated_trees}
-use Rattle.rules_text.specs.Text.{Leads, Stands, EndsAt}
+use Rattle.rules_text.specs.nodes.Tree.{Tree, size, sizes, trees_of}
+use Rattle.rules_text.specs.text.Token.{Token}
+use Rattle.rules_text.specs.text.Lexical.{after_gap}
+use Rattle.rules_text.specs.text.Syntax.{Node, number, bytes, string, parens, braces, braces_to, Items, no_items, with_annotation, with_name, with_node, Element, alone, application, Separated, nothing, followed, node_tokens, item_tokens, element_tokens, separated_tokens, node_tree, arguments, element_tree, separated_trees}
+use Rattle.rules_text.specs.text.Text.{Leads, Stands, EndsAt}
 use Rattle.mich_base.specs.View.{tree}
 use Rattle.mich_text.specs.declared.reader.Placed.{Placed}
 use Rattle.mich_text.specs.declared.fault.TextError.{TextError}
@@ -45,7 +45,7 @@ mutual
       omega (
         arith,
         items_fit i,
-        sizes-append (arguments i) (Tree.prim n [] Rattle.rules_base.specs.Tree.none),
+        sizes-append (arguments i) (Tree.prim n [] Rattle.rules_text.specs.nodes.Tree.none),
         length-append (item_tokens i) (Token.name n ∷ []),
       )
   items_fit (with_node i n) =

@@ -2,9 +2,9 @@
 use Rattle.std.proofs.Common.{◌≡◌, ℕ, ◌+◌, ◌≤◌, max, Bool, true, false, cond, ltb, List, [], ◌∷◌, ◌++◌, length, Result, Ok, Err, refl, sym, ap, subst, ◌∙◌, append_assoc, arith}
 use Rattle.std.proofs.lemmas.Bool.{ltb-false}
 use Rattle.std.proofs.lemmas.List.{append-nil}
-use Rattle.rules_base.specs.Tree.{Tree, prim, none}
-use Rattle.rules_text.specs.Token.{Token}
-use Rattle.rules_text.specs.Syntax.{Node, number, bytes, string, parens, braces, braces_to, Items, no_items, with_annotation, with_name, with_node, Element, alone, application, Separated, nothing, followed, ended, unended, node_tokens, item_tokens, element_tokens, separated_tokens, annotations, node_tree, arguments, element_tree, separated_trees, node_depth, items_depth, element_depth, separated_depth, IsFrontWithin}
+use Rattle.rules_text.specs.nodes.Tree.{Tree, prim, none}
+use Rattle.rules_text.specs.text.Token.{Token}
+use Rattle.rules_text.specs.text.Syntax.{Node, number, bytes, string, parens, braces, braces_to, Items, no_items, with_annotation, with_name, with_node, Element, alone, application, Separated, nothing, followed, ended, unended, node_tokens, item_tokens, element_tokens, separated_tokens, annotations, node_tree, arguments, element_tree, separated_trees, node_depth, items_depth, element_depth, separated_depth, IsFrontWithin}
 use Rattle.mich_text.specs.Machine.{elements, named, paren, Refusal, unexpected, too_deep, Stack, is_open, add, begins, finish, at_name, at_annotation, at_close_paren, at_semicolon, at_close_brace, step, start}
 
 abbrev pub brace : Bool → List Token

@@ -1,7 +1,7 @@
 -- The code's stack, whose innermost node is its last.
 use Rattle.std.proofs.Common.{◌≡◌, ℕ, suc, ◌+◌, ◌<◌, List, [], ◌∷◌, ◌++◌, length, get_or, set, take, drop, map, reverse, refl, sym, ap, ◌∙◌, arith, drop-cons}
 use Rattle.std.proofs.lemmas.List.{map_push, set_split, take-append-drop, drop_all, reverse-append}
-use Rattle.rules_base.specs.Tree.{Tree}
+use Rattle.rules_text.specs.nodes.Tree.{Tree}
 use Rattle.mich_text.specs.Machine.{Frame, elements, named, paren, Stack, add, put_annotation, go_on}
 use Rattle.mich_text.specs.Nodes.{frame_view, stack_view}
 use Rattle.mich_text.specs.declared.parser.Frame.{Frame as CodeFrame}

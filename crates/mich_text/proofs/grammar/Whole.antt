@@ -1,9 +1,9 @@
 -- What has been read when a statement may end.
 use Rattle.std.proofs.Common.{◌≡◌, ℕ, ◌≤◌, max, true, false, List, [], ◌∷◌, ◌++◌, length, Result, Ok, refl, sym, ap, ◌∙◌, append_assoc, arith, inl, inr, ◌⊎◌}
 use Rattle.std.proofs.lemmas.List.{same_from_push, length-append}
-use Rattle.rules_base.specs.Tree.{Tree}
-use Rattle.rules_text.specs.Token.{Token}
-use Rattle.rules_text.specs.Syntax.{Element, element_tokens, element_tree, element_depth, Separated, nothing, followed, separated_tokens, separated_trees, statements_depth, IsWhole, IsStatement}
+use Rattle.rules_text.specs.nodes.Tree.{Tree}
+use Rattle.rules_text.specs.text.Token.{Token}
+use Rattle.rules_text.specs.text.Syntax.{Element, element_tokens, element_tree, element_depth, Separated, nothing, followed, separated_tokens, separated_trees, statements_depth, IsWhole, IsStatement}
 use Rattle.mich_text.specs.Machine.{elements, named, paren, Stack, finish, is_root, has_statement, ended_tree, run, start}
 use Rattle.mich_text.proofs.grammar.Complete.{statements_run, element_runs}
 use Rattle.mich_text.proofs.grammar.Sound.{Spelt, finish_spelt}

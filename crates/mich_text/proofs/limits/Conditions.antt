@@ -1,10 +1,10 @@
 -- The conditions of faults in a text, and in its front up to a limit.
 use Rattle.std.proofs.Common.{◌≡◌, ℕ, zero, suc, ◌+◌, ◌-◌, ◌≤◌, ◌<◌, inl, inr, List, [], ◌∷◌, ◌++◌, length, take, Some, Err, refl, sym, ap, subst, ◌∙◌, append_assoc, arith}
 use Rattle.std.proofs.lemmas.List.{length-append, append-nil}
-use Rattle.rules_text.specs.Lexical.{token_at, first_shape}
-use Rattle.rules_text.specs.declared.Shape.{Shape}
-use Rattle.rules_text.specs.declared.TextKind.{TextKind}
-use Rattle.rules_text.specs.Text.{IsLimit, Shows, IsFlawed, IsUnexpected, IsTooDeep}
+use Rattle.rules_text.specs.text.Lexical.{token_at, first_shape}
+use Rattle.rules_text.specs.declared.text.Shape.{Shape}
+use Rattle.rules_text.specs.declared.text.TextKind.{TextKind}
+use Rattle.rules_text.specs.text.Text.{IsLimit, Shows, IsFlawed, IsUnexpected, IsTooDeep}
 use Rattle.mich_text.specs.Plain.{IsFlawedWithoutLimits}
 use Rattle.mich_text.specs.Shown.{Counts}
 use Rattle.mich_text.proofs.tokens.Ahead.{flaw_le}

@@ -1,15 +1,15 @@
 -- A `;` that ends a statement has no fault.
 use Rattle.std.proofs.Common.{◌≡◌, ℕ, true, false, ◌≤◌, ◌<◌, inl, inr, List, [], ◌∷◌, ◌++◌, length, Option, Some, None, Ok, refl, sym, ap, subst, ◌∙◌, arith}
 use Rattle.std.proofs.lemmas.List.{append-nil, length-append}
-use Rattle.rules_base.specs.Limits.{depth_limit}
-use Rattle.rules_base.specs.Tree.{Tree}
-use Rattle.rules_text.specs.Token.{Token}
-use Rattle.rules_text.specs.Syntax.{Element, nothing, followed, ended, element_tokens, IsFront, IsFrontWithin}
-use Rattle.rules_text.specs.Lexical.{token_at, first_shape}
-use Rattle.rules_text.specs.declared.Shape.{Shape}
-use Rattle.rules_text.specs.declared.Shape.TheVariants.{Semicolon}
-use Rattle.rules_text.specs.declared.TextKind.{TextKind}
-use Rattle.rules_text.specs.Text.{Leads, EndsAt, Stands, IsUnexpected, IsTooDeep}
+use Rattle.rules_text.specs.nodes.Limits.{depth_limit}
+use Rattle.rules_text.specs.nodes.Tree.{Tree}
+use Rattle.rules_text.specs.text.Token.{Token}
+use Rattle.rules_text.specs.text.Syntax.{Element, nothing, followed, ended, element_tokens, IsFront, IsFrontWithin}
+use Rattle.rules_text.specs.text.Lexical.{token_at, first_shape}
+use Rattle.rules_text.specs.declared.text.Shape.{Shape}
+use Rattle.rules_text.specs.declared.text.Shape.TheVariants.{Semicolon}
+use Rattle.rules_text.specs.declared.text.TextKind.{TextKind}
+use Rattle.rules_text.specs.text.Text.{Leads, EndsAt, Stands, IsUnexpected, IsTooDeep}
 use Rattle.mich_text.specs.Machine.{Stack, Refusal, run, start, refused, ready_for, put, no_semicolon, elements, named, paren}
 use Rattle.mich_text.specs.Machine as machine
 use Rattle.mich_text.specs.Plain.{IsFlawedWithoutLimits, HoldsWithoutLimits, flawed, in_comment, is_open, unexpected, too_deep, IsFaultWithoutLimits}

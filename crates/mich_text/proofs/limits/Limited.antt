@@ -2,15 +2,15 @@
 use Rattle.std.proofs.Common.{◌≡◌, ℕ, ◌+◌, ◌-◌, ◌≤◌, ◌<◌, ◌⊎◌, inl, inr, Bool, true, false, ltb, List, [], ◌∷◌, ◌++◌, length, Some, Ok, refl, subst, arith}
 use Rattle.std.proofs.lemmas.Bool.{ltb-true, ltb-false}
 use Rattle.std.proofs.lemmas.List.{length-append}
-use Rattle.rules_base.specs.Tree.{Tree}
-use Rattle.rules_text.specs.Token.{Token}
-use Rattle.rules_text.specs.Lexical.{token_at, first_shape}
-use Rattle.rules_text.specs.declared.TextKind.{TextKind}
-use Rattle.rules_text.specs.Syntax.{element_tokens}
-use Rattle.rules_text.specs.declared.Shape.{Shape}
-use Rattle.rules_text.specs.declared.Shape.TheVariants.{Semicolon}
-use Rattle.rules_text.specs.Text.{Leads, IsLimit, IsFileLimit, EndsAt, Stands, IsFault, IsNode, rank}
-use Rattle.rules_text.specs.Text as within
+use Rattle.rules_text.specs.nodes.Tree.{Tree}
+use Rattle.rules_text.specs.text.Token.{Token}
+use Rattle.rules_text.specs.text.Lexical.{token_at, first_shape}
+use Rattle.rules_text.specs.declared.text.TextKind.{TextKind}
+use Rattle.rules_text.specs.text.Syntax.{element_tokens}
+use Rattle.rules_text.specs.declared.text.Shape.{Shape}
+use Rattle.rules_text.specs.declared.text.Shape.TheVariants.{Semicolon}
+use Rattle.rules_text.specs.text.Text.{Leads, IsLimit, IsFileLimit, EndsAt, Stands, IsFault, IsNode, rank}
+use Rattle.rules_text.specs.text.Text as within
 use Rattle.mich_text.specs.Plain as plain
 use Rattle.mich_text.specs.Shown.{Counts}
 use Rattle.mich_text.proofs.tokens.Ahead.{token_shorter}

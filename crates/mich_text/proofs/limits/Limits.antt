@@ -6,10 +6,10 @@ use Rattle.std.specs.Char.{is_ascii_hexdigit}
 use Rattle.std.proofs.lemmas.Bool.{eqb-false, ltb-true, ltb-false, eqb-true}
 use Rattle.std.proofs.lemmas.List.Sums.{prefix_len-le-length}
 use Rattle.std.proofs.Math.Seq.{drop-append_seam}
-use Rattle.rules_base.specs.Tree.{Tree}
-use Rattle.rules_text.specs.declared.TextKind.TheVariants.{BadString, BadBytes, BadNumber, TooLong, BadChar, Unclosed, Unexpected, TooDeep}
-use Rattle.rules_text.specs.Text.{EndsAt, IsLimit, IsStatementLimit, IsFileLimit, IsFault, IsNode}
-use Rattle.rules_text.specs.declared.TextKind.{TextKind}
+use Rattle.rules_text.specs.nodes.Tree.{Tree}
+use Rattle.rules_text.specs.declared.text.TextKind.TheVariants.{BadString, BadBytes, BadNumber, TooLong, BadChar, Unclosed, Unexpected, TooDeep}
+use Rattle.rules_text.specs.text.Text.{EndsAt, IsLimit, IsStatementLimit, IsFileLimit, IsFault, IsNode}
+use Rattle.rules_text.specs.declared.text.TextKind.{TextKind}
 use Rattle.mich_base.specs.View.{tree}
 use Rattle.mich_text.specs.Plain as plain
 use Rattle.mich_text.specs.Shown.{Counts, IsOpenBytes}

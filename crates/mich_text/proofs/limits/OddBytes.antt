@@ -1,14 +1,14 @@
 -- Bytes whose digits go on to a limit, and have no pair for the last of them: what the text is. They are read without it.
 use Rattle.std.proofs.Common.{◌≡◌, ℕ, ◌+◌, ◌-◌, ◌≤◌, ◌<◌, ◌⊎◌, inl, inr, List, [], ◌∷◌, ◌++◌, length, Some, Ok, Err, sym, ap, subst, ◌∙◌, arith}
 use Rattle.std.proofs.lemmas.List.{length-append}
-use Rattle.rules_base.specs.Tree.{Tree}
-use Rattle.rules_text.specs.Token.{Token}
-use Rattle.rules_text.specs.Lexical.{token_at}
-use Rattle.rules_text.specs.Fault.{Flaw}
-use Rattle.rules_text.specs.declared.TextKind.{TextKind}
-use Rattle.rules_text.specs.declared.TextKind.TheVariants.{BadBytes, TooDeep, TooLong}
-use Rattle.rules_text.specs.Text.{Leads, IsLimit, Shows, IsUnexpected, IsTooDeep, EndsAt, Stands, IsFault, rank}
-use Rattle.rules_text.specs.Text as within
+use Rattle.rules_text.specs.nodes.Tree.{Tree}
+use Rattle.rules_text.specs.text.Token.{Token}
+use Rattle.rules_text.specs.text.Lexical.{token_at}
+use Rattle.rules_text.specs.text.Fault.{Flaw}
+use Rattle.rules_text.specs.declared.text.TextKind.{TextKind}
+use Rattle.rules_text.specs.declared.text.TextKind.TheVariants.{BadBytes, TooDeep, TooLong}
+use Rattle.rules_text.specs.text.Text.{Leads, IsLimit, Shows, IsUnexpected, IsTooDeep, EndsAt, Stands, IsFault, rank}
+use Rattle.rules_text.specs.text.Text as within
 use Rattle.mich_text.specs.Plain as plain
 use Rattle.mich_text.proofs.tokens.Ahead.{flaw_le, token_shorter, leads_le}
 use Rattle.mich_text.proofs.readings.Reading.{same_rest, From, compare, passes}

@@ -1,8 +1,8 @@
 -- A text is one thing only, within the limits of statement and file.
 use Rattle.std.proofs.Common.{◌≡◌, ℕ, ◌≤◌, ◌<◌, ◌⊎◌, inl, inr, List, sym, ◌∙◌, arith}
-use Rattle.rules_base.specs.Tree.{Tree}
-use Rattle.rules_text.specs.declared.TextKind.{TextKind}
-use Rattle.rules_text.specs.Text.{rank, IsFault, IsNode, IsEnd}
+use Rattle.rules_text.specs.nodes.Tree.{Tree}
+use Rattle.rules_text.specs.declared.text.TextKind.{TextKind}
+use Rattle.rules_text.specs.text.Text.{rank, IsFault, IsNode, IsEnd}
 use Rattle.mich_text.proofs.limits.Sorts.{Sort, of_limit, own, sort_of}
 use Rattle.mich_text.proofs.readings.Unique.{one_kind, no_statement_at_end}
 

@@ -1,13 +1,13 @@
 -- A text that is too long at its first limit byte.
 use Rattle.std.proofs.Common.{◌≡◌, ℕ, ◌+◌, ◌-◌, ◌≤◌, ◌<◌, ◌⊎◌, inl, inr, List, [], ◌∷◌, ◌++◌, length, Some, Ok, refl, sym, ap, ◌∙◌, arith}
-use Rattle.rules_base.specs.Tree.{Tree}
-use Rattle.rules_text.specs.Token.{Token}
-use Rattle.rules_text.specs.Syntax.{Element, element_tokens, element_tree}
-use Rattle.rules_text.specs.Lexical.{token_at}
-use Rattle.rules_text.specs.declared.TextKind.{TextKind}
-use Rattle.rules_text.specs.declared.TextKind.TheVariants.{TooLong}
-use Rattle.rules_text.specs.Text.{IsLimit, IsFileLimit, IsStatementLimit, IsLongStatement, EndsAt, Stands, IsFault, rank}
-use Rattle.rules_text.specs.Text as within
+use Rattle.rules_text.specs.nodes.Tree.{Tree}
+use Rattle.rules_text.specs.text.Token.{Token}
+use Rattle.rules_text.specs.text.Syntax.{Element, element_tokens, element_tree}
+use Rattle.rules_text.specs.text.Lexical.{token_at}
+use Rattle.rules_text.specs.declared.text.TextKind.{TextKind}
+use Rattle.rules_text.specs.declared.text.TextKind.TheVariants.{TooLong}
+use Rattle.rules_text.specs.text.Text.{IsLimit, IsFileLimit, IsStatementLimit, IsLongStatement, EndsAt, Stands, IsFault, rank}
+use Rattle.rules_text.specs.text.Text as within
 use Rattle.mich_text.specs.Plain as plain
 use Rattle.mich_text.proofs.tokens.Ahead.{no_token}
 use Rattle.mich_text.proofs.readings.Reading.{same_rest, From, compare}

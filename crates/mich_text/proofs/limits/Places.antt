@@ -1,8 +1,8 @@
 -- What the reader says of places lies in the text.
 use Rattle.std.proofs.Common.{◌≡◌, ℕ, ◌+◌, ◌≤◌, inl, inr, List, length, drop, Option, Some, None, Result, Ok, Err, arith}
 use Rattle.std.proofs.lemmas.List.{length-drop}
-use Rattle.rules_text.specs.Text.{IsLimit, Holds}
-use Rattle.rules_text.specs.declared.TextKind.{TextKind}
+use Rattle.rules_text.specs.text.Text.{IsLimit, Holds}
+use Rattle.rules_text.specs.declared.text.TextKind.{TextKind}
 use Rattle.mich_base.specs.View.{tree}
 use Rattle.mich_text.specs.Results.{IsWithinText, IsLimitedRead, IsText}
 use Rattle.mich_text.specs.Parts.{IsPart}

@@ -1,8 +1,8 @@
 -- A condition is a limit's, or one that no limit has a part in.
 use Rattle.std.proofs.Common.{◌≡◌, ℕ, ◌+◌, inl, inr, List, refl, ap, arith}
-use Rattle.rules_text.specs.declared.TextKind.{TextKind}
-use Rattle.rules_text.specs.declared.TextKind.TheVariants.{TooLong}
-use Rattle.rules_text.specs.Text.{IsLimit, Holds, past_limit, flawed, in_comment, is_open, unexpected, too_deep, rank}
+use Rattle.rules_text.specs.declared.text.TextKind.{TextKind}
+use Rattle.rules_text.specs.declared.text.TextKind.TheVariants.{TooLong}
+use Rattle.rules_text.specs.text.Text.{IsLimit, Holds, past_limit, flawed, in_comment, is_open, unexpected, too_deep, rank}
 use Rattle.mich_text.specs.Plain as plain
 use Rattle.mich_text.proofs.tokens.Ahead.{flaw_le}
 

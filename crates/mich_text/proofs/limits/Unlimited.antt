@@ -1,10 +1,10 @@
 -- A text without a limit byte.
 use Rattle.std.proofs.Common.{◌≡◌, ℕ, ◌+◌, ◌≤◌, ◌<◌, ◌⊎◌, inl, inr, List, length, arith}
-use Rattle.rules_base.specs.Limits.{statement_limit}
-use Rattle.rules_base.specs.Tree.{Tree}
-use Rattle.rules_text.specs.declared.TextKind.{TextKind}
-use Rattle.rules_text.specs.Text.{IsLimit, IsFault, IsNode, IsEnd, rank}
-use Rattle.rules_text.specs.Text as within
+use Rattle.rules_text.specs.nodes.Limits.{statement_limit}
+use Rattle.rules_text.specs.nodes.Tree.{Tree}
+use Rattle.rules_text.specs.declared.text.TextKind.{TextKind}
+use Rattle.rules_text.specs.text.Text.{IsLimit, IsFault, IsNode, IsEnd, rank}
+use Rattle.rules_text.specs.text.Text as within
 use Rattle.mich_text.specs.Plain as plain
 use Rattle.mich_text.proofs.tokens.Gaps.{gap_le}
 use Rattle.mich_text.proofs.limits.Sorts.{Sort, of_limit, own, sort_of}

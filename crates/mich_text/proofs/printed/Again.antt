@@ -4,13 +4,13 @@ use Rattle.std.proofs.lemmas.List.{append-nil}
 use Rattle.std.specs.List.{AllByRecursion}
 use Rattle.std.specs.Fmt.{signed_decimal}
 use Rattle.hex.specs.Hex.{encode_lower}
-use Rattle.rules_base.specs.Limits.{byte_limit, depth_limit}
-use Rattle.rules_base.specs.Tree.{Tree, int, str, prim, seq, Trees, none, more}
-use Rattle.rules_text.specs.Token.{Token}
-use Rattle.rules_text.specs.Lexical.{token_at, after_gap}
-use Rattle.rules_text.specs.Text.{Leads}
-use Rattle.rules_text.specs.Printed.{string_text, printed, annotations_text, in_parens, is_wrapped, arguments_text, elements_text}
-use Rattle.rules_text.specs.Syntax.{nothing, element_tokens, Element, element_depth, Node, parens, Items, no_items, with_annotation, with_node, Separated, followed, node_tokens, item_tokens, separated_tokens, IsStatement}
+use Rattle.rules_text.specs.nodes.Limits.{byte_limit, depth_limit}
+use Rattle.rules_text.specs.nodes.Tree.{Tree, int, str, prim, seq, Trees, none, more}
+use Rattle.rules_text.specs.text.Token.{Token}
+use Rattle.rules_text.specs.text.Lexical.{token_at, after_gap}
+use Rattle.rules_text.specs.text.Text.{Leads}
+use Rattle.rules_text.specs.text.Printed.{string_text, printed, annotations_text, in_parens, is_wrapped, arguments_text, elements_text}
+use Rattle.rules_text.specs.text.Syntax.{nothing, element_tokens, Element, element_depth, Node, parens, Items, no_items, with_annotation, with_node, Separated, followed, node_tokens, item_tokens, separated_tokens, IsStatement}
 use Rattle.mich_text.specs.Plain.{IsNodeWithoutLimits}
 use Rattle.mich_text.specs.Machine.{has_statement, ended_tree}
 use Rattle.mich_text.specs.Canonical.{element_of, with_notes, wrapped, with_argument, with_arguments, sequence}

@@ -7,10 +7,10 @@ use Rattle.std.specs.Char.{is_ascii_digit, is_ascii_hexdigit}
 use Rattle.std.specs.Fmt.{decimal, signed_decimal}
 use Rattle.std.specs.List.{AllByRecursion, list_all}
 use Rattle.hex.specs.Hex.{encode_lower}
-use Rattle.rules_base.specs.Tree.{Tree, int, str, prim, seq, Trees, none, more}
-use Rattle.rules_text.specs.Token.{Token}
-use Rattle.rules_text.specs.Lexical.{is_word, is_noted}
-use Rattle.rules_text.specs.Printed.{spelling, string_text, annotations_text, in_parens, is_wrapped, printed, arguments_text, elements_text}
+use Rattle.rules_text.specs.nodes.Tree.{Tree, int, str, prim, seq, Trees, none, more}
+use Rattle.rules_text.specs.text.Token.{Token}
+use Rattle.rules_text.specs.text.Lexical.{is_word, is_noted}
+use Rattle.rules_text.specs.text.Printed.{spelling, string_text, annotations_text, in_parens, is_wrapped, printed, arguments_text, elements_text}
 use Rattle.mich_text.specs.Line.{is_printing}
 use Rattle.mich_text.proofs.tokens.ByteRuns.{IsAll}
 use Rattle.mich_text.proofs.tokens.Names.{IsName}

@@ -6,12 +6,12 @@ use Rattle.std.proofs.lemmas.Fmt.{decimal_is_IsNumeral_wide}
 use Rattle.std.specs.Fmt.{decimal, signed_decimal}
 use Rattle.std.specs.List.{AllByRecursion}
 use Rattle.hex.specs.Hex.{encode_lower}
-use Rattle.rules_base.specs.Tree.{Tree, int, str, prim, seq, none, more, trees_of}
-use Rattle.rules_text.specs.Token.{Token}
-use Rattle.rules_text.specs.declared.Shape.TheVariants.{Digits, Quoted, Word, Note, OpenBrace, CloseBrace, OpenParen, CloseParen, Semicolon}
-use Rattle.rules_text.specs.Syntax.{Node, number, bytes, string, parens, braces, braces_to, Items, no_items, with_annotation, with_name, with_node, Element, alone, application, Separated, nothing, followed, node_tokens, item_tokens, element_tokens, separated_tokens, annotations, node_tree, arguments, element_tree, separated_trees}
-use Rattle.rules_text.specs.Lexical.{after_gap, shape_of}
-use Rattle.rules_text.specs.Printed.{printed, string_text, annotations_text, arguments_text, elements_text}
+use Rattle.rules_text.specs.nodes.Tree.{Tree, int, str, prim, seq, none, more, trees_of}
+use Rattle.rules_text.specs.text.Token.{Token}
+use Rattle.rules_text.specs.declared.text.Shape.TheVariants.{Digits, Quoted, Word, Note, OpenBrace, CloseBrace, OpenParen, CloseParen, Semicolon}
+use Rattle.rules_text.specs.text.Syntax.{Node, number, bytes, string, parens, braces, braces_to, Items, no_items, with_annotation, with_name, with_node, Element, alone, application, Separated, nothing, followed, node_tokens, item_tokens, element_tokens, separated_tokens, annotations, node_tree, arguments, element_tree, separated_trees}
+use Rattle.rules_text.specs.text.Lexical.{after_gap, shape_of}
+use Rattle.rules_text.specs.text.Printed.{printed, string_text, annotations_text, arguments_text, elements_text}
 use Rattle.mich_text.proofs.tokens.Names.{word_is, IsName, name_token, word_solid}
 use Rattle.mich_text.proofs.tokens.ByteRuns.{IsAll}
 use Rattle.mich_text.proofs.tokens.Numbers.{digits_token, minus_token, IsInt}

@@ -1,13 +1,13 @@
 -- A node that a text gives is no deeper than the limit, and its line is read again.
 use Rattle.std.proofs.Common.{◌≡◌, ℕ, ◌≤◌, ◌⊎◌, inl, inr, List, [], ◌∷◌, ◌++◌, length, Option, Some, None, Result, Ok, Err, refl, sym, ap, subst, ◌∙◌, append_assoc, arith}
 use Rattle.std.specs.List.{AllByRecursion}
-use Rattle.rules_base.specs.Limits.{depth_limit}
-use Rattle.rules_base.specs.Tree.{Tree, depth}
-use Rattle.rules_text.specs.Token.{Token, token_shape}
-use Rattle.rules_text.specs.declared.Shape.{Shape}
-use Rattle.rules_text.specs.declared.TextKind.TheVariants.{TooDeep}
-use Rattle.rules_text.specs.Text.{Leads, IsNode, too_deep}
-use Rattle.rules_text.specs.Syntax.{IsFront, unended, nothing, element_tokens, Element, element_tree, element_depth}
+use Rattle.rules_text.specs.nodes.Limits.{depth_limit}
+use Rattle.rules_text.specs.nodes.Tree.{Tree, depth}
+use Rattle.rules_text.specs.text.Token.{Token, token_shape}
+use Rattle.rules_text.specs.declared.text.Shape.{Shape}
+use Rattle.rules_text.specs.declared.text.TextKind.TheVariants.{TooDeep}
+use Rattle.rules_text.specs.text.Text.{Leads, IsNode, too_deep}
+use Rattle.rules_text.specs.text.Syntax.{IsFront, unended, nothing, element_tokens, Element, element_tree, element_depth}
 use Rattle.mich_text.specs.Machine.{Stack, run, start, unexpected, ready_for, refused, step, put, Refusal}
 use Rattle.mich_text.proofs.grammar.Complete.{run_none, run_front}
 use Rattle.mich_text.proofs.grammar.Depths.{element_tree_depth}

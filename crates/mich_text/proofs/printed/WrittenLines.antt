@@ -3,17 +3,17 @@ use Rattle.std.proofs.Common.{◌≡◌, ℕ, ◌≤◌, Bool, true, false, ◌&
 use Rattle.std.specs.Prelude.{pos, negsuc}
 use Rattle.std.specs.Fmt.{signed_decimal}
 use Rattle.std.specs.List.{AllByRecursion, list_all}
-use Rattle.rules_base.specs.Limits.{statement_limit}
-use Rattle.rules_base.specs.Tree.{Tree, int, str, bytes, prim, seq, Trees, none, more}
-use Rattle.rules_text.specs.Lexical.{is_word, is_noted}
-use Rattle.rules_text.specs.Printed.{printed}
-use Rattle.rules_text.specs.Text.{IsNode}
-use Rattle.rules_text.specs.Token.{Token}
+use Rattle.rules_text.specs.nodes.Limits.{statement_limit}
+use Rattle.rules_text.specs.nodes.Tree.{Tree, int, str, bytes, prim, seq, Trees, none, more}
+use Rattle.rules_text.specs.text.Lexical.{is_word, is_noted}
+use Rattle.rules_text.specs.text.Printed.{printed}
+use Rattle.rules_text.specs.text.Text.{IsNode, Stands}
+use Rattle.rules_text.specs.text.Token.{Token}
 use Rattle.mich_text.specs.Line.{is_printing}
 use Rattle.mich_text.specs.Written.{IsNumber, is_text, is_byte, IsName, IsAnnotation, AreAnnotations, HasTextForm, HaveTextForms, CanBeWritten}
 use Rattle.mich_text.proofs.tokens.Names as names
 use Rattle.mich_text.proofs.tokens.ByteRuns.{IsAll}
-use Rattle.mich_text.proofs.printed.Again.{IsToken, IsPrintable, ArePrintable, printed_again}
+use Rattle.mich_text.proofs.printed.Again.{IsToken, IsPrintable, ArePrintable, line_is, printed_again}
 use Rattle.mich_text.proofs.tokens.Numbers.{IsInt}
 use Rattle.mich_text.proofs.tokens.Annotations.{IsNote}
 use Rattle.mich_text.proofs.printed.Printable.{name_is, note_is, number_is, line_begins}
@@ -64,6 +64,18 @@ mutual
   all_printable : (ts : Trees) → HaveTextForms ts → ArePrintable ts
   all_printable none h = tt
   all_printable (more t ts) h = (printable t h.0, all_printable ts h.1)
+
+-- the line of a node is a text of that node
+pub line_stands : (t : Tree) → HasTextForm t → Stands (printed t) t (length (printed t)) 0
+line_stands t h =
+    let p : IsPrintable t = printable t h in
+    let line = line_is t p in
+    record { tokens = line.0; first = printed t; rest = []; begins = line_begins t p; leads = line.2; statement = line.1; start_is = refl; ends = refl }
+
+-- nothing stands behind it
+pub line_bare : (t : Tree) (h : HasTextForm t) → (line_stands t h).rest ≡ []
+unfolding line_stands
+line_bare t h = refl
 
 mutual
   form : (t : Tree) → IsPrintable t → HasTextForm t

@@ -1,14 +1,14 @@
 -- What a text is where the input ends.
 use Rattle.std.proofs.Common.{◌≡◌, ℕ, ◌<◌, inl, inr, true, false, List, [], ◌∷◌, ◌++◌, length, Option, Some, refl, sym, ap, subst, ◌∙◌, arith}
 use Rattle.std.proofs.lemmas.List.{append-nil}
-use Rattle.rules_base.specs.Limits.{depth_limit}
-use Rattle.rules_base.specs.Tree.{Tree}
-use Rattle.rules_text.specs.Token.{Token}
-use Rattle.rules_text.specs.declared.TextKind.TheVariants.{Unclosed}
-use Rattle.rules_text.specs.Lexical.{after_gap}
-use Rattle.rules_text.specs.Text.{Leads, Stands}
-use Rattle.rules_text.specs.declared.TextKind.{TextKind}
-use Rattle.rules_text.specs.Syntax.{IsWhole, unended, nothing, element_tokens}
+use Rattle.rules_text.specs.nodes.Limits.{depth_limit}
+use Rattle.rules_text.specs.nodes.Tree.{Tree}
+use Rattle.rules_text.specs.text.Token.{Token}
+use Rattle.rules_text.specs.declared.text.TextKind.TheVariants.{Unclosed}
+use Rattle.rules_text.specs.text.Lexical.{after_gap}
+use Rattle.rules_text.specs.text.Text.{Leads, Stands}
+use Rattle.rules_text.specs.declared.text.TextKind.{TextKind}
+use Rattle.rules_text.specs.text.Syntax.{IsWhole, unended, nothing, element_tokens}
 use Rattle.mich_text.specs.Plain.{is_open, IsFaultWithoutLimits, IsNodeWithoutLimits, IsEndWithoutLimits}
 use Rattle.mich_text.specs.Machine.{Stack, finish, is_root, has_statement, ended_tree}
 use Rattle.mich_text.proofs.grammar.Fronts.{is_front_within, is_front}

@@ -1,12 +1,12 @@
 -- A statement with its `;`, in a text and in its front.
 use Rattle.std.proofs.Common.{◌≡◌, ℕ, ◌+◌, ◌-◌, ◌≤◌, ◌<◌, inr, List, [], ◌∷◌, ◌++◌, length, drop, Option, Some, Ok, refl, sym, ap, ◌∙◌, arith}
 use Rattle.std.proofs.lemmas.List.{length-append}
-use Rattle.rules_base.specs.Tree.{Tree}
-use Rattle.rules_text.specs.Token.{Token, token_shape}
-use Rattle.rules_text.specs.Lexical.{after_gap, token_at, first_shape, shape_of, shape_at}
-use Rattle.rules_text.specs.declared.Shape.{Shape}
-use Rattle.rules_text.specs.declared.Shape.TheVariants.{Semicolon}
-use Rattle.rules_text.specs.Text.{Leads, EndsAt, Stands}
+use Rattle.rules_text.specs.nodes.Tree.{Tree}
+use Rattle.rules_text.specs.text.Token.{Token, token_shape}
+use Rattle.rules_text.specs.text.Lexical.{after_gap, token_at, first_shape, shape_of, shape_at}
+use Rattle.rules_text.specs.declared.text.Shape.{Shape}
+use Rattle.rules_text.specs.declared.text.Shape.TheVariants.{Semicolon}
+use Rattle.rules_text.specs.text.Text.{Leads, EndsAt, Stands}
 use Rattle.mich_text.proofs.tokens.Shapes.{token_shape_is}
 use Rattle.mich_text.proofs.tokens.Ahead.{token_shorter, leads_le}
 use Rattle.mich_text.proofs.tokens.Read.{okay_is}

@@ -1,14 +1,14 @@
 -- Block comments that don't end.
 use Rattle.std.proofs.Common.{◌≡◌, ℕ, ◌<◌, inl, inr, List, [], ◌∷◌, ◌++◌, Some, None, Ok, refl, sym, ap, subst, ◌∙◌, arith}
 use Rattle.std.proofs.lemmas.List.{append-nil}
-use Rattle.rules_base.specs.Limits.{depth_limit}
-use Rattle.rules_base.specs.Tree.{Tree}
-use Rattle.rules_text.specs.Token.{Token}
-use Rattle.rules_text.specs.declared.TextKind.TheVariants.{Unclosed}
-use Rattle.rules_text.specs.Lexical.{token_at, after_gap}
-use Rattle.rules_text.specs.Text.{Leads, Stands}
-use Rattle.rules_text.specs.declared.TextKind.{TextKind}
-use Rattle.rules_text.specs.Syntax.{IsFront, IsFrontWithin, element_tokens}
+use Rattle.rules_text.specs.nodes.Limits.{depth_limit}
+use Rattle.rules_text.specs.nodes.Tree.{Tree}
+use Rattle.rules_text.specs.text.Token.{Token}
+use Rattle.rules_text.specs.declared.text.TextKind.TheVariants.{Unclosed}
+use Rattle.rules_text.specs.text.Lexical.{token_at, after_gap}
+use Rattle.rules_text.specs.text.Text.{Leads, Stands}
+use Rattle.rules_text.specs.declared.text.TextKind.{TextKind}
+use Rattle.rules_text.specs.text.Syntax.{IsFront, IsFrontWithin, element_tokens}
 use Rattle.mich_text.specs.Plain.{HoldsWithoutLimits, flawed, in_comment, is_open, unexpected as is_unexpected, too_deep as is_too_deep, IsFaultWithoutLimits}
 use Rattle.mich_text.specs.Machine.{Stack, step}
 use Rattle.mich_text.proofs.grammar.Fronts.{is_front}

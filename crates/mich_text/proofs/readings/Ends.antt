@@ -1,10 +1,10 @@
 -- A statement that stands in a text ends behind all that was read.
 use Rattle.std.proofs.Common.{◌≡◌, ℕ, ◌≤◌, ◌<◌, ◌⊎◌, inl, inr, List, [], ◌∷◌, ◌++◌, length, Some, Ok, sym, ap, subst, ◌∙◌, arith}
-use Rattle.rules_base.specs.Tree.{Tree}
-use Rattle.rules_text.specs.Token.{Token}
-use Rattle.rules_text.specs.Lexical.{token_at}
-use Rattle.rules_text.specs.Text.{EndsAt, Stands}
-use Rattle.rules_text.specs.Syntax.{element_tokens}
+use Rattle.rules_text.specs.nodes.Tree.{Tree}
+use Rattle.rules_text.specs.text.Token.{Token}
+use Rattle.rules_text.specs.text.Lexical.{token_at}
+use Rattle.rules_text.specs.text.Text.{EndsAt, Stands}
+use Rattle.rules_text.specs.text.Syntax.{element_tokens}
 use Rattle.mich_text.specs.Machine.{Stack}
 use Rattle.mich_text.proofs.readings.Reading.{same_rest, From, IsPassed, compare, At}
 use Rattle.mich_text.proofs.tokens.Ahead.{token_shorter, leads_le}

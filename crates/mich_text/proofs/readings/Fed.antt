@@ -1,13 +1,13 @@
 -- A statement that was read with its `;` is read again with more bytes behind it.
 use Rattle.std.proofs.Common.{◌≡◌, ℕ, ◌+◌, ◌-◌, ◌<◌, ◌⊎◌, inl, inr, Bool, true, false, cond, eqb, List, [], ◌∷◌, ◌++◌, length, Option, Some, None, Ok, refl, sym, ap, subst, ◌∙◌, arith}
 use Rattle.std.proofs.lemmas.List.{length-append}
-use Rattle.rules_base.specs.Limits.{depth_limit}
-use Rattle.rules_base.specs.Tree.{Tree}
-use Rattle.rules_text.specs.Token.{Token}
+use Rattle.rules_text.specs.nodes.Limits.{depth_limit}
+use Rattle.rules_text.specs.nodes.Tree.{Tree}
+use Rattle.rules_text.specs.text.Token.{Token}
 use Rattle.mich_text.specs.Machine.{Stack, finish, has_statement, ended_tree, step}
-use Rattle.rules_text.specs.Lexical.{is_white, opens, closes, after_gap, after_slash, after_line, after_block, token_at, shape_of, first_shape}
-use Rattle.rules_text.specs.declared.Shape.{Shape}
-use Rattle.rules_text.specs.Text.{Leads}
+use Rattle.rules_text.specs.text.Lexical.{is_white, opens, closes, after_gap, after_slash, after_line, after_block, token_at, shape_of, first_shape}
+use Rattle.rules_text.specs.declared.text.Shape.{Shape}
+use Rattle.rules_text.specs.text.Text.{Leads}
 use Rattle.mich_text.specs.Plain.{IsNodeWithoutLimits}
 use Rattle.mich_text.proofs.tokens.Ahead.{no_token}
 use Rattle.mich_text.proofs.readings.Reading.{At}

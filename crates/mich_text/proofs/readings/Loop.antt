@@ -1,19 +1,19 @@
 -- The reader's loop.
 use Rattle.std.proofs.Common.{◌≡◌, ℕ, ◌<◌, true, false, List, [], ◌∷◌, ◌++◌, length, Option, Some, None, Result, Ok, Err, sym, ap, subst, ◌∙◌, arith}
-use Rattle.rules_base.specs.Limits.{depth_limit}
-use Rattle.rules_base.specs.Tree.{Tree}
-use Rattle.rules_text.specs.Token.{Token}
-use Rattle.rules_text.specs.Syntax.{element_tokens}
+use Rattle.rules_text.specs.nodes.Limits.{depth_limit}
+use Rattle.rules_text.specs.nodes.Tree.{Tree}
+use Rattle.rules_text.specs.text.Token.{Token}
+use Rattle.rules_text.specs.text.Syntax.{element_tokens}
 use Rattle.mich_text.specs.Machine.{Stack, unexpected, too_deep, finish, is_root, has_statement, ended_tree, start}
-use Rattle.rules_text.specs.Lexical.{after_gap}
+use Rattle.rules_text.specs.text.Lexical.{after_gap}
 use Rattle.mich_text.specs.Plain.{IsFaultWithoutLimits, IsNodeWithoutLimits, IsEndWithoutLimits}
 use Rattle.mich_base.specs.View.{tree}
 use Rattle.mich_text.specs.Results.{Refuses, at_first_byte, no_place, later, IsStep, IsRead, IsWithinText}
-use Rattle.rules_text.specs.Fault.{Flaw}
+use Rattle.rules_text.specs.text.Fault.{Flaw}
 use Rattle.mich_text.specs.Gives.{flaw_view}
 use Rattle.mich_text.specs.declared.fault.LexError.{LexError}
 use Rattle.mich_text.specs.declared.fault.LexError.TheVariants as errors
-use Rattle.rules_text.specs.declared.TextKind.TheVariants.{Unclosed}
+use Rattle.rules_text.specs.declared.text.TextKind.TheVariants.{Unclosed}
 use Rattle.mich_text.specs.declared.plain.Found.{Found}
 use Rattle.mich_text.specs.declared.plain.Step.TheVariants.{Taken, Statement}
 use Rattle.mich_text.proofs.grammar.Complete.{run_none}

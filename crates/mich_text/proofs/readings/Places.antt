@@ -1,8 +1,8 @@
 -- The places of faults and of statements lie in the text.
 use Rattle.std.proofs.Common.{ℕ, ◌≤◌, List, length, arith}
-use Rattle.rules_base.specs.Tree.{Tree}
-use Rattle.rules_text.specs.Text.{Stands}
-use Rattle.rules_text.specs.declared.TextKind.{TextKind}
+use Rattle.rules_text.specs.nodes.Tree.{Tree}
+use Rattle.rules_text.specs.text.Text.{Stands}
+use Rattle.rules_text.specs.declared.text.TextKind.{TextKind}
 use Rattle.mich_text.specs.Plain.{HoldsWithoutLimits, flawed, in_comment, is_open, unexpected as is_unexpected, too_deep as is_too_deep}
 use Rattle.mich_text.proofs.readings.Ends.{ends_le}
 use Rattle.mich_text.proofs.tokens.Ahead.{flaw_le, leads_le}

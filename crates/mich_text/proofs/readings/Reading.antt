@@ -1,14 +1,14 @@
 -- What the text is, from what the parser has read of it.
 use Rattle.std.proofs.Common.{◌≡◌, ℕ, ◌<◌, ◌⊎◌, inl, inr, List, [], ◌∷◌, ◌++◌, length, Option, Some, None, Ok, Err, refl, sym, ap, subst, ◌∙◌, append_assoc, arith}
-use Rattle.rules_base.specs.Limits.{depth_limit}
-use Rattle.rules_text.specs.Token.{Token, token_shape}
-use Rattle.rules_text.specs.declared.Shape.{Shape}
-use Rattle.rules_text.specs.declared.TextKind.TheVariants.{Unclosed, Unexpected, TooDeep}
-use Rattle.rules_text.specs.Fault.{Flaw}
-use Rattle.rules_text.specs.Lexical.{token_at, after_gap, first_shape}
-use Rattle.rules_text.specs.Text.{Leads}
-use Rattle.rules_text.specs.declared.TextKind.{TextKind}
-use Rattle.rules_text.specs.Syntax.{IsFront, IsFrontWithin}
+use Rattle.rules_text.specs.nodes.Limits.{depth_limit}
+use Rattle.rules_text.specs.text.Token.{Token, token_shape}
+use Rattle.rules_text.specs.declared.text.Shape.{Shape}
+use Rattle.rules_text.specs.declared.text.TextKind.TheVariants.{Unclosed, Unexpected, TooDeep}
+use Rattle.rules_text.specs.text.Fault.{Flaw}
+use Rattle.rules_text.specs.text.Lexical.{token_at, after_gap, first_shape}
+use Rattle.rules_text.specs.text.Text.{Leads}
+use Rattle.rules_text.specs.declared.text.TextKind.{TextKind}
+use Rattle.rules_text.specs.text.Syntax.{IsFront, IsFrontWithin}
 use Rattle.mich_text.specs.Plain.{HoldsWithoutLimits, flawed, in_comment, is_open, unexpected as is_unexpected, too_deep as is_too_deep}
 use Rattle.mich_text.specs.Machine.{Stack, run, start}
 use Rattle.mich_text.proofs.grammar.Fronts.{run_split, is_front_within, is_front}

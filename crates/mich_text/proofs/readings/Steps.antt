@@ -1,16 +1,16 @@
 -- One token, from what each part of the code says of it.
 use Rattle.std.proofs.Common.{◌≡◌, ℕ, ◌<◌, Bool, true, false, cond, eqb, List, [], ◌∷◌, length, get_or, Option, Some, None, Result, Ok, Err, refl, sym, ap, subst, ◌∙◌, arith}
 use Rattle.std.proofs.lemmas.Bool.{eqb-true, eqb-false}
-use Rattle.rules_base.specs.Limits.{depth_limit}
-use Rattle.rules_text.specs.Token.{Token, token_shape}
+use Rattle.rules_text.specs.nodes.Limits.{depth_limit}
+use Rattle.rules_text.specs.text.Token.{Token, token_shape}
 use Rattle.mich_text.specs.Machine.{Stack, Refusal, finish, has_statement, ready_for, refused, put, step}
-use Rattle.rules_text.specs.Lexical.{token_at, first_shape, shape_of}
+use Rattle.rules_text.specs.text.Lexical.{token_at, first_shape, shape_of}
 use Rattle.mich_text.specs.Results.{kind_of, first_flaw, Refuses, at_first_byte, no_place, later, IsPlaced, IsStep}
-use Rattle.rules_text.specs.declared.Shape.{Shape}
-use Rattle.rules_text.specs.Fault.{Flaw}
+use Rattle.rules_text.specs.declared.text.Shape.{Shape}
+use Rattle.rules_text.specs.text.Fault.{Flaw}
 use Rattle.mich_text.specs.declared.fault.LexError.{LexError}
 use Rattle.mich_text.specs.declared.fault.LexError.TheVariants as errors
-use Rattle.rules_text.specs.declared.TextKind.TheVariants.{BadChar}
+use Rattle.rules_text.specs.declared.text.TextKind.TheVariants.{BadChar}
 use Rattle.mich_text.specs.declared.plain.Step.{Step as CodeStep}
 use Rattle.mich_text.specs.declared.plain.Step.TheVariants.{Taken, Statement}
 use Rattle.mich_text.proofs.tokens.Shapes.{token_shape_is}

@@ -1,17 +1,17 @@
 -- A text is one thing only.
 use Rattle.std.proofs.Common.{◌≡◌, ℕ, max, false, List, [], ◌∷◌, ◌++◌, length, Option, Some, None, Result, Ok, refl, sym, ap, subst, ◌∙◌, arith, inl, inr}
 use Rattle.std.proofs.lemmas.List.{append-nil}
-use Rattle.rules_base.specs.Tree.{Tree}
-use Rattle.rules_text.specs.Token.{Token}
-use Rattle.rules_text.specs.Syntax.{Element, alone, application, number, bytes, string, parens, braces, braces_to, nothing, ended, element_tokens, element_tree, element_depth}
+use Rattle.rules_text.specs.nodes.Tree.{Tree}
+use Rattle.rules_text.specs.text.Token.{Token}
+use Rattle.rules_text.specs.text.Syntax.{Element, alone, application, number, bytes, string, parens, braces, braces_to, nothing, ended, element_tokens, element_tree, element_depth}
 use Rattle.mich_text.specs.Machine.{Stack, Refusal, finish, ended_tree, run, start}
-use Rattle.rules_text.specs.Lexical.{token_at, first_shape}
-use Rattle.rules_text.specs.Text.{Leads, IsInComment, IsOpen, EndsAt, Stands}
-use Rattle.rules_text.specs.declared.Shape.{Shape}
+use Rattle.rules_text.specs.text.Lexical.{token_at, first_shape}
+use Rattle.rules_text.specs.text.Text.{Leads, IsInComment, IsOpen, EndsAt, Stands}
+use Rattle.rules_text.specs.declared.text.Shape.{Shape}
 use Rattle.mich_text.specs.Plain.{IsFlawedWithoutLimits, HoldsWithoutLimits, flawed, in_comment, is_open, unexpected, too_deep, rank_without_limits, IsEndWithoutLimits}
-use Rattle.rules_text.specs.Fault.{Flaw}
-use Rattle.rules_text.specs.declared.TextKind.{TextKind}
-use Rattle.rules_text.specs.declared.TextKind.TheVariants.{Unclosed, Unexpected, TooDeep}
+use Rattle.rules_text.specs.text.Fault.{Flaw}
+use Rattle.rules_text.specs.declared.text.TextKind.{TextKind}
+use Rattle.rules_text.specs.declared.text.TextKind.TheVariants.{Unclosed, Unexpected, TooDeep}
 use Rattle.mich_text.proofs.grammar.Complete.{element_runs}
 use Rattle.mich_text.proofs.tokens.Ahead.{no_token, flaw_le}
 use Rattle.mich_text.proofs.tokens.Read.{okay_is, clash, wrongly, err_is}

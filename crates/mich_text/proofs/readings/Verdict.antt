@@ -1,17 +1,17 @@
 -- Each way in which the reader ends, and what the text then is.
 use Rattle.std.proofs.Common.{◌≡◌, ℕ, ◌≤◌, ◌<◌, ◌⊎◌, inl, inr, true, List, [], ◌∷◌, ◌++◌, length, Some, None, pos, Ok, Err, refl, sym, ap, subst, ◌∙◌, arith}
 use Rattle.std.proofs.lemmas.List.{append-nil}
-use Rattle.rules_base.specs.Limits.{depth_limit}
-use Rattle.rules_base.specs.Tree.{Tree}
-use Rattle.rules_text.specs.Token.{Token, token_shape}
-use Rattle.rules_text.specs.declared.Shape.{Shape}
-use Rattle.rules_text.specs.declared.Shape.TheVariants.{Digits, Quoted, Word, Note, OpenBrace, CloseBrace, OpenParen, CloseParen, Semicolon}
-use Rattle.rules_text.specs.declared.TextKind.TheVariants.{Unexpected, TooDeep}
-use Rattle.rules_text.specs.Fault.{Flaw}
-use Rattle.rules_text.specs.Lexical.{token_at, after_gap, first_shape}
-use Rattle.rules_text.specs.Text.{EndsAt, Stands}
-use Rattle.rules_text.specs.declared.TextKind.{TextKind}
-use Rattle.rules_text.specs.Syntax.{IsFront, IsFrontWithin}
+use Rattle.rules_text.specs.nodes.Limits.{depth_limit}
+use Rattle.rules_text.specs.nodes.Tree.{Tree}
+use Rattle.rules_text.specs.text.Token.{Token, token_shape}
+use Rattle.rules_text.specs.declared.text.Shape.{Shape}
+use Rattle.rules_text.specs.declared.text.Shape.TheVariants.{Digits, Quoted, Word, Note, OpenBrace, CloseBrace, OpenParen, CloseParen, Semicolon}
+use Rattle.rules_text.specs.declared.text.TextKind.TheVariants.{Unexpected, TooDeep}
+use Rattle.rules_text.specs.text.Fault.{Flaw}
+use Rattle.rules_text.specs.text.Lexical.{token_at, after_gap, first_shape}
+use Rattle.rules_text.specs.text.Text.{EndsAt, Stands}
+use Rattle.rules_text.specs.declared.text.TextKind.{TextKind}
+use Rattle.rules_text.specs.text.Syntax.{IsFront, IsFrontWithin}
 use Rattle.mich_text.specs.Plain.{rank_without_limits, HoldsWithoutLimits, flawed, unexpected as is_unexpected, too_deep as is_too_deep, IsFaultWithoutLimits, IsNodeWithoutLimits}
 use Rattle.mich_text.specs.Machine.{Stack, start, unexpected, too_deep, finish, has_statement, ended_tree, ready_for, refused, step, put}
 use Rattle.mich_text.proofs.grammar.Fronts.{is_front_within, is_front, step_ok, run_more, no_front, no_front_within, deeper_front}

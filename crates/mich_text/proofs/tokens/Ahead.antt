@@ -1,11 +1,11 @@
 -- What is read of any token lies further on.
 use Rattle.std.proofs.Common.{◌≡◌, ℕ, suc, ◌≤◌, ◌<◌, List, [], ◌∷◌, length, Option, Some, None, Ok, Err, refl, subst, arith}
-use Rattle.rules_text.specs.Token.{Token, string, name, annotation, number, bytes}
-use Rattle.rules_text.specs.declared.Shape.{Shape}
-use Rattle.rules_text.specs.declared.Shape.TheVariants.{Digits, Quoted, Word, Note, OpenBrace, CloseBrace, OpenParen, CloseParen, Semicolon}
-use Rattle.rules_text.specs.Fault.{Flaw}
-use Rattle.rules_text.specs.Lexical.{name_at, annotation_at, string_at, bytes_at, number_at, digits_at, begins_bytes, shape_at, shape_of, token_at}
-use Rattle.rules_text.specs.Text.{Leads}
+use Rattle.rules_text.specs.text.Token.{Token, string, name, annotation, number, bytes}
+use Rattle.rules_text.specs.declared.text.Shape.{Shape}
+use Rattle.rules_text.specs.declared.text.Shape.TheVariants.{Digits, Quoted, Word, Note, OpenBrace, CloseBrace, OpenParen, CloseParen, Semicolon}
+use Rattle.rules_text.specs.text.Fault.{Flaw}
+use Rattle.rules_text.specs.text.Lexical.{name_at, annotation_at, string_at, bytes_at, number_at, digits_at, begins_bytes, shape_at, shape_of, token_at}
+use Rattle.rules_text.specs.text.Text.{Leads}
 use Rattle.mich_text.specs.Plain.{rank_without_limits}
 use Rattle.mich_text.proofs.tokens.Annotations.{annotation_ahead}
 use Rattle.mich_text.proofs.tokens.Bytes.{bytes_ahead}

@@ -5,12 +5,12 @@ use Rattle.std.proofs.lemmas.List.{length-drop, length-take, take_at, drop_at}
 use Rattle.std.specs.List.{prefix_len}
 use Rattle.std.proofs.lemmas.Bool.{ltb-false, le-ltb}
 use Rattle.std.proofs.lemmas.Bool.Decides.{nat_tests}
-use Rattle.rules_base.specs.Limits.{name_limit}
-use Rattle.rules_text.specs.Token.{Token}
-use Rattle.rules_text.specs.declared.Shape.TheVariants.{Note}
-use Rattle.rules_text.specs.declared.TextKind.TheVariants.{TooLong}
-use Rattle.rules_text.specs.Fault.{Flaw}
-use Rattle.rules_text.specs.Lexical.{flaw, is_noted, annotation_at, made, shape_at, shape_of, token_at, first_shape}
+use Rattle.rules_text.specs.nodes.Limits.{name_limit}
+use Rattle.rules_text.specs.text.Token.{Token}
+use Rattle.rules_text.specs.declared.text.Shape.TheVariants.{Note}
+use Rattle.rules_text.specs.declared.text.TextKind.TheVariants.{TooLong}
+use Rattle.rules_text.specs.text.Fault.{Flaw}
+use Rattle.rules_text.specs.text.Lexical.{flaw, is_noted, annotation_at, made, shape_at, shape_of, token_at, first_shape}
 use Rattle.mich_text.proofs.tokens.ByteRuns.{IsAll, IsApart, prefix_grows, run_all, run_cut, run_ends, run_stable}
 use Rattle.mich_text.proofs.tokens.Gaps.{is_solid}
 use Rattle.mich_text.proofs.tokens.Names.{long_by}

@@ -5,7 +5,7 @@ use Rattle.std.proofs.lemmas.List.{take-append-le, drop-append-le, length-drop, 
 use Rattle.std.specs.List.{prefix_len, AllPass}
 use Rattle.std.proofs.lemmas.Bool.{ltb-true, ltb-false}
 use Rattle.std.proofs.lemmas.List.Sums.{prefix_len_passes}
-use Rattle.rules_text.specs.Fault.{Flaw}
+use Rattle.rules_text.specs.text.Fault.{Flaw}
 use Rattle.mich_text.proofs.tokens.Properties.{IsCut, IsStable}
 
 -- what may follow a printed token: nothing, a space or a closing parenthesis

@@ -10,11 +10,11 @@ use Rattle.std.proofs.lemmas.List.Elements.{All-head, All-tail}
 use Rattle.hex.specs.Hex.{decode_of, encode_lower, is_hex_digit, lower_digits}
 use Rattle.hex.specs.declared.error.FromHexError.{FromHexError}
 use Rattle.hex.proofs.HexLemmas.{decode_of-ok, decode_of-encode_lower, length-encode_with}
-use Rattle.rules_base.specs.Limits.{byte_limit}
-use Rattle.rules_text.specs.Token.{Token}
-use Rattle.rules_text.specs.declared.TextKind.TheVariants.{BadBytes, TooLong}
-use Rattle.rules_text.specs.Fault.{Flaw}
-use Rattle.rules_text.specs.Lexical.{flaw, is_word, begins_word, bytes_at, decoded, made, token_at}
+use Rattle.rules_text.specs.nodes.Limits.{byte_limit}
+use Rattle.rules_text.specs.text.Token.{Token}
+use Rattle.rules_text.specs.declared.text.TextKind.TheVariants.{BadBytes, TooLong}
+use Rattle.rules_text.specs.text.Fault.{Flaw}
+use Rattle.rules_text.specs.text.Lexical.{flaw, is_word, begins_word, bytes_at, decoded, made, token_at}
 use Rattle.mich_text.proofs.tokens.ByteRuns.{IsAll, IsApart, prefix_grows, prefix_stable, run_cut, run_ends, run_stable}
 use Rattle.mich_text.proofs.tokens.Names.{no_word}
 use Rattle.mich_text.proofs.tokens.Properties.{Each, Ends, EndsRead, IsAhead, IsCut, IsShown, IsStable, Of, Reads, at_first, dropped, each_either, either_ahead, either_reads, read_either, short_cut}

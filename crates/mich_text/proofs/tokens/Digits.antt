@@ -6,8 +6,8 @@ use Rattle.std.specs.Char.{is_ascii_digit, digit_value}
 use Rattle.std.specs.Str.Parse.{digits_value, AllDigits, digits_value_after}
 use Rattle.std.proofs.lemmas.Bool.Decides.{nat_tests}
 use Rattle.std.proofs.lemmas.Int.Digits.{digits_value_more}
-use Rattle.rules_text.specs.declared.Shape.TheVariants.{Digits}
-use Rattle.rules_text.specs.Lexical.{begins_bytes, shape_of}
+use Rattle.rules_text.specs.declared.text.Shape.TheVariants.{Digits}
+use Rattle.rules_text.specs.text.Lexical.{begins_bytes, shape_of}
 use Rattle.mich_text.proofs.tokens.ByteRuns.{IsAll, IsApart}
 use Rattle.mich_text.proofs.tokens.Gaps.{is_solid}
 

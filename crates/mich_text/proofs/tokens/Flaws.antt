@@ -1,11 +1,11 @@
 -- A string that isn't closed ends with the input.
 use Rattle.std.proofs.Common.{◌≡◌, ℕ, List, length, Option, Some, None, Err, refl, subst}
-use Rattle.rules_text.specs.Token.{string, name, annotation, number, bytes}
-use Rattle.rules_text.specs.declared.Shape.{Shape}
-use Rattle.rules_text.specs.declared.Shape.TheVariants.{Digits, Quoted, Word, Note, OpenBrace, CloseBrace, OpenParen, CloseParen, Semicolon}
-use Rattle.rules_text.specs.declared.TextKind.TheVariants.{BadString, BadBytes, BadNumber, TooLong, BadChar, Unclosed}
-use Rattle.rules_text.specs.Fault.{Flaw}
-use Rattle.rules_text.specs.Lexical.{name_at, annotation_at, string_at, bytes_at, number_at, digits_at, begins_bytes, shape_at, token_at, first_shape}
+use Rattle.rules_text.specs.text.Token.{string, name, annotation, number, bytes}
+use Rattle.rules_text.specs.declared.text.Shape.{Shape}
+use Rattle.rules_text.specs.declared.text.Shape.TheVariants.{Digits, Quoted, Word, Note, OpenBrace, CloseBrace, OpenParen, CloseParen, Semicolon}
+use Rattle.rules_text.specs.declared.text.TextKind.TheVariants.{BadString, BadBytes, BadNumber, TooLong, BadChar, Unclosed}
+use Rattle.rules_text.specs.text.Fault.{Flaw}
+use Rattle.rules_text.specs.text.Lexical.{name_at, annotation_at, string_at, bytes_at, number_at, digits_at, begins_bytes, shape_at, token_at, first_shape}
 use Rattle.mich_text.proofs.tokens.Annotations.{annotation_each}
 use Rattle.mich_text.proofs.tokens.Bytes.{bytes_each}
 use Rattle.mich_text.proofs.tokens.Names.{name_each}

@@ -2,7 +2,7 @@
 use Rattle.std.specs.Prelude.{◌==◌}
 use Rattle.std.proofs.Common.{◌≡◌, ℕ, suc, ◌+◌, ◌-◌, ◌≤◌, ◌<◌, Bool, true, false, cond, not, ◌||◌, eqb, List, [], ◌∷◌, ◌++◌, length, Option, Some, None, refl, sym, subst, arith}
 use Rattle.std.proofs.lemmas.Bool.{eqb-true}
-use Rattle.rules_text.specs.Lexical.{after_gap, after_slash, after_line, after_block, is_white, opens, closes}
+use Rattle.rules_text.specs.text.Lexical.{after_gap, after_slash, after_line, after_block, is_white, opens, closes}
 use Rattle.mich_text.proofs.tokens.Properties.{Ends, ends_more}
 
 -- ---- what is read lies further on

@@ -1,12 +1,12 @@
 -- What a token that was read is like.
 use Rattle.std.proofs.Common.{◌≡◌, ℕ, List, [], ◌∷◌, Option, Some, None, Result, Ok, Err, refl, subst}
 use Rattle.std.specs.List.{AllByRecursion}
-use Rattle.rules_text.specs.Token.{Token, string, name, annotation, number, bytes}
-use Rattle.rules_text.specs.declared.Shape.{Shape}
-use Rattle.rules_text.specs.declared.Shape.TheVariants.{Digits, Quoted, Word, Note, OpenBrace, CloseBrace, OpenParen, CloseParen, Semicolon}
-use Rattle.rules_text.specs.Fault.{Flaw}
-use Rattle.rules_text.specs.Lexical.{name_at, annotation_at, string_at, bytes_at, number_at, made, digits_at, begins_bytes, shape_at, shape_of, token_at}
-use Rattle.rules_text.specs.Text.{Leads}
+use Rattle.rules_text.specs.text.Token.{Token, string, name, annotation, number, bytes}
+use Rattle.rules_text.specs.declared.text.Shape.{Shape}
+use Rattle.rules_text.specs.declared.text.Shape.TheVariants.{Digits, Quoted, Word, Note, OpenBrace, CloseBrace, OpenParen, CloseParen, Semicolon}
+use Rattle.rules_text.specs.text.Fault.{Flaw}
+use Rattle.rules_text.specs.text.Lexical.{name_at, annotation_at, string_at, bytes_at, number_at, made, digits_at, begins_bytes, shape_at, shape_of, token_at}
+use Rattle.rules_text.specs.text.Text.{Leads}
 use Rattle.mich_text.proofs.tokens.Annotations.{IsNote, annotation_reads}
 use Rattle.mich_text.proofs.tokens.Bytes.{IsBytes, bytes_reads}
 use Rattle.mich_text.proofs.tokens.Names.{IsName, name_reads}

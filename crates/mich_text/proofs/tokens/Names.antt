@@ -6,12 +6,12 @@ use Rattle.std.specs.List.{prefix_len}
 use Rattle.std.specs.Char.{is_ascii_alphabetic}
 use Rattle.std.proofs.lemmas.Bool.{ltb-true, ltb-false, lt-ltb, le-ltb}
 use Rattle.std.proofs.lemmas.Bool.Decides.{nat_tests}
-use Rattle.rules_base.specs.Limits.{name_limit}
-use Rattle.rules_text.specs.Token.{Token}
-use Rattle.rules_text.specs.declared.Shape.TheVariants.{Digits, Quoted, Word, Note, OpenBrace, CloseBrace, OpenParen, CloseParen, Semicolon}
-use Rattle.rules_text.specs.declared.TextKind.TheVariants.{TooLong}
-use Rattle.rules_text.specs.Fault.{Flaw}
-use Rattle.rules_text.specs.Lexical.{flaw, is_word, begins_word, name_at, made, shape_at, shape_of, token_at, first_shape}
+use Rattle.rules_text.specs.nodes.Limits.{name_limit}
+use Rattle.rules_text.specs.text.Token.{Token}
+use Rattle.rules_text.specs.declared.text.Shape.TheVariants.{Digits, Quoted, Word, Note, OpenBrace, CloseBrace, OpenParen, CloseParen, Semicolon}
+use Rattle.rules_text.specs.declared.text.TextKind.TheVariants.{TooLong}
+use Rattle.rules_text.specs.text.Fault.{Flaw}
+use Rattle.rules_text.specs.text.Lexical.{flaw, is_word, begins_word, name_at, made, shape_at, shape_of, token_at, first_shape}
 use Rattle.mich_text.proofs.tokens.ByteRuns.{IsAll, IsApart, prefix_grows, prefix_some, run_all, run_cut, run_ends, run_stable}
 use Rattle.mich_text.proofs.tokens.Gaps.{is_solid}
 use Rattle.mich_text.proofs.tokens.Properties.{Each, EndsRead, IsAhead, IsCut, IsShown, IsStable, Of, Reads, at_first, dropped, each_either, either_ahead, either_reads, limited_cut, limited_cut_end, limited_stable, limited_stable_end, read_either, wrong}

@@ -7,11 +7,11 @@ use Rattle.std.specs.Char.{is_ascii_digit}
 use Rattle.std.specs.Str.Parse.{digits_value, AllDigits}
 use Rattle.std.proofs.lemmas.Bool.{eqb-false, ltb-true, ltb-false, lt-ltb, eqb-true, le-ltb, ne_eqb}
 use Rattle.std.proofs.lemmas.List.Sums.{prefix_len-le-length}
-use Rattle.rules_text.specs.Token.{Token}
-use Rattle.rules_text.specs.declared.TextKind.TheVariants.{BadNumber}
-use Rattle.rules_text.specs.Fault.{Flaw}
-use Rattle.rules_text.specs.Lexical.{flaw, begins_word, bytes_at, number_at, signed, made, shape_at, token_at, after_minus, is_minus}
-use Rattle.rules_text.specs.declared.TextKind.{TextKind}
+use Rattle.rules_text.specs.text.Token.{Token}
+use Rattle.rules_text.specs.declared.text.TextKind.TheVariants.{BadNumber}
+use Rattle.rules_text.specs.text.Fault.{Flaw}
+use Rattle.rules_text.specs.text.Lexical.{flaw, begins_word, bytes_at, number_at, signed, made, shape_at, token_at, after_minus, is_minus}
+use Rattle.rules_text.specs.declared.text.TextKind.{TextKind}
 use Rattle.mich_text.proofs.tokens.ByteRuns.{IsApart, prefix_grows, prefix_stable, run_cut, run_ends, run_stable}
 use Rattle.mich_text.proofs.tokens.Digits.{digit_apart, digit_shape, digits_pass, front_of, no_bytes, not_minus, value_grows}
 use Rattle.mich_text.proofs.tokens.Names.{begins_more, begins_some, no_word}

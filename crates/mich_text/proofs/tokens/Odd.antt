@@ -9,14 +9,14 @@ use Rattle.std.proofs.lemmas.List.Elements.{All-cons, All-nil}
 use Rattle.hex.specs.Hex.{decode_of, is_hex_digit}
 use Rattle.hex.specs.declared.error.FromHexError.{FromHexError}
 use Rattle.hex.proofs.HexLemmas.{decode_of-digits}
-use Rattle.rules_base.specs.Limits.{byte_limit}
-use Rattle.rules_text.specs.Token.{Token, string, name, annotation, number, bytes}
-use Rattle.rules_text.specs.declared.Shape.{Shape}
-use Rattle.rules_text.specs.declared.Shape.TheVariants.{Digits, Quoted, Word, Note, OpenBrace, CloseBrace, OpenParen, CloseParen, Semicolon}
-use Rattle.rules_text.specs.declared.TextKind.TheVariants.{BadString, BadBytes, BadNumber, TooLong, BadChar, Unclosed}
-use Rattle.rules_text.specs.Fault.{Flaw}
-use Rattle.rules_text.specs.Lexical.{flaw, begins_word, name_at, annotation_at, string_at, bytes_at, decoded, number_at, made, begins_bytes, shape_at, shape_of, token_at}
-use Rattle.rules_text.specs.declared.TextKind.{TextKind}
+use Rattle.rules_text.specs.nodes.Limits.{byte_limit}
+use Rattle.rules_text.specs.text.Token.{Token, string, name, annotation, number, bytes}
+use Rattle.rules_text.specs.declared.text.Shape.{Shape}
+use Rattle.rules_text.specs.declared.text.Shape.TheVariants.{Digits, Quoted, Word, Note, OpenBrace, CloseBrace, OpenParen, CloseParen, Semicolon}
+use Rattle.rules_text.specs.declared.text.TextKind.TheVariants.{BadString, BadBytes, BadNumber, TooLong, BadChar, Unclosed}
+use Rattle.rules_text.specs.text.Fault.{Flaw}
+use Rattle.rules_text.specs.text.Lexical.{flaw, begins_word, name_at, annotation_at, string_at, bytes_at, decoded, number_at, made, begins_bytes, shape_at, shape_of, token_at}
+use Rattle.rules_text.specs.declared.text.TextKind.{TextKind}
 use Rattle.mich_text.proofs.tokens.Annotations.{annotation_each}
 use Rattle.mich_text.proofs.tokens.ByteRuns.{all_front, all_more}
 use Rattle.mich_text.proofs.tokens.Bytes.{IsHexDigit}

@@ -1,8 +1,8 @@
 -- In one place one token is read, or one flaw.
 use Rattle.std.proofs.Common.{◌≡◌, ℕ, List, Result, Ok, Err, sym, ◌∙◌}
-use Rattle.rules_text.specs.Token.{Token}
-use Rattle.rules_text.specs.Fault.{Flaw}
-use Rattle.rules_text.specs.Lexical.{token_at}
+use Rattle.rules_text.specs.text.Token.{Token}
+use Rattle.rules_text.specs.text.Fault.{Flaw}
+use Rattle.rules_text.specs.text.Lexical.{token_at}
 
 abbrev okay : {A : Type 0} → A → Result A Flaw
 okay x = Ok x

@@ -1,10 +1,10 @@
 -- A token that was read has the shape that its first byte tells.
 use Rattle.std.proofs.Common.{◌≡◌, ℕ, Bool, true, false, cond, List, drop, Option, Some, None, Result, Ok, Err, refl, sym, ap, ◌∙◌}
-use Rattle.rules_text.specs.Token.{Token, string, name, annotation, number, bytes, token_shape}
-use Rattle.rules_text.specs.declared.Shape.{Shape}
-use Rattle.rules_text.specs.declared.Shape.TheVariants.{Digits, Quoted, Word, Note, OpenBrace, CloseBrace, OpenParen, CloseParen, Semicolon}
-use Rattle.rules_text.specs.Fault.{Flaw}
-use Rattle.rules_text.specs.Lexical.{name_at, annotation_at, string_at, bytes_at, number_at, made, begins_bytes, shape_at, token_at, first_shape}
+use Rattle.rules_text.specs.text.Token.{Token, string, name, annotation, number, bytes, token_shape}
+use Rattle.rules_text.specs.declared.text.Shape.{Shape}
+use Rattle.rules_text.specs.declared.text.Shape.TheVariants.{Digits, Quoted, Word, Note, OpenBrace, CloseBrace, OpenParen, CloseParen, Semicolon}
+use Rattle.rules_text.specs.text.Fault.{Flaw}
+use Rattle.rules_text.specs.text.Lexical.{name_at, annotation_at, string_at, bytes_at, number_at, made, begins_bytes, shape_at, token_at, first_shape}
 use Rattle.mich_text.proofs.tokens.Read.{okay_is}
 
 made_shape : {A : Type 0} (f : A → Token) (s : Shape) (r : Result (A × List ℕ) Flaw) (t : Token) (behind : List ℕ)

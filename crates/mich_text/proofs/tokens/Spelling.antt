@@ -3,10 +3,10 @@ use Rattle.std.specs.Prelude.{◌==◌}
 use Rattle.std.proofs.Common.{◌≡◌, ℕ, suc, ◌+◌, ◌≤◌, ◌<◌, Bool, true, false, cond, ◌||◌, ◌&&◌, eqb, leb, List, [], ◌∷◌, ◌++◌, length, Option, Some, None, Result, Ok, Err, refl, sym, ap, ◌∙◌, append_assoc, arith}
 use Rattle.std.proofs.lemmas.List.{length-append}
 use Rattle.std.proofs.lemmas.Bool.{eqb-true}
-use Rattle.rules_text.specs.declared.TextKind.TheVariants.{BadString, Unclosed}
-use Rattle.rules_text.specs.Fault.{Flaw}
-use Rattle.rules_text.specs.Lexical.{flaw, Spelt, spelt, spelt_escape, with_byte, with_escape, escaped}
-use Rattle.rules_text.specs.Printed.{spelling, string_text}
+use Rattle.rules_text.specs.declared.text.TextKind.TheVariants.{BadString, Unclosed}
+use Rattle.rules_text.specs.text.Fault.{Flaw}
+use Rattle.rules_text.specs.text.Lexical.{flaw, Spelt, spelt, spelt_escape, with_byte, with_escape, escaped}
+use Rattle.rules_text.specs.text.Printed.{spelling, string_text}
 use Rattle.mich_text.specs.Plain.{rank_without_limits}
 use Rattle.mich_text.proofs.tokens.ByteRuns.{IsAll}
 use Rattle.mich_text.proofs.tokens.Properties.{Ends, Of, ends_more, moved}

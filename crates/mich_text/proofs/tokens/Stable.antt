@@ -1,10 +1,10 @@
 -- A token with a byte behind it is the same whatever bytes follow.
 use Rattle.std.proofs.Common.{◌≡◌, ℕ, List, [], ◌∷◌, ◌++◌, Option, Some, None, ℤ, Result, Ok, Err, refl, subst, arith}
-use Rattle.rules_text.specs.Token.{Token, string, name, annotation, number, bytes}
-use Rattle.rules_text.specs.declared.Shape.{Shape}
-use Rattle.rules_text.specs.declared.Shape.TheVariants.{Digits, Quoted, Word, Note, OpenBrace, CloseBrace, OpenParen, CloseParen, Semicolon}
-use Rattle.rules_text.specs.Fault.{Flaw}
-use Rattle.rules_text.specs.Lexical.{name_at, annotation_at, string_at, bytes_at, number_at, made, digits_at, begins_bytes, shape_at, shape_of, token_at}
+use Rattle.rules_text.specs.text.Token.{Token, string, name, annotation, number, bytes}
+use Rattle.rules_text.specs.declared.text.Shape.{Shape}
+use Rattle.rules_text.specs.declared.text.Shape.TheVariants.{Digits, Quoted, Word, Note, OpenBrace, CloseBrace, OpenParen, CloseParen, Semicolon}
+use Rattle.rules_text.specs.text.Fault.{Flaw}
+use Rattle.rules_text.specs.text.Lexical.{name_at, annotation_at, string_at, bytes_at, number_at, made, digits_at, begins_bytes, shape_at, shape_of, token_at}
 use Rattle.mich_text.proofs.tokens.Annotations.{annotation_stable}
 use Rattle.mich_text.proofs.tokens.Bytes.{bytes_stable}
 use Rattle.mich_text.proofs.tokens.Names.{name_stable}

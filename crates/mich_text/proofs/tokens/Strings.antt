@@ -3,13 +3,13 @@ use Rattle.std.proofs.Common.{◌≡◌, ℕ, suc, ◌+◌, ◌-◌, ◌≤◌, 
 use Rattle.std.proofs.lemmas.List.{length-drop, length-append, take_all, append-nil}
 use Rattle.std.proofs.lemmas.Bool.{ltb-true, ltb-false, lt-ltb, le-ltb}
 use Rattle.std.proofs.lemmas.List.Sums.{prefix_len-le-length}
-use Rattle.rules_base.specs.Limits.{byte_limit}
-use Rattle.rules_text.specs.Token.{Token}
-use Rattle.rules_text.specs.declared.TextKind.TheVariants.{BadString, TooLong, Unclosed}
-use Rattle.rules_text.specs.Fault.{Flaw}
-use Rattle.rules_text.specs.Lexical.{flaw, Spelt, spelt, with_byte, string_at, ◌>>=◌, token_at}
-use Rattle.rules_text.specs.declared.TextKind.{TextKind}
-use Rattle.rules_text.specs.Printed.{string_text}
+use Rattle.rules_text.specs.nodes.Limits.{byte_limit}
+use Rattle.rules_text.specs.text.Token.{Token}
+use Rattle.rules_text.specs.declared.text.TextKind.TheVariants.{BadString, TooLong, Unclosed}
+use Rattle.rules_text.specs.text.Fault.{Flaw}
+use Rattle.rules_text.specs.text.Lexical.{flaw, Spelt, spelt, with_byte, string_at, ◌>>=◌, token_at}
+use Rattle.rules_text.specs.declared.text.TextKind.{TextKind}
+use Rattle.rules_text.specs.text.Printed.{string_text}
 use Rattle.mich_text.specs.Shown.{Counts}
 use Rattle.mich_text.proofs.tokens.ByteRuns.{IsAll}
 use Rattle.mich_text.proofs.tokens.Properties.{Each, EndsRead, IsAhead, IsCut, IsShown, IsStable, Of, Reads, at_first, each_either, either_ahead, either_reads, ends_more, limited_stable, limited_stable_end, moved, read_either}

@@ -1,10 +1,10 @@
 -- What is left behind tokens is the end of the text.
 use Rattle.std.proofs.Common.{◌≡◌, ℕ, List, [], ◌∷◌, ◌++◌, Option, Some, None, Ok, refl, sym, ap, subst, ◌∙◌, append_assoc}
-use Rattle.rules_text.specs.Token.{Token, string, name, annotation, number, bytes}
-use Rattle.rules_text.specs.declared.Shape.{Shape}
-use Rattle.rules_text.specs.declared.Shape.TheVariants.{Digits, Quoted, Word, Note, OpenBrace, CloseBrace, OpenParen, CloseParen, Semicolon}
-use Rattle.rules_text.specs.Lexical.{name_at, annotation_at, string_at, bytes_at, number_at, begins_bytes, shape_at, shape_of, token_at}
-use Rattle.rules_text.specs.Text.{Leads}
+use Rattle.rules_text.specs.text.Token.{Token, string, name, annotation, number, bytes}
+use Rattle.rules_text.specs.declared.text.Shape.{Shape}
+use Rattle.rules_text.specs.declared.text.Shape.TheVariants.{Digits, Quoted, Word, Note, OpenBrace, CloseBrace, OpenParen, CloseParen, Semicolon}
+use Rattle.rules_text.specs.text.Lexical.{name_at, annotation_at, string_at, bytes_at, number_at, begins_bytes, shape_at, shape_of, token_at}
+use Rattle.rules_text.specs.text.Text.{Leads}
 use Rattle.mich_text.proofs.tokens.Annotations.{annotation_ends}
 use Rattle.mich_text.proofs.tokens.Bytes.{bytes_ends}
 use Rattle.mich_text.proofs.tokens.Gaps.{EndsGap, gap_ends}

@@ -1,4 +1,4 @@
-use Rattle.rules_replay.specs.Codec.{IsCodecAnswer}
+use Rattle.rules_files.specs.commands.Codec.{IsCodecAnswer}
 use Rattle.mich_answers.specs.View.{node_answer}
 use Rattle.mich_answers.proofs.Listing.{listed_answer}
 use Rattle.mich_answers.proofs.Stated.{ok_answer}

@@ -1,6 +1,6 @@
 use Rattle.std.proofs.Common.{◌≡◌}
 use Rattle.std.specs.Vec.Iter.{into_iter_items}
-use Rattle.rules_replay.specs.Packs.{first_claim}
+use Rattle.rules_files.specs.commands.Packs.{first_claim}
 use Rattle.mich_data.specs.View.{all_pending}
 use Rattle.mich_answers.proofs.packing.first_claim.Given as goal
 

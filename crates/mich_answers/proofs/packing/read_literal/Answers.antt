@@ -1,5 +1,5 @@
 use Rattle.std.proofs.Common.{arith}
-use Rattle.laws_packing.proofs.ForCallers.{checked_is_packable}
+use Rattle.laws_typing.proofs.packing_lemmas.ForCallers.{checked_is_packable}
 use Rattle.mich_base.specs.TypeView.{kind}
 use Rattle.mich_base.specs.View.{tree}
 use Rattle.mich_check.specs.Pending.{checked}

@@ -1,5 +1,5 @@
 use Rattle.std.proofs.Common.{◌≡◌, nat_le, drop}
-use Rattle.rules_base.specs.Tree.{depths}
+use Rattle.rules_text.specs.nodes.Tree.{depths}
 use Rattle.mich_base.specs.View.{trees}
 use Rattle.mich_base.proofs.node.+depth.Given as goal
 

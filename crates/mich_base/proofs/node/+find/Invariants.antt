@@ -1,5 +1,5 @@
 use Rattle.std.proofs.Common.{◌≡◌, drop}
-use Rattle.rules_base.specs.Tree.{preorders}
+use Rattle.rules_text.specs.nodes.Tree.{preorders}
 use Rattle.mich_base.specs.Walk.{look}
 use Rattle.mich_base.specs.View.{trees}
 use Rattle.mich_base.proofs.node.+find.Given as goal

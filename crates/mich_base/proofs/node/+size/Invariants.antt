@@ -1,5 +1,5 @@
 use Rattle.std.proofs.Common.{◌≡◌, drop}
-use Rattle.rules_base.specs.Tree.{sizes}
+use Rattle.rules_text.specs.nodes.Tree.{sizes}
 use Rattle.mich_base.specs.Walk.{room_left}
 use Rattle.mich_base.specs.View.{trees}
 use Rattle.mich_base.proofs.node.+size.Given as goal

@@ -1,4 +1,4 @@
-use Rattle.rules_base.specs.Primitives.{primitive_of_code, primitives}
+use Rattle.rules_text.specs.nodes.Primitives.{primitive_of_code, primitives}
 use Rattle.mich_base.proofs.primitives.primitive_of_code.Goals as goal
 
 pub returns : goal.returns

@@ -1,7 +1,7 @@
 use Rattle.std.proofs.Common.{sym, ap, ◌∙◌, refl}
-use Rattle.rules_values.specs.Val.{no_pair}
-use Rattle.rules_values.specs.Tickets.{pair_tickets}
-use Rattle.rules_bigmap.specs.Changes.{changed}
+use Rattle.rules_data.specs.values.Val.{no_pair}
+use Rattle.rules_data.specs.values.Tickets.{pair_tickets}
+use Rattle.rules_data.specs.big_maps.Changes.{changed}
 use Rattle.mich_bigmap.specs.Bases.{entries_in, seen}
 use Rattle.mich_bigmap.specs.Stacked.{base_of, bases_of}
 use Rattle.mich_bigmap.proofs.Below.{entries_at, entries_missed}

@@ -1,5 +1,5 @@
 use Rattle.std.proofs.Common.{List, ap, ◌∙◌}
-use Rattle.rules_bigmap.specs.Changes.{changed}
+use Rattle.rules_data.specs.big_maps.Changes.{changed}
 use Rattle.mich_term.specs.ValueView.{pairs}
 use Rattle.mich_term.specs.declared.datum.Datum.{Datum}
 use Rattle.mich_term.specs.declared.value.Value.{Value}

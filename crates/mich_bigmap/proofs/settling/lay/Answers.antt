@@ -1,6 +1,6 @@
 use Rattle.std.proofs.Common.{◌≡◌, ℕ, IfOk, Result, Ok, Err, Some, sym, ◌∙◌, subst}
-use Rattle.rules_values.specs.Val.{Pairs}
-use Rattle.rules_bigmap.specs.Changes.{changed}
+use Rattle.rules_data.specs.values.Val.{Pairs}
+use Rattle.rules_data.specs.big_maps.Changes.{changed}
 use Rattle.mich_base.specs.declared.memory.Memory.{Memory}
 use Rattle.mich_bigmap.specs.Bases.{Bases, entries_in, seen}
 use Rattle.mich_bigmap.specs.Ticketless.{HoldNoTickets}

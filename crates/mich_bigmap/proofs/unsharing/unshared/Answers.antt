@@ -2,7 +2,7 @@ use Rattle.std.proofs.Common.{◌≡◌, true, refl, sym, ap, ◌∙◌, subst}
 use Rattle.std.specs.Prelude.{is_some}
 use Rattle.std.specs.List.{AllByRecursion}
 use Rattle.std.specs.Map.{keys_of}
-use Rattle.rules_bigmap.specs.Changes.{changed}
+use Rattle.rules_data.specs.big_maps.Changes.{changed}
 use Rattle.mich_term.specs.Keyed.{IsIncreasing}
 use Rattle.mich_term.specs.ValueView.{pairs}
 use Rattle.mich_term.specs.declared.value.BigMap.{out-BigMap}

@@ -1,6 +1,6 @@
 use Rattle.std.proofs.Common.{◌+◌, drop, sym, ap, ◌∙◌, arith}
 use Rattle.std.proofs.lemmas.Result.{err_from_is_err_and}
-use Rattle.rules_base.specs.Tree.{preorders}
+use Rattle.rules_text.specs.nodes.Tree.{preorders}
 use Rattle.mich_base.specs.View.{trees}
 use Rattle.mich_binary.proofs.Scans.{onward, scan_more, size_more}
 use Rattle.mich_binary.proofs.codes.+scan.Goals as goal

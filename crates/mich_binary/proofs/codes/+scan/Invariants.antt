@@ -1,5 +1,5 @@
 use Rattle.std.proofs.Common.{◌≡◌, ◌+◌, drop}
-use Rattle.rules_base.specs.Tree.{sizes, preorders}
+use Rattle.rules_text.specs.nodes.Tree.{sizes, preorders}
 use Rattle.mich_base.specs.View.{trees}
 use Rattle.mich_binary.specs.Scanning.{scanned}
 use Rattle.mich_binary.proofs.codes.+scan.Given as goal

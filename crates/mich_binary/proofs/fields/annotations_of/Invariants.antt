@@ -1,6 +1,6 @@
 use Rattle.std.proofs.Common.{◌≡◌, ◌++◌, true, option_map}
 use Rattle.std.specs.List.{list_all}
-use Rattle.rules_binary.specs.Reading.{pieces, is_annotation}
+use Rattle.rules_text.specs.binary.Reading.{pieces, is_annotation}
 use Rattle.mich_binary.specs.Pieces.{pieces_of}
 use Rattle.mich_binary.proofs.PieceLaws.{cut_size}
 use Rattle.mich_binary.proofs.fields.annotations_of.Given as goal

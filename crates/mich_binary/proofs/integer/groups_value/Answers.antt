@@ -1,5 +1,5 @@
 use Rattle.std.proofs.Common.{◌≡◌, ◌-◌, ◌+◌, ◌∙◌, ap, length, drop, arith}
-use Rattle.rules_binary.specs.Reading.{groups_value}
+use Rattle.rules_text.specs.binary.Reading.{groups_value}
 use Rattle.mich_binary.proofs.Integers.{later_less, one_group}
 use Rattle.mich_binary.proofs.integer.groups_value.Goals as goal
 

@@ -1,5 +1,5 @@
 use Rattle.std.proofs.Common.{◌≡◌, ◌-◌, ◌<◌, ◌^◌, length, drop}
-use Rattle.rules_binary.specs.Reading.{groups_value}
+use Rattle.rules_text.specs.binary.Reading.{groups_value}
 use Rattle.mich_binary.proofs.integer.groups_value.Given as goal
 
 abbrev pub invariant-loop-i : goal.invariant-loop-i

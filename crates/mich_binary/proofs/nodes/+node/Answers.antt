@@ -1,9 +1,9 @@
 use Rattle.std.proofs.Common.{◌≡◌, ◌++◌, ◌∷◌, ◌-◌, [], length, map, false, nat_lt, Ok, sym, ap, arith, inl, inr}
 use Rattle.std.proofs.lemmas.Bool.{le-ltb}
 use Rattle.std.proofs.lemmas.List.{map_push}
-use Rattle.rules_base.specs.Tree.{Tree}
-use Rattle.rules_binary.specs.Spelling.{count}
-use Rattle.rules_binary.specs.Reading.{node_at, application_at, many_at, arguments_at, nodes_within}
+use Rattle.rules_text.specs.nodes.Tree.{Tree}
+use Rattle.rules_text.specs.binary.Spelling.{count}
+use Rattle.rules_text.specs.binary.Reading.{node_at, application_at, many_at, arguments_at, nodes_within}
 use Rattle.mich_base.specs.View.{tree, trees}
 use Rattle.mich_binary.specs.Results.{spot}
 use Rattle.mich_binary.proofs.Levels.{count_is}

@@ -1,5 +1,5 @@
 use Rattle.std.proofs.Common.{◌≡◌, ◌+◌, ◌*◌, ◌-◌, length, map}
-use Rattle.rules_binary.specs.Reading.{node_at, arguments_at, nodes_within}
+use Rattle.rules_text.specs.binary.Reading.{node_at, arguments_at, nodes_within}
 use Rattle.mich_base.specs.View.{tree}
 use Rattle.mich_binary.specs.Results.{spot}
 use Rattle.mich_binary.proofs.Loops.{with_front}

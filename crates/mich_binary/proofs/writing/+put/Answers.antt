@@ -1,6 +1,6 @@
 use Rattle.std.proofs.Common.{◌≡◌, List, ℕ, [], ◌∷◌, ◌++◌, ◌≤◌, ◌+◌, length, drop, ap, sym, subst, ◌∙◌, arith, append_assoc, length-append}
 use Rattle.std.proofs.lemmas.Result.{err_from_is_err_and}
-use Rattle.rules_binary.specs.Spelling.{field, count, spelling, spellings}
+use Rattle.rules_text.specs.binary.Spelling.{field, count, spelling, spellings}
 use Rattle.mich_base.specs.View.{tree, trees}
 use Rattle.mich_binary.specs.Results.{IsWritten}
 use Rattle.mich_binary.proofs.Levels.{count_is}

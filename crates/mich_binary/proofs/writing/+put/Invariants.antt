@@ -1,6 +1,6 @@
 use Rattle.std.proofs.Common.{◌≡◌, ◌≤◌, ◌++◌, length, drop}
-use Rattle.rules_base.specs.Limits.{encoded_limit}
-use Rattle.rules_binary.specs.Spelling.{spellings}
+use Rattle.rules_text.specs.nodes.Limits.{encoded_limit}
+use Rattle.rules_text.specs.binary.Spelling.{spellings}
 use Rattle.mich_base.specs.View.{trees}
 use Rattle.mich_binary.proofs.writing.+put.Given as goal
 

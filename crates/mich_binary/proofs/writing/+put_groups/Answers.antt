@@ -1,7 +1,7 @@
 use Rattle.std.proofs.Common.{List, ℕ, [], ◌∷◌, ◌+◌, ◌%◌, ◌/◌, sym, subst, arith}
-use Rattle.rules_binary.specs.Spelling.{groups}
+use Rattle.rules_text.specs.binary.Spelling.{groups}
 use Rattle.mich_binary.specs.Results.{IsWritten}
-use Rattle.laws_binary.proofs.ForCallers.{more_groups}
+use Rattle.laws_data.proofs.binary_lemmas.ForCallers.{more_groups}
 use Rattle.mich_binary.proofs.Writings.{both}
 use Rattle.mich_binary.proofs.writing.+put_groups.Goals as goal
 

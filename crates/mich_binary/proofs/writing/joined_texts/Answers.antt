@@ -1,5 +1,5 @@
 use Rattle.std.proofs.Common.{◌≡◌, List, ℕ, ◌++◌, ap, sym, ◌∙◌}
-use Rattle.rules_binary.specs.Spelling.{joined}
+use Rattle.rules_text.specs.binary.Spelling.{joined}
 use Rattle.mich_binary.proofs.Writings.{spaced, joined_is}
 use Rattle.mich_binary.proofs.writing.joined_texts.Goals as goal
 

@@ -1,5 +1,5 @@
 use Rattle.std.proofs.Common.{◌≡◌, ◌++◌, drop}
-use Rattle.rules_binary.specs.Spelling.{joined}
+use Rattle.rules_text.specs.binary.Spelling.{joined}
 use Rattle.mich_binary.proofs.Writings.{spaced}
 use Rattle.mich_binary.proofs.writing.joined_texts.Given as goal
 

@@ -1,5 +1,5 @@
 use Rattle.std.proofs.Common.{refl}
-use Rattle.rules_hash.specs.Blake2b.{mixed}
+use Rattle.rules_text.specs.hash.Blake2b.{mixed}
 use Rattle.mich_blake.proofs.compression.mix.Goals as goal
 
 pub returns : goal.returns

@@ -1,5 +1,5 @@
 use Rattle.std.proofs.Common.{refl}
-use Rattle.rules_hash.specs.Blake2b.{round}
+use Rattle.rules_text.specs.hash.Blake2b.{round}
 use Rattle.mich_blake.proofs.compression.round.Goals as goal
 
 pub returns : goal.returns

@@ -1,5 +1,5 @@
 use Rattle.std.proofs.Common.{◌≡◌, ◌+◌, ◌*◌, ◌-◌, arith, refl}
-use Rattle.rules_hash.specs.Blake2b.{hash_after}
+use Rattle.rules_text.specs.hash.Blake2b.{hash_after}
 use Rattle.mich_blake.proofs.Feeding.{next_block}
 use Rattle.mich_blake.proofs.hashers.take_blocks.Goals as goal
 

@@ -1,6 +1,6 @@
 use Rattle.std.proofs.Common.{◌≡◌, ◌++◌}
 use Rattle.std.specs.Vec.Iter.{into_iter_items}
-use Rattle.rules_values.specs.Literals.{claims}
+use Rattle.rules_data.specs.values.Literals.{claims}
 use Rattle.mich_data.specs.View.{all_pending}
 use Rattle.mich_check.proofs.literals.claims_of.Given as goal
 

@@ -1,7 +1,7 @@
 use Rattle.std.proofs.Common.{rules}
-use Rattle.rules_base.specs.Tree.{prim}
-use Rattle.rules_typing.specs.Typing.{shift}
-use Rattle.rules_typing.specs.Nodes.{tree_type}
+use Rattle.rules_text.specs.nodes.Tree.{prim}
+use Rattle.rules_code.specs.typing.Typing.{shift}
+use Rattle.rules_code.specs.typing.Nodes.{tree_type}
 use Rattle.mich_base.specs.View.{trees}
 use Rattle.mich_overload.specs.View.{kinds}
 use Rattle.mich_control.specs.View.{context}

@@ -1,5 +1,5 @@
 use Rattle.std.proofs.Common.{sym, ap, ◌∙◌, subst, rules}
-use Rattle.rules_values.specs.Literals.{read}
+use Rattle.rules_data.specs.values.Literals.{read}
 use Rattle.mich_base.specs.View.{tree}
 use Rattle.mich_base.specs.TypeView.{kind}
 use Rattle.mich_data.specs.Answers.{IsFault}

@@ -1,5 +1,5 @@
 use Rattle.std.proofs.Common.{◌≡◌, drop}
-use Rattle.rules_gas.specs.Tables.{are_rows, is_table}
+use Rattle.rules_data.specs.gas.Tables.{are_rows, is_table}
 use Rattle.mich_base.specs.View.{tree, trees}
 use Rattle.mich_gas.proofs.costs.is_table.Given as goal
 

@@ -1,7 +1,7 @@
 use Rattle.std.proofs.Common.{◌≡◌, ◌+◌, drop}
 use Rattle.std.specs.Prelude.{IsTrue}
-use Rattle.rules_base.specs.Tree.{size, sizes}
-use Rattle.rules_gas.specs.Tables.{are_rows, rows_over, table_of}
+use Rattle.rules_text.specs.nodes.Tree.{size, sizes}
+use Rattle.rules_data.specs.gas.Tables.{are_rows, rows_over, table_of}
 use Rattle.mich_base.specs.View.{tree, trees}
 use Rattle.mich_gas.specs.View.{listed}
 use Rattle.mich_gas.proofs.costs.read_costs.Given as goal

@@ -1,4 +1,4 @@
-use Rattle.rules_gas.specs.Kinds.{kind_named, kinds_by_name}
+use Rattle.rules_data.specs.gas.Kinds.{kind_named, kinds_by_name}
 use Rattle.mich_gas.proofs.names.kind_of_name.Goals as goal
 
 pub returns : goal.returns

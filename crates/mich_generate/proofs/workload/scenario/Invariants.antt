@@ -1,5 +1,5 @@
 use Rattle.std.proofs.Common.{◌≡◌, ◌++◌, ◌-◌}
-use Rattle.rules_generate.specs.Workload.{calls, scenario}
+use Rattle.rules_files.specs.workload.Workload.{calls, scenario}
 use Rattle.mich_generate.proofs.workload.scenario.Given as goal
 
 abbrev pub invariant-loop : goal.invariant-loop

@@ -1,9 +1,9 @@
 use Rattle.std.proofs.Common.{Ok, ◌≡◌, ◌≤◌, ◌-◌, ◌+◌, ◌∷◌, [], ℕ, suc, List, length, map, drop, refl, sym, ap, ◌∙◌, subst, arith, add-one}
 use Rattle.std.proofs.lemmas.List.{length-map, length-drop, drop_all}
-use Rattle.rules_world.specs.Contents.{Content}
-use Rattle.rules_world.specs.Groups.{setting_of, in_turn}
-use Rattle.rules_world.specs.Outcomes.{ordered}
-use Rattle.rules_world.specs.World.{World as PlainWorld}
+use Rattle.rules_world.specs.world.Contents.{Content}
+use Rattle.rules_world.specs.world.Groups.{setting_of, in_turn}
+use Rattle.rules_world.specs.world.Outcomes.{ordered}
+use Rattle.rules_world.specs.world.World.{World as PlainWorld}
 use Rattle.mich_base.specs.declared.memory.Memory.{Memory}
 use Rattle.mich_gas.specs.View.{listed}
 use Rattle.mich_machine.specs.Calls.{counts_of, IsHosting}

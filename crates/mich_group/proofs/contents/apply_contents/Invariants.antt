@@ -1,8 +1,8 @@
 use Rattle.std.proofs.Common.{◌≡◌, [], map, drop, false}
 use Rattle.std.specs.List.{All, list_any}
-use Rattle.rules_world.specs.Forms.{IsContent}
-use Rattle.rules_world.specs.Groups.{setting_of, in_turn, is_over_gas}
-use Rattle.rules_world.specs.World.{World as PlainWorld}
+use Rattle.rules_world.specs.world.Forms.{IsContent}
+use Rattle.rules_world.specs.world.Groups.{setting_of, in_turn, is_over_gas}
+use Rattle.rules_world.specs.world.World.{World as PlainWorld}
 use Rattle.mich_gas.specs.View.{listed}
 use Rattle.mich_machine.specs.Calls.{counts_of, IsHosting}
 use Rattle.mich_ops.specs.View.{content}

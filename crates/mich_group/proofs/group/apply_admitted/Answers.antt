@@ -1,6 +1,6 @@
 use Rattle.std.proofs.Common.{[], List, map, sym, subst, Ok}
-use Rattle.rules_world.specs.Groups.{in_turn, setting_of}
-use Rattle.rules_world.specs.Outcomes.{no_counts}
+use Rattle.rules_world.specs.world.Groups.{in_turn, setting_of}
+use Rattle.rules_world.specs.world.Outcomes.{no_counts}
 use Rattle.mich_base.specs.declared.memory.Memory.{Memory}
 use Rattle.mich_gas.specs.View.{listed}
 use Rattle.mich_ops.specs.View.{content, contents as contents_of}

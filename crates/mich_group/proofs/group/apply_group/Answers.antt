@@ -1,4 +1,4 @@
-use Rattle.rules_world.specs.Groups.{fees_taken}
+use Rattle.rules_world.specs.world.Groups.{fees_taken}
 use Rattle.mich_gas.specs.View.{listed}
 use Rattle.mich_ops.specs.View.{contents as contents_of}
 use Rattle.mich_world.proofs.ForCallers.{world_same}

@@ -1,6 +1,6 @@
 use Rattle.std.proofs.Common.{◌≡◌, ◌<◌, ◌≤◌, List, map, true, false, sym, ap, ◌∙◌, arith}
 use Rattle.std.specs.List.{list_any}
-use Rattle.rules_world.specs.Groups.{all_fees, is_over_gas}
+use Rattle.rules_world.specs.world.Groups.{all_fees, is_over_gas}
 use Rattle.mich_ops.specs.View.{content as content_of, contents as contents_of}
 use Rattle.mich_ops.specs.declared.group.Content.{Content}
 use Rattle.mich_group.proofs.Fees.{too_high, too_poor, not_refused}

@@ -1,5 +1,5 @@
 use Rattle.std.proofs.Common.{◌≡◌, ◌≤◌, ◌*◌, ◌^◌, map, take}
-use Rattle.rules_world.specs.Groups.{all_fees}
+use Rattle.rules_world.specs.world.Groups.{all_fees}
 use Rattle.mich_ops.specs.View.{content}
 use Rattle.mich_group.proofs.refusal.all_fees.Given as goal
 

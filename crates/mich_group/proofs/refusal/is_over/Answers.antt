@@ -1,7 +1,7 @@
 use Rattle.std.proofs.Common.{◌<◌, length, arith, pos, sym, ◌∙◌}
 use Rattle.std.specs.Prelude.{◌<ℤ◌}
 use Rattle.std.proofs.lemmas.Int.{ints}
-use Rattle.rules_base.specs.Limits.{most_gas}
+use Rattle.rules_text.specs.nodes.Limits.{most_gas}
 use Rattle.mich_group.proofs.Turns.{over_here, under_here}
 use Rattle.mich_group.proofs.refusal.is_over.Goals as goal
 

@@ -1,6 +1,6 @@
 use Rattle.std.proofs.Common.{◌≡◌, map, drop}
 use Rattle.std.specs.List.{list_any}
-use Rattle.rules_world.specs.Groups.{is_over_gas}
+use Rattle.rules_world.specs.world.Groups.{is_over_gas}
 use Rattle.mich_ops.specs.View.{content}
 use Rattle.mich_group.proofs.refusal.is_over.Given as goal
 

@@ -1,8 +1,8 @@
 use Rattle.std.proofs.Common.{◌∷◌, ◌++◌, [], List, map, refl, ap, ◌∙◌}
 use Rattle.std.specs.Prelude.{reverse}
 use Rattle.std.proofs.lemmas.Result.{err_from_is_err_and}
-use Rattle.rules_world.specs.Groups.{setting_of}
-use Rattle.rules_world.specs.Outcomes.{ordered}
+use Rattle.rules_world.specs.world.Groups.{setting_of}
+use Rattle.rules_world.specs.world.Outcomes.{ordered}
 use Rattle.mich_gas.specs.View.{listed}
 use Rattle.mich_machine.specs.Calls.{counts_of}
 use Rattle.mich_ops.specs.View.{action as action_of}

@@ -1,6 +1,6 @@
 use Rattle.std.proofs.Common.{ap, sym, ◌∙◌, subst}
 use Rattle.std.proofs.lemmas.Result.{err_from_is_err_and}
-use Rattle.rules_world.specs.Groups.{setting_of}
+use Rattle.rules_world.specs.world.Groups.{setting_of}
 use Rattle.mich_gas.specs.View.{listed}
 use Rattle.mich_machine.specs.Calls.{counts_of}
 use Rattle.mich_world.proofs.ForCallers.{world_same}

@@ -1,7 +1,7 @@
 use Rattle.std.proofs.Common.{◌∷◌, ◌<◌, ◌-◌, ℕ, [], Err, arith, map, subst, sym}
-use Rattle.rules_world.specs.Groups.{setting_of}
-use Rattle.rules_world.specs.Outcomes.{ordered}
-use Rattle.rules_world.specs.Trees.{tree, tree_within}
+use Rattle.rules_world.specs.world.Groups.{setting_of}
+use Rattle.rules_world.specs.world.Outcomes.{ordered}
+use Rattle.rules_world.specs.world.Trees.{tree, tree_within}
 use Rattle.mich_gas.specs.View.{listed}
 use Rattle.mich_machine.specs.Calls.{counts_of}
 use Rattle.mich_operations.specs.declared.applied.ApplyError.{ApplyError}

@@ -1,9 +1,9 @@
 use Rattle.std.proofs.Common.{◌≡◌, ◌∙◌, ◌<◌, ◌-◌, ℕ, Bool, List, [], Ok, Err, true, ap, map, refl, sym, subst, arith}
-use Rattle.rules_world.specs.Groups.{setting_of}
-use Rattle.rules_world.specs.Outcomes.{Setting}
-use Rattle.rules_world.specs.Trees.{Walk, broken_off, tree_within}
-use Rattle.rules_world.specs.World.{World as PlainWorld}
-use Rattle.rules_steps.specs.Failure.{out_of_gas}
+use Rattle.rules_world.specs.world.Groups.{setting_of}
+use Rattle.rules_world.specs.world.Outcomes.{Setting}
+use Rattle.rules_world.specs.world.Trees.{Walk, broken_off, tree_within}
+use Rattle.rules_world.specs.world.World.{World as PlainWorld}
+use Rattle.rules_code.specs.steps.Failure.{out_of_gas}
 use Rattle.mich_base.specs.Counted.{IsNotEmpty}
 use Rattle.mich_ops.specs.declared.failure.Failure.TheVariants as failures
 use Rattle.mich_group.specs.declared.waiting.Sent.{Sent}

@@ -1,7 +1,7 @@
 use Rattle.std.proofs.Common.{◌≡◌, ◌-◌, ℕ, map}
-use Rattle.rules_world.specs.Groups.{setting_of}
-use Rattle.rules_world.specs.Trees.{tree_within}
-use Rattle.rules_world.specs.World.{World as PlainWorld}
+use Rattle.rules_world.specs.world.Groups.{setting_of}
+use Rattle.rules_world.specs.world.Trees.{tree_within}
+use Rattle.rules_world.specs.world.World.{World as PlainWorld}
 use Rattle.mich_gas.specs.View.{listed}
 use Rattle.mich_machine.specs.Calls.{counts_of, IsHosting}
 use Rattle.mich_ops.specs.View.{effect}

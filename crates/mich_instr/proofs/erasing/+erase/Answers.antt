@@ -1,5 +1,5 @@
 use Rattle.std.proofs.Common.{ap, ◌∙◌}
-use Rattle.rules_base.specs.Tree.{seq}
+use Rattle.rules_text.specs.nodes.Tree.{seq}
 use Rattle.mich_instr.proofs.ErasedCode.{all_plain}
 use Rattle.mich_instr.proofs.Shown.{erased_done}
 use Rattle.mich_instr.proofs.erasing.+erase.Goals as goal

@@ -1,5 +1,5 @@
 use Rattle.std.proofs.Common.{[], ◌∷◌, ◌++◌, ap, ◌∙◌}
-use Rattle.rules_types.specs.Printing.{named}
+use Rattle.rules_data.specs.types.Printing.{named}
 use Rattle.mich_instr.proofs.Shown.{last_is}
 use Rattle.mich_instr.proofs.erasing.over_last.Goals as goal
 

@@ -1,12 +1,12 @@
 use Rattle.std.proofs.Common.{◌≡◌, ◌≤◌, ◌<◌, false, refl, sym, ap, ◌∙◌, subst}
 use Rattle.std.proofs.lemmas.Bool.{leb-true, leb-false}
-use Rattle.rules_base.specs.Limits.{applied_size, applied_depth}
-use Rattle.rules_base.specs.Tree.{Tree, size}
-use Rattle.rules_base.specs.Tree.{depth as levels}
-use Rattle.rules_gas.specs.declared.Kind.TheVariants as g
-use Rattle.rules_values.specs.Val.{Val}
-use Rattle.rules_values.specs.Weight.{weight}
-use Rattle.rules_evaluation.specs.Calls.{applied}
+use Rattle.rules_text.specs.nodes.Limits.{applied_size, applied_depth}
+use Rattle.rules_text.specs.nodes.Tree.{Tree, size}
+use Rattle.rules_text.specs.nodes.Tree.{depth as levels}
+use Rattle.rules_data.specs.declared.gas.Kind.TheVariants as g
+use Rattle.rules_data.specs.values.Val.{Val}
+use Rattle.rules_data.specs.values.Weight.{weight}
+use Rattle.rules_code.specs.evaluation.Calls.{applied}
 use Rattle.mich_base.specs.TypeView.{kind}
 use Rattle.mich_base.specs.View.{tree}
 use Rattle.mich_base.specs.declared.node.Node.{Node}
@@ -14,7 +14,7 @@ use Rattle.mich_gas.specs.View.{listed}
 use Rattle.mich_term.specs.ValueView.{val}
 use Rattle.mich_stack.specs.Views.{seen}
 use Rattle.mich_frames.proofs.ForCallers.{apply_top}
-use Rattle.mich_prices.proofs.ForCallers.{found_weighs}
+use Rattle.mich_step.proofs.prices_lemmas.ForCallers.{found_weighs}
 use Rattle.mich_interpreter.specs.View.{tops}
 use Rattle.mich_interpreter.proofs.Executed.{call_top, call_below}
 use Rattle.mich_interpreter.proofs.Captured.{captured_seen, apply_any_broke, apply_any_acts, apply_any_large, apply_any_deep}

@@ -1,17 +1,17 @@
 use Rattle.std.proofs.Common.{◌≡◌, List, refl, sym, ap, subst, ◌∙◌}
-use Rattle.rules_instructions.specs.Straight.{on_collections}
-use Rattle.rules_values.specs.Tickets.{tickets}
-use Rattle.rules_steps.specs.Changes.{burns}
-use Rattle.rules_steps.specs.Collections.{collection_step}
-use Rattle.rules_steps.specs.Costs.{collection_weight}
-use Rattle.rules_steps.specs.Step.{done}
+use Rattle.rules_code.specs.instructions.Straight.{on_collections}
+use Rattle.rules_data.specs.values.Tickets.{tickets}
+use Rattle.rules_code.specs.steps.Changes.{burns}
+use Rattle.rules_code.specs.steps.Collections.{collection_step}
+use Rattle.rules_code.specs.steps.Costs.{collection_weight}
+use Rattle.rules_code.specs.steps.Step.{done}
 use Rattle.mich_overload.specs.View.{collection_row}
 use Rattle.mich_stack.specs.Views.{Sight, seen, values}
 use Rattle.mich_step.specs.Shown.{ShowsTickets}
 use Rattle.mich_term.specs.Weights.{capped}
 use Rattle.mich_term.specs.declared.value.Value.{Value}
-use Rattle.laws_sights.specs.Sights.{sight}
-use Rattle.mich_entries.specs.Operands.{HasBigMap}
+use Rattle.mich_store_steps.specs.seen.Sights.{sight}
+use Rattle.mich_store_steps.specs.big_maps.Operands.{HasBigMap}
 use Rattle.mich_world.specs.World.{World}
 use Rattle.mich_bigmap.specs.Stored.{Stored}
 use Rattle.mich_interpreter.specs.Sees.{Sees}

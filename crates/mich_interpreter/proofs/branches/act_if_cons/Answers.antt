@@ -1,5 +1,5 @@
 use Rattle.std.proofs.Common.{◌∙◌}
-use Rattle.rules_gas.specs.declared.Kind.TheVariants as g
+use Rattle.rules_data.specs.declared.gas.Kind.TheVariants as g
 use Rattle.mich_gas.specs.View.{listed}
 use Rattle.mich_frames.proofs.ForCallers.{if_cons_top}
 use Rattle.mich_interpreter.proofs.Any.{list_broke, cons_opens, empty_opens}

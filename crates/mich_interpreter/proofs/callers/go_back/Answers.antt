@@ -1,5 +1,5 @@
 use Rattle.std.proofs.Common.{◌∷◌, ◌∙◌, ap, refl}
-use Rattle.rules_values.specs.Val.{some}
+use Rattle.rules_data.specs.values.Val.{some}
 use Rattle.mich_stack.specs.Views.{seen}
 use Rattle.mich_term.specs.declared.value.Value.{Value}
 use Rattle.mich_interpreter.specs.View.{tops}

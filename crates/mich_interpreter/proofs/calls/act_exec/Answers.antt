@@ -1,4 +1,4 @@
-use Rattle.rules_gas.specs.declared.Kind.TheVariants as g
+use Rattle.rules_data.specs.declared.gas.Kind.TheVariants as g
 use Rattle.mich_base.specs.View.{tree}
 use Rattle.mich_gas.specs.View.{listed}
 use Rattle.mich_stack.specs.Views.{seen}

@@ -1,8 +1,8 @@
 use Rattle.std.proofs.Common.{◌≡◌, subst}
-use Rattle.rules_steps.specs.Failure as f
-use Rattle.rules_evaluation.specs.Outcome.{failed}
+use Rattle.rules_code.specs.steps.Failure as f
+use Rattle.rules_code.specs.evaluation.Outcome.{failed}
 use Rattle.mich_base.specs.TypeView.{kind}
-use Rattle.rules_values.specs.Val.{Val}
+use Rattle.rules_data.specs.values.Val.{Val}
 use Rattle.mich_frames.proofs.ForCallers.{fail_top, fail_acts}
 use Rattle.mich_interpreter.proofs.Any.{fail_any_broke}
 use Rattle.mich_interpreter.proofs.Failing.{fail_seen}

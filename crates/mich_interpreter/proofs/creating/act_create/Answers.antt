@@ -1,9 +1,9 @@
 use Rattle.std.proofs.Common.{◌≡◌, ◌+◌, ◌≤◌, suc, List, drop, refl, ◌∙◌, subst, arith}
 use Rattle.std.specs.Prelude.{pos}
-use Rattle.rules_gas.specs.declared.Kind.TheVariants as g
-use Rattle.rules_base.specs.Limits.{most_contents}
-use Rattle.rules_values.specs.Val.{Val, number}
-use Rattle.rules_evaluation.specs.Operations.{origination, new_contract}
+use Rattle.rules_data.specs.declared.gas.Kind.TheVariants as g
+use Rattle.rules_text.specs.nodes.Limits.{most_contents}
+use Rattle.rules_data.specs.values.Val.{Val, number}
+use Rattle.rules_code.specs.evaluation.Operations.{origination, new_contract}
 use Rattle.mich_gas.specs.View.{listed}
 use Rattle.mich_instr.specs.View.{script_code, script_node}
 use Rattle.mich_instr.specs.declared.issued.Issued.TheVariants as i

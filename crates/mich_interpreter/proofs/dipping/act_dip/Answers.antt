@@ -1,4 +1,4 @@
-use Rattle.rules_gas.specs.declared.Kind.TheVariants as g
+use Rattle.rules_data.specs.declared.gas.Kind.TheVariants as g
 use Rattle.mich_gas.specs.View.{listed}
 use Rattle.mich_frames.proofs.ForCallers.{dip_top, dip_opens, dip_broke}
 use Rattle.mich_interpreter.proofs.Listed.{length_tops}

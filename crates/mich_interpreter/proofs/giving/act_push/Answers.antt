@@ -1,13 +1,13 @@
 use Rattle.std.proofs.Common.{◌+◌, refl, ◌∙◌}
-use Rattle.rules_base.specs.Tree.{size}
-use Rattle.rules_gas.specs.declared.Kind.TheVariants as g
-use Rattle.rules_values.specs.Weight.{weight}
+use Rattle.rules_text.specs.nodes.Tree.{size}
+use Rattle.rules_data.specs.declared.gas.Kind.TheVariants as g
+use Rattle.rules_data.specs.values.Weight.{weight}
 use Rattle.mich_base.specs.TypeView.{kind}
 use Rattle.mich_base.specs.View.{tree}
 use Rattle.mich_gas.specs.View.{listed}
 use Rattle.mich_stack.specs.Views.{seen}
 use Rattle.mich_frames.proofs.ForCallers.{push_pushable, push_acts, push_broke}
-use Rattle.mich_prices.proofs.ForCallers.{found_weighs}
+use Rattle.mich_step.proofs.prices_lemmas.ForCallers.{found_weighs}
 use Rattle.mich_interpreter.proofs.Capped.{paid_is, broke_is}
 use Rattle.mich_interpreter.proofs.Spelled.{push_small, push_literal}
 use Rattle.mich_interpreter.proofs.Paid.{stands_paid, paid_less}

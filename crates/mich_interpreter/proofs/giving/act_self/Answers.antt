@@ -1,4 +1,4 @@
-use Rattle.rules_gas.specs.declared.Kind.TheVariants as g
+use Rattle.rules_data.specs.declared.gas.Kind.TheVariants as g
 use Rattle.mich_gas.specs.View.{listed}
 use Rattle.mich_frames.proofs.ForCallers.{self_acts, self_broke}
 use Rattle.mich_interpreter.proofs.Paid.{stands_paid, paid_less}

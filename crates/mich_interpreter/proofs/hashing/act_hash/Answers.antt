@@ -1,7 +1,7 @@
 use Rattle.std.proofs.Common.{Err, refl, subst}
-use Rattle.rules_evaluation.specs.Trying.{trial}
-use Rattle.rules_instructions.specs.Straight.{on_hashes}
-use Rattle.rules_steps.specs.Packing.{hash_step}
+use Rattle.rules_code.specs.evaluation.Trying.{trial}
+use Rattle.rules_code.specs.instructions.Straight.{on_hashes}
+use Rattle.rules_code.specs.steps.Packing.{hash_step}
 use Rattle.mich_overload.specs.View.{hash_row}
 use Rattle.mich_stack.specs.Ends.{IsKept}
 use Rattle.mich_stack.specs.Views.{values}

@@ -1,5 +1,5 @@
-use Rattle.rules_gas.specs.declared.Kind.TheVariants as g
-use Rattle.rules_instructions.specs.Straight as i
+use Rattle.rules_data.specs.declared.gas.Kind.TheVariants as g
+use Rattle.rules_code.specs.instructions.Straight as i
 use Rattle.mich_base.specs.TypeView.{kind}
 use Rattle.mich_forms.specs.Spelled.{address_bytes}
 use Rattle.mich_gas.specs.View.{listed}

@@ -1,5 +1,5 @@
-use Rattle.rules_gas.specs.declared.Kind.TheVariants as g
-use Rattle.rules_evaluation.specs.Operations.{event}
+use Rattle.rules_data.specs.declared.gas.Kind.TheVariants as g
+use Rattle.rules_code.specs.evaluation.Operations.{event}
 use Rattle.mich_base.specs.TypeView.{kind}
 use Rattle.mich_gas.specs.View.{listed}
 use Rattle.mich_instr.specs.declared.issued.Issued.TheVariants as i

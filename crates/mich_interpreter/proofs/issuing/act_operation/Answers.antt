@@ -1,6 +1,6 @@
 use Rattle.std.proofs.Common.{subst}
-use Rattle.rules_base.specs.Tree.{Tree}
-use Rattle.rules_instructions.specs.Straight.{on_operations}
+use Rattle.rules_text.specs.nodes.Tree.{Tree}
+use Rattle.rules_code.specs.instructions.Straight.{on_operations}
 use Rattle.mich_instr.specs.Code as made
 use Rattle.mich_overload.specs.View.{operation_row}
 use Rattle.mich_overload.specs.declared.simple.OperationRow.{OperationRow}

@@ -1,10 +1,10 @@
 use Rattle.std.proofs.Common.{List, drop, subst}
-use Rattle.rules_values.specs.Val.{Val}
+use Rattle.rules_data.specs.values.Val.{Val}
 use Rattle.mich_interpreter.specs.Parts.{HasAddress, HasAmount}
 use Rattle.mich_interpreter.proofs.Spelled.{transfer_takes}
-use Rattle.rules_gas.specs.declared.Kind.TheVariants as g
+use Rattle.rules_data.specs.declared.gas.Kind.TheVariants as g
 use Rattle.mich_gas.specs.View.{listed}
-use Rattle.rules_evaluation.specs.Operations.{transfer}
+use Rattle.rules_code.specs.evaluation.Operations.{transfer}
 use Rattle.mich_forms.specs.Spelled.{address_bytes}
 use Rattle.mich_instr.specs.declared.issued.Issued.TheVariants as i
 use Rattle.mich_stack.specs.Views.{seen}

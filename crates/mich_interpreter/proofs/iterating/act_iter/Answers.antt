@@ -1,4 +1,4 @@
-use Rattle.rules_gas.specs.declared.Kind.TheVariants as g
+use Rattle.rules_data.specs.declared.gas.Kind.TheVariants as g
 use Rattle.mich_gas.specs.View.{listed}
 use Rattle.mich_frames.proofs.ForCallers.{iter_top, iter_acts}
 use Rattle.mich_interpreter.proofs.Any.{iter_any_broke, items_top, items_alone}

@@ -1,7 +1,7 @@
 use Rattle.std.proofs.Common.{rules, ◌≡◌, true, false, sym, ◌∙◌}
-use Rattle.rules_forms.specs.Spelling.{implicit_place, is_entrypoint, is_key_hash}
+use Rattle.rules_data.specs.forms.Spelling.{implicit_place, is_entrypoint, is_key_hash}
 use Rattle.mich_base.specs.TypeView.{kind}
-use Rattle.mich_arguments.proofs.ForCallers.{account_place}
+use Rattle.mich_literals.proofs.arguments_lemmas.ForCallers.{account_place}
 use Rattle.mich_interpreter.proofs.Looked.{named_so, unnamed_by}
 use Rattle.mich_interpreter.proofs.lookups.account_entrypoint.Goals as goal
 

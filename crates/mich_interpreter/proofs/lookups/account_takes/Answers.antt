@@ -1,9 +1,9 @@
 use Rattle.std.proofs.Common.{rules, ◌≡◌, Bool, true, sym, ap, ◌∙◌}
 use Rattle.std.specs.Prelude.{◌&&◌}
-use Rattle.rules_forms.specs.Spelling.{is_key_hash}
-use Rattle.rules_evaluation.specs.Contracts.{is_taken_by_account}
+use Rattle.rules_data.specs.forms.Spelling.{is_key_hash}
+use Rattle.rules_code.specs.evaluation.Contracts.{is_taken_by_account}
 use Rattle.mich_base.specs.TypeView.{kind}
-use Rattle.mich_arguments.proofs.ForCallers.{account_takes, default_so, other_so}
+use Rattle.mich_literals.proofs.arguments_lemmas.ForCallers.{account_takes, default_so, other_so}
 use Rattle.mich_interpreter.proofs.lookups.account_takes.Goals as goal
 
 pub returns-then-is_default : goal.returns-then-is_default

@@ -1,7 +1,7 @@
 use Rattle.std.proofs.Common.{rules, ◌≡◌, true, false, length, sym, ◌∙◌, arith}
-use Rattle.rules_forms.specs.Spelling.{contract_place, is_entrypoint}
+use Rattle.rules_data.specs.forms.Spelling.{contract_place, is_entrypoint}
 use Rattle.mich_base.specs.TypeView.{kind}
-use Rattle.mich_arguments.proofs.ForCallers.{contract_place_is}
+use Rattle.mich_literals.proofs.arguments_lemmas.ForCallers.{contract_place_is}
 use Rattle.mich_interpreter.proofs.Looked.{named_so, unnamed_by}
 use Rattle.mich_interpreter.proofs.lookups.contract_entrypoint.Goals as goal
 

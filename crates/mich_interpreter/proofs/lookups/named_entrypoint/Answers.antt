@@ -1,7 +1,7 @@
 use Rattle.std.proofs.Common.{◌≡◌, sym, subst}
 use Rattle.std.specs.Prelude.{option_map}
-use Rattle.rules_evaluation.specs.Contracts.{contract_of}
-use Rattle.rules_forms.specs.Spelling.{spelled_address}
+use Rattle.rules_code.specs.evaluation.Contracts.{contract_of}
+use Rattle.rules_data.specs.forms.Spelling.{spelled_address}
 use Rattle.mich_base.specs.TypeView.{kind}
 use Rattle.mich_forms.specs.Spelled.{place_bytes}
 use Rattle.mich_forms.specs.declared.places.Place.{Place}

@@ -1,6 +1,6 @@
 use Rattle.std.proofs.Common.{◌≡◌, List}
-use Rattle.rules_types.specs.Kind.{Kind}
-use Rattle.rules_evaluation.specs.Outcome.{Outcome}
+use Rattle.rules_data.specs.types.Kind.{Kind}
+use Rattle.rules_code.specs.evaluation.Outcome.{Outcome}
 use Rattle.mich_frames.specs.Frames.{Frame}
 use Rattle.mich_interpreter.specs.View.{Beyond}
 use Rattle.mich_interpreter.specs.Ends.{KeepsState}

@@ -1,5 +1,5 @@
 use Rattle.std.proofs.Common.{refl}
-use Rattle.rules_gas.specs.declared.Kind.TheVariants as g
+use Rattle.rules_data.specs.declared.gas.Kind.TheVariants as g
 use Rattle.mich_gas.specs.View.{listed}
 use Rattle.mich_interpreter.specs.Made.{list_with}
 use Rattle.mich_interpreter.proofs.Paid.{opens_paid, paid_less}

@@ -1,6 +1,6 @@
 use Rattle.std.proofs.Common.{◌≡◌, Bool, true, false, refl, ap, sym, subst, ◌∙◌}
 use Rattle.std.specs.Prelude.{not}
-use Rattle.rules_base.specs.Tree.{Tree}
+use Rattle.rules_text.specs.nodes.Tree.{Tree}
 use Rattle.mich_instr.specs.Code as made
 use Rattle.mich_overload.specs.Steps.{in_step, is_on_big_map}
 use Rattle.mich_overload.specs.View.{straight, collection_row}

@@ -1,8 +1,8 @@
 use Rattle.std.proofs.Common.{ℕ, true, false, List, ap, ◌∙◌, subst}
-use Rattle.rules_gas.specs.declared.Kind.TheVariants as g
-use Rattle.rules_steps.specs.Packing.{unpacked}
-use Rattle.rules_steps.specs.Step.{optional}
-use Rattle.rules_evaluation.specs.Trying.{trial}
+use Rattle.rules_data.specs.declared.gas.Kind.TheVariants as g
+use Rattle.rules_code.specs.steps.Packing.{unpacked}
+use Rattle.rules_code.specs.steps.Step.{optional}
+use Rattle.rules_code.specs.evaluation.Trying.{trial}
 use Rattle.mich_base.specs.TypeView.{kind}
 use Rattle.mich_gas.specs.View.{listed}
 use Rattle.mich_stack.specs.Views.{seen}

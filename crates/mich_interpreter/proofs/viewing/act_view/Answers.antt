@@ -1,10 +1,10 @@
 use Rattle.std.proofs.Common.{List, ◌∷◌, ◌∙◌, drop, Option, ap, refl, subst}
-use Rattle.rules_evaluation.specs.Contracts.{viewed}
+use Rattle.rules_code.specs.evaluation.Contracts.{viewed}
 use Rattle.mich_interpreter.specs.Visits.{IsVisit}
 use Rattle.mich_interpreter.specs.declared.visits.Visit.{Visit}
 use Rattle.mich_interpreter.proofs.Keeping.{past_of, same_keeps}
-use Rattle.rules_gas.specs.declared.Kind.TheVariants as g
-use Rattle.rules_values.specs.Val.{Val}
+use Rattle.rules_data.specs.declared.gas.Kind.TheVariants as g
+use Rattle.rules_data.specs.values.Val.{Val}
 use Rattle.mich_base.specs.TypeView.{kind}
 use Rattle.mich_forms.specs.Spelled.{address_bytes}
 use Rattle.mich_frames.proofs.ForCallers.{viewing_top, row_broke}

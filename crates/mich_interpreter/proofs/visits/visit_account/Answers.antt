@@ -1,5 +1,5 @@
 use Rattle.std.proofs.Common.{rules, ◌≡◌, true}
-use Rattle.rules_forms.specs.Spelling.{is_key_hash}
+use Rattle.rules_data.specs.forms.Spelling.{is_key_hash}
 use Rattle.mich_base.specs.TypeView.{kind}
 use Rattle.mich_interpreter.proofs.Visited.{account_views}
 use Rattle.mich_interpreter.proofs.visits.visit_account.Goals as goal

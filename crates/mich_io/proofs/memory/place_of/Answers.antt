@@ -3,7 +3,7 @@ use Rattle.std.specs.Option.{option_map}
 use Rattle.std.specs.Str.{bytes_eq}
 use Rattle.std.proofs.lemmas.List.{at_drop_more}
 use Rattle.std.proofs.lemmas.Option.{slice_get_read}
-use Rattle.rules_io.specs.Known.{content_in}
+use Rattle.rules_text.specs.streams.Known.{content_in}
 use Rattle.mich_io.proofs.memory.place_of.Goals as goal
 
 -- what the files from one on hold, by whether that one is of the path

@@ -1,5 +1,5 @@
 use Rattle.std.proofs.Common.{◌≡◌, drop}
-use Rattle.rules_io.specs.Known.{content_in}
+use Rattle.rules_text.specs.streams.Known.{content_in}
 use Rattle.mich_io.proofs.memory.place_of.Given as goal
 
 -- the files so far aren't of that path

@@ -1,5 +1,5 @@
 use Rattle.std.proofs.Common.{◌≡◌, ◌≤◌, length, drop}
-use Rattle.rules_world.specs.Targets.{wrapped}
+use Rattle.rules_world.specs.world.Targets.{wrapped}
 use Rattle.mich_stack.specs.Views.{Sight, seen}
 use Rattle.mich_machine.proofs.beginning.wrap.Given as goal
 

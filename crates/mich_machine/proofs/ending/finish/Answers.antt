@@ -2,13 +2,13 @@
 use Rattle.std.proofs.Common.{List, [], refl, sym, subst}
 use Rattle.std.specs.declared.option.Option.{Option}
 use Rattle.std.specs.Map.{values_of}
-use Rattle.rules_steps.specs.Changes.{burns}
-use Rattle.laws_sights.specs.Sights.{sight}
+use Rattle.rules_code.specs.steps.Changes.{burns}
+use Rattle.mich_store_steps.specs.seen.Sights.{sight}
 use Rattle.mich_instr.specs.declared.issued.Issued.{Issued}
 use Rattle.mich_tickets.specs.Effects.{Tells}
 use Rattle.mich_tickets.specs.Limits.{IsReady}
 use Rattle.mich_world.proofs.ForCallers.{world_same, world_trans, ledger_lent}
-use Rattle.mich_undo.proofs.ForCallers.{keeps_same}
+use Rattle.mich_base.proofs.undo_lemmas.ForCallers.{keeps_same}
 use Rattle.mich_world.specs.Marks.{KeepsWorld}
 use Rattle.mich_world.specs.World.{World}
 use Rattle.mich_machine.specs.Calls.{IsHosting}

@@ -1,6 +1,6 @@
 use Rattle.std.proofs.Common.{◌≡◌, ℕ, List, map, Some}
 use Rattle.std.specs.Vec.Iter.{into_iter_items}
-use Rattle.rules_world.specs.Runs.{numbers_in}
+use Rattle.rules_world.specs.world.Runs.{numbers_in}
 use Rattle.mich_stack.specs.Views.{Sight, seen}
 use Rattle.mich_term.specs.View.{vals_of}
 use Rattle.mich_machine.specs.Returned.{picks}

@@ -1,5 +1,5 @@
 use Rattle.std.proofs.Common.{subst, ◌≡◌, true, false, Some, None, refl, sym, ap, ◌∙◌, is_some}
-use Rattle.mich_undo.specs.History.{Keeps as KeepsBooks}
+use Rattle.mich_base.specs.undo.History.{Keeps as KeepsBooks}
 use Rattle.mich_interpreter.specs.Ends.{KeepsPast, KeepsState}
 use Rattle.mich_interpreter.specs.Runs.{IsEnd, KeepsEnd}
 use Rattle.mich_interpreter.specs.declared.machine.Ended.{Ended}

@@ -1,9 +1,9 @@
 use Rattle.std.proofs.Common.{◌≡◌, Some, rules}
-use Rattle.rules_forms.specs.Spelling.{default_name}
-use Rattle.rules_types.specs.declared.Simple.TheVariants as simple
-use Rattle.rules_values.specs.Literals.{simple_value}
-use Rattle.rules_values.specs.Val.{unit}
-use Rattle.rules_world.specs.Arguments.{node}
+use Rattle.rules_data.specs.forms.Spelling.{default_name}
+use Rattle.rules_data.specs.declared.types.Simple.TheVariants as simple
+use Rattle.rules_data.specs.values.Literals.{simple_value}
+use Rattle.rules_data.specs.values.Val.{unit}
+use Rattle.rules_world.specs.world.Arguments.{node}
 use Rattle.mich_base.specs.View.{tree}
 use Rattle.mich_world.proofs.ForCallers.{world_same}
 use Rattle.mich_operations.proofs.Paying.{to_default}

@@ -1,5 +1,5 @@
 use Rattle.std.proofs.Common.{refl, ap, ◌∙◌}
-use Rattle.rules_values.specs.Canonical.{canonical}
+use Rattle.rules_data.specs.values.Canonical.{canonical}
 use Rattle.mich_bigmap.specs.Standing.{val_in}
 use Rattle.mich_bigmap.specs.Stored.{Stored}
 use Rattle.mich_forms.specs.declared.places.Place.TheVariants as place

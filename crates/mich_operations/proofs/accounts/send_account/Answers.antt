@@ -1,8 +1,8 @@
 use Rattle.std.proofs.Common.{◌≡◌, rules, ap, subst, ◌∙◌}
-use Rattle.rules_forms.specs.Spelling.{default_name}
-use Rattle.rules_values.specs.Canonical.{canonical}
-use Rattle.rules_values.specs.Val.{Val}
-use Rattle.rules_world.specs.Arguments.{value}
+use Rattle.rules_data.specs.forms.Spelling.{default_name}
+use Rattle.rules_data.specs.values.Canonical.{canonical}
+use Rattle.rules_data.specs.values.Val.{Val}
+use Rattle.rules_world.specs.world.Arguments.{value}
 use Rattle.mich_bigmap.specs.Standing.{val_in}
 use Rattle.mich_bigmap.specs.Stored.{Stored}
 use Rattle.mich_world.proofs.ForCallers.{world_same}

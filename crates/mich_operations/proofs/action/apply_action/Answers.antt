@@ -1,14 +1,14 @@
 use Rattle.std.proofs.Common.{rules, SFits, sym, subst}
 use Rattle.std.specs.Int.{w128}
 use Rattle.std.proofs.lemmas.Int.{to_z-of_z}
-use Rattle.rules_gas.specs.declared.Kind.TheVariants as price
-use Rattle.rules_typing.specs.Nodes.{script}
-use Rattle.rules_world.specs.Application.{apply_action}
-use Rattle.rules_world.specs.Contents.{Originate}
-use Rattle.rules_world.specs.Gives.{Offer, given, offered, with_offered}
-use Rattle.rules_world.specs.Groups.{setting_of}
-use Rattle.rules_world.specs.Originations.{with_script}
-use Rattle.rules_world.specs.Outcomes.{ordered}
+use Rattle.rules_data.specs.declared.gas.Kind.TheVariants as price
+use Rattle.rules_code.specs.typing.Nodes.{script}
+use Rattle.rules_world.specs.world.Application.{apply_action}
+use Rattle.rules_world.specs.world.Contents.{Originate}
+use Rattle.rules_world.specs.world.Gives.{Offer, given, offered, with_offered}
+use Rattle.rules_world.specs.world.Groups.{setting_of}
+use Rattle.rules_world.specs.world.Originations.{with_script}
+use Rattle.rules_world.specs.world.Outcomes.{ordered}
 use Rattle.mich_base.specs.View.{tree}
 use Rattle.mich_forms.specs.Spelled.{place_bytes}
 use Rattle.mich_gas.specs.View.{listed}

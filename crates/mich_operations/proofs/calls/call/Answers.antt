@@ -1,6 +1,6 @@
 use Rattle.std.proofs.Common.{Err}
-use Rattle.rules_world.specs.Arguments.{node}
-use Rattle.rules_world.specs.Groups.{setting_of}
+use Rattle.rules_world.specs.world.Arguments.{node}
+use Rattle.rules_world.specs.world.Groups.{setting_of}
 use Rattle.mich_base.specs.View.{tree}
 use Rattle.mich_gas.specs.View.{listed}
 use Rattle.mich_machine.specs.Calls.{counts_of}

@@ -2,9 +2,9 @@ use Rattle.std.proofs.Common.{◌≡◌, ℤ, Err, List, map, refl, rules, ap, �
 use Rattle.std.specs.Int.{w128}
 use Rattle.std.proofs.lemmas.Int.{to_z-of_z}
 use Rattle.std.proofs.lemmas.Result.{err_from_is_err_and}
-use Rattle.rules_forms.specs.Spelling.{default_name}
-use Rattle.rules_world.specs.Gives.{give_effect}
-use Rattle.rules_world.specs.Groups.{setting_of}
+use Rattle.rules_data.specs.forms.Spelling.{default_name}
+use Rattle.rules_world.specs.world.Gives.{give_effect}
+use Rattle.rules_world.specs.world.Groups.{setting_of}
 use Rattle.mich_forms.specs.declared.places.Place.TheVariants as place
 use Rattle.mich_ops.specs.View.{change}
 use Rattle.mich_term.specs.declared.ticket.Change.{Change}

@@ -2,7 +2,7 @@ use Rattle.std.proofs.Common.{ap, ◌∙◌, option_map}
 use Rattle.std.specs.Int.{w128}
 use Rattle.std.specs.declared.option.Option.{Option}
 use Rattle.std.proofs.lemmas.Int.{to_z-of_z}
-use Rattle.rules_world.specs.Groups.{setting_of}
+use Rattle.rules_world.specs.world.Groups.{setting_of}
 use Rattle.mich_base.specs.View.{tree}
 use Rattle.mich_forms.specs.Spelled.{place_bytes}
 use Rattle.mich_forms.specs.declared.places.Place.TheVariants as place

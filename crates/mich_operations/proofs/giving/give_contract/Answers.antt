@@ -2,7 +2,7 @@ use Rattle.std.proofs.Common.{Err, ℤ, ◌∙◌, subst}
 use Rattle.std.specs.Int.{w128}
 use Rattle.std.proofs.lemmas.Int.{to_z-of_z}
 use Rattle.std.proofs.lemmas.Result.{err_from_is_err_and}
-use Rattle.rules_world.specs.Holdings.{debited}
+use Rattle.rules_world.specs.world.Holdings.{debited}
 use Rattle.mich_bigmap.specs.Layers.{BasedLayer}
 use Rattle.mich_gas.specs.View.{listed}
 use Rattle.mich_machine.specs.Calls.{counts_of}

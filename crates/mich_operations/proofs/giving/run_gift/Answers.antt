@@ -1,8 +1,8 @@
 use Rattle.std.proofs.Common.{Err, refl, subst}
 use Rattle.std.specs.Int.{w128}
 use Rattle.std.proofs.lemmas.Int.{to_z-of_z}
-use Rattle.rules_world.specs.Gives.{give_effect}
-use Rattle.rules_world.specs.Groups.{setting_of}
+use Rattle.rules_world.specs.world.Gives.{give_effect}
+use Rattle.rules_world.specs.world.Groups.{setting_of}
 use Rattle.mich_bigmap.specs.Standing.{val_in}
 use Rattle.mich_forms.specs.declared.places.Place.TheVariants as place
 use Rattle.mich_gas.specs.View.{listed}

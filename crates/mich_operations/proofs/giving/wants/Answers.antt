@@ -1,7 +1,7 @@
 use Rattle.std.proofs.Common.{◌≡◌, Some, map, refl, sym, ap, ◌∙◌}
-use Rattle.rules_types.specs.Entrypoints.{find_entry}
-use Rattle.mich_arguments.specs.Arguments.{entries_in}
-use Rattle.mich_arguments.proofs.ForCallers.{nobody, nameless, target, target_met}
+use Rattle.rules_data.specs.types.Entrypoints.{find_entry}
+use Rattle.mich_literals.specs.arguments.Arguments.{entries_in}
+use Rattle.mich_literals.proofs.arguments_lemmas.ForCallers.{nobody, nameless, target, target_met}
 use Rattle.mich_instr.specs.declared.instr.Script.{Script, out-Script}
 use Rattle.mich_types.specs.Entered.{entry_of}
 use Rattle.mich_operations.proofs.giving.wants.Goals as goal

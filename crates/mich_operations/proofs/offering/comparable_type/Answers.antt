@@ -1,5 +1,5 @@
 use Rattle.std.proofs.Common.{◌≡◌, nat_le, false, rules, sym}
-use Rattle.rules_base.specs.Tree.{size}
+use Rattle.rules_text.specs.nodes.Tree.{size}
 use Rattle.mich_base.specs.View.{tree}
 use Rattle.mich_operations.proofs.Offers.{none_larger}
 use Rattle.mich_operations.proofs.offering.comparable_type.Goals as goal

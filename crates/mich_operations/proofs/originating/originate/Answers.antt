@@ -1,13 +1,13 @@
 use Rattle.std.proofs.Common.{◌≡◌, ℕ, List, false, is_some, refl, sym, ap, ◌∙◌, subst}
 use Rattle.std.proofs.lemmas.Result.{err_from_is_err_and}
-use Rattle.rules_base.specs.Tree.{Tree}
-use Rattle.rules_instructions.specs.Arguments.{found}
-use Rattle.rules_typing.specs.Nodes.{script}
-use Rattle.rules_values.specs.Tickets.{tickets}
-use Rattle.rules_world.specs.Groups.{setting_of}
+use Rattle.rules_text.specs.nodes.Tree.{Tree}
+use Rattle.rules_code.specs.instructions.Arguments.{found}
+use Rattle.rules_code.specs.typing.Nodes.{script}
+use Rattle.rules_data.specs.values.Tickets.{tickets}
+use Rattle.rules_world.specs.world.Groups.{setting_of}
 use Rattle.mich_base.specs.TypeView.{kind}
 use Rattle.mich_base.specs.View.{tree}
-use Rattle.mich_arguments.proofs.ForCallers.{storage_read}
+use Rattle.mich_literals.proofs.arguments_lemmas.ForCallers.{storage_read}
 use Rattle.mich_instr.specs.View.{script_node}
 use Rattle.mich_instr.specs.declared.instr.Script.{out-Script}
 use Rattle.mich_machine.specs.Calls.{counts_of}

@@ -1,7 +1,7 @@
 use Rattle.std.proofs.Common.{refl}
-use Rattle.rules_world.specs.Groups.{setting_of}
-use Rattle.rules_world.specs.Balances.{moved}
-use Rattle.rules_forms.specs.Spelling.{contract_place}
+use Rattle.rules_world.specs.world.Groups.{setting_of}
+use Rattle.rules_world.specs.world.Balances.{moved}
+use Rattle.rules_data.specs.forms.Spelling.{contract_place}
 use Rattle.mich_forms.specs.Spelled.{place_bytes}
 use Rattle.mich_forms.specs.declared.places.Place.TheVariants as place
 use Rattle.mich_gas.specs.View.{listed}

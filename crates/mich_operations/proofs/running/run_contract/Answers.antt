@@ -1,7 +1,7 @@
 use Rattle.std.proofs.Common.{Err, refl, ap, ◌∙◌, subst}
-use Rattle.rules_values.specs.Canonical.{canonical}
-use Rattle.rules_world.specs.Arguments.{value}
-use Rattle.rules_world.specs.Transfers.{transfer_effect}
+use Rattle.rules_data.specs.values.Canonical.{canonical}
+use Rattle.rules_world.specs.world.Arguments.{value}
+use Rattle.rules_world.specs.world.Transfers.{transfer_effect}
 use Rattle.mich_bigmap.specs.Standing.{val_in}
 use Rattle.mich_bigmap.specs.Stored.{Stored}
 use Rattle.mich_forms.specs.declared.places.Place.TheVariants as place

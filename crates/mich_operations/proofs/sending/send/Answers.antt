@@ -1,5 +1,5 @@
-use Rattle.rules_world.specs.Arguments.{value}
-use Rattle.rules_world.specs.Groups.{setting_of}
+use Rattle.rules_world.specs.world.Arguments.{value}
+use Rattle.rules_world.specs.world.Groups.{setting_of}
 use Rattle.mich_bigmap.specs.Standing.{val_in}
 use Rattle.mich_forms.specs.Spelled.{address_bytes}
 use Rattle.mich_gas.specs.View.{listed}

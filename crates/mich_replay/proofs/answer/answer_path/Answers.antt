@@ -1,5 +1,5 @@
 use Rattle.std.proofs.Common.{refl, sym, subst}
-use Rattle.rules_replay.specs.Commands.{OnFile}
+use Rattle.rules_files.specs.commands.Commands.{OnFile}
 use Rattle.mich_answers.specs.View.{answer_seen}
 use Rattle.mich_replay.specs.Fronts.{IsReadOf}
 use Rattle.mich_replay.specs.View.{whole_seen}

@@ -1,6 +1,6 @@
 use Rattle.std.proofs.Common.{Ok, Err, refl}
 use Rattle.std.proofs.lemmas.Result.{err_from_is_err_and}
-use Rattle.rules_replay.specs.Commands.{OnFile}
+use Rattle.rules_files.specs.commands.Commands.{OnFile}
 use Rattle.mich_answers.specs.View.{answer_seen}
 use Rattle.mich_replay.specs.View.{whole_seen}
 use Rattle.mich_replay.proofs.Promise.{shown, nothing}

@@ -1,8 +1,8 @@
 use Rattle.std.proofs.Common.{Ok, Err, refl, ◌∙◌}
 use Rattle.std.proofs.lemmas.Result.{err_from_is_err_and}
-use Rattle.rules_replay.specs.Answers.{usage_answer}
-use Rattle.rules_replay.specs.Commands.{NoCommand}
-use Rattle.rules_replay.specs.Lines.{usage_line}
+use Rattle.rules_files.specs.commands.Answers.{usage_answer}
+use Rattle.rules_files.specs.commands.Commands.{NoCommand}
+use Rattle.rules_files.specs.commands.Lines.{usage_line}
 use Rattle.mich_replay.proofs.Promise.{shown, nothing, one_written, one_begun}
 use Rattle.mich_replay.proofs.answer.usage.Goals as goal
 

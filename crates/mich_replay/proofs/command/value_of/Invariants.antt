@@ -1,5 +1,5 @@
 use Rattle.std.proofs.Common.{◌≡◌, ◌<◌, drop}
-use Rattle.rules_replay.specs.Commands.{digits_behind}
+use Rattle.rules_files.specs.commands.Commands.{digits_behind}
 use Rattle.mich_replay.proofs.Digits.{power}
 use Rattle.mich_replay.proofs.command.value_of.Given as goal
 

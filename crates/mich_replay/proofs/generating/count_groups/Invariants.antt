@@ -1,5 +1,5 @@
 use Rattle.std.proofs.Common.{◌-◌, ℕ, List, [], true}
-use Rattle.rules_base.specs.Limits.{file_limit}
+use Rattle.rules_text.specs.nodes.Limits.{file_limit}
 use Rattle.mich_replay.specs.Coming.{Came}
 use Rattle.mich_replay.specs.Generating.{IsCounted}
 use Rattle.mich_replay.proofs.generating.count_groups.Given as goal

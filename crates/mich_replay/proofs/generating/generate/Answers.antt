@@ -1,7 +1,7 @@
 use Rattle.std.proofs.Common.{true, [], subst, ◌∙◌}
 use Rattle.std.specs.declared.option.Option.{Option}
 use Rattle.std.proofs.lemmas.Result.{err_from_is_err_and}
-use Rattle.mich_course.specs.declared.course.Course.{Course}
+use Rattle.mich_group.specs.declared.course.course.Course.{Course}
 use Rattle.mich_replay.specs.Steps.{FollowsIf}
 use Rattle.mich_replay.proofs.Generated.{followed, generated}
 use Rattle.mich_replay.proofs.Happening.{came_new}

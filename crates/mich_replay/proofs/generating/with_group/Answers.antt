@@ -1,6 +1,6 @@
 use Rattle.std.proofs.Common.{◌≡◌, ◌∷◌, [], Bool, cond, length, ap, ◌∙◌, arith}
 use Rattle.std.proofs.lemmas.List.{length-append}
-use Rattle.rules_summary.specs.Summary.{was_applied, has_failed}
+use Rattle.rules_world.specs.summary.Summary.{was_applied, has_failed}
 use Rattle.mich_ops.specs.View.{receipt}
 use Rattle.mich_replay.proofs.Counting.{applied_of, failed_of, at_most_one, few, more}
 use Rattle.mich_replay.proofs.generating.with_group.Goals as goal

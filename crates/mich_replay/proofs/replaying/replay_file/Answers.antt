@@ -6,7 +6,7 @@ use Rattle.std.proofs.lemmas.List.{length-append}
 use Rattle.std.specs.Io.KnownBytes.{Consumes, IsAtEnd}
 use Rattle.std.specs.Prelude.{nat_eq}
 use Rattle.mich_replay.specs.Coming.{Pauses}
-use Rattle.rules_replay.specs.Replay.{RefusedAt, ending_of}
+use Rattle.rules_files.specs.commands.Replay.{RefusedAt, ending_of}
 use Rattle.mich_reader.specs.Held.{Held, fresh}
 use Rattle.mich_replay.specs.Pace.{NoneIsClosedAt}
 use Rattle.mich_replay.specs.View.{file_fault_seen}

@@ -1,5 +1,5 @@
 use Rattle.std.proofs.Common.{◌≤◌, ◌-◌}
-use Rattle.rules_base.specs.Limits.{file_limit}
+use Rattle.rules_text.specs.nodes.Limits.{file_limit}
 use Rattle.mich_replay.specs.Coming.{IsUnderway}
 use Rattle.mich_replay.proofs.replaying.replay_file.Given as goal
 

@@ -1,6 +1,6 @@
 use Rattle.std.proofs.Common.{◌≤◌, ◌-◌, ℕ, List}
 use Rattle.std.specs.declared.option.Option.{Option}
-use Rattle.rules_base.specs.Limits.{file_limit}
+use Rattle.rules_text.specs.nodes.Limits.{file_limit}
 use Rattle.mich_replay.specs.Coming.{Grows, Told}
 use Rattle.mich_replay.proofs.replaying.tell_groups.Given as goal
 

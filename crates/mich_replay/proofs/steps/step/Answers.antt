@@ -1,6 +1,6 @@
 use Rattle.std.proofs.Common.{Ok, subst}
 use Rattle.std.specs.declared.option.Option.{Option}
-use Rattle.rules_replay.specs.Replay.{step}
+use Rattle.rules_files.specs.commands.Replay.{step}
 use Rattle.mich_ops.specs.declared.receipt.GroupReceipt.{GroupReceipt}
 use Rattle.mich_scenario.specs.View.{said}
 use Rattle.mich_replay.specs.Steps.{Leads}

@@ -1,8 +1,8 @@
 use Rattle.std.proofs.Common.{sym, subst}
 use Rattle.std.specs.declared.option.Option.{Option}
-use Rattle.rules_replay.specs.Replay.{taken}
-use Rattle.rules_statements.specs.Statements.{Statement}
-use Rattle.laws_course.proofs.ForCallers.{statements_have_ranges}
+use Rattle.rules_files.specs.commands.Replay.{taken}
+use Rattle.rules_files.specs.statements.Statements.{Statement}
+use Rattle.laws_files.proofs.ForCallers.{statements_have_ranges}
 use Rattle.mich_base.specs.View.{tree}
 use Rattle.mich_scenario.specs.View.{said}
 use Rattle.mich_replay.specs.Steps.{IsTaken}

@@ -1,5 +1,5 @@
 use Rattle.std.proofs.Common.{ℕ, List, Contains, refl, sym, ap, ◌∙◌, subst, arith}
-use Rattle.rules_replay.specs.Commands.{Command, command_of}
+use Rattle.rules_files.specs.commands.Commands.{Command, command_of}
 use Rattle.mich_replay.specs.Coming.{Comes}
 use Rattle.mich_replay.specs.Pace.{WritesAsItReads}
 use Rattle.mich_replay.specs.View.{status_in, verb_seen}

@@ -1,6 +1,6 @@
 use Rattle.std.proofs.Common.{ℕ, List, length, get_or, ap, ◌∙◌, subst, arith}
 use Rattle.std.proofs.lemmas.Result.{err_from_is_err_and}
-use Rattle.rules_io.specs.Known.{AppendsFront}
+use Rattle.rules_text.specs.streams.Known.{AppendsFront}
 use Rattle.mich_replay.proofs.Written.{text_of-cut}
 use Rattle.mich_replay.proofs.writing.write_lines.Goals as goal
 

@@ -1,6 +1,6 @@
 use Rattle.std.proofs.Common.{◌≤◌, take}
 use Rattle.std.specs.Io.KnownBytes.{Appends}
-use Rattle.rules_replay.specs.Lines.{text_of}
+use Rattle.rules_files.specs.commands.Lines.{text_of}
 use Rattle.mich_replay.proofs.writing.write_lines.Given as goal
 
 abbrev pub invariant-lines : goal.invariant-lines

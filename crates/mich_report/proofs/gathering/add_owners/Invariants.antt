@@ -1,5 +1,5 @@
 use Rattle.std.proofs.Common.{◌≡◌, ℕ, List}
-use Rattle.rules_values.specs.Tickets.{Identity}
+use Rattle.rules_data.specs.values.Tickets.{Identity}
 use Rattle.mich_report.specs.Amounts.{held_in, paid}
 use Rattle.mich_report.proofs.gathering.add_owners.Given as goal
 

@@ -1,5 +1,5 @@
 use Rattle.std.proofs.Common.{◌≡◌, pos}
-use Rattle.rules_values.specs.Tickets.{Identity}
+use Rattle.rules_data.specs.values.Tickets.{Identity}
 use Rattle.mich_report.specs.Amounts.{amount_in, minted_of_line, settled}
 use Rattle.mich_report.proofs.gathering.all_minted.Given as goal
 

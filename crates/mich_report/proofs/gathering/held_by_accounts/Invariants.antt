@@ -1,5 +1,5 @@
 use Rattle.std.proofs.Common.{◌≡◌, ℕ, pos, List}
-use Rattle.rules_values.specs.Tickets.{Identity}
+use Rattle.rules_data.specs.values.Tickets.{Identity}
 use Rattle.mich_report.specs.Amounts.{held_in, held_of_line, settled}
 use Rattle.mich_report.proofs.gathering.held_by_accounts.Given as goal
 

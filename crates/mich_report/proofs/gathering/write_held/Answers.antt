@@ -4,7 +4,7 @@ use Rattle.std.specs.BTreeMap.{is_at}
 use Rattle.std.specs.Cmp.Lexicographic.{slice_cmp}
 use Rattle.std.specs.Map.{set_value}
 use Rattle.std.specs.Ordering.{nat_cmp}
-use Rattle.mich_undo.proofs.ForCallers.{changed_is_set, changed_none}
+use Rattle.mich_base.proofs.undo_lemmas.ForCallers.{changed_is_set, changed_none}
 use Rattle.mich_report.specs.Amounts.{Amounts, with_amount}
 use Rattle.mich_report.proofs.gathering.write_held.Goals as goal
 

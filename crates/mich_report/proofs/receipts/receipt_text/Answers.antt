@@ -1,5 +1,5 @@
 use Rattle.std.proofs.Common.{ap, ◌∙◌}
-use Rattle.rules_lines.specs.Nodes.{line}
+use Rattle.rules_world.specs.lines.Nodes.{line}
 use Rattle.mich_ops.specs.View.{receipt}
 use Rattle.mich_report.proofs.Same.{told_line}
 use Rattle.mich_report.proofs.receipts.receipt_text.Goals as goal

@@ -1,8 +1,8 @@
 use Rattle.std.proofs.Common.{rules, ◌≡◌, ◌+◌, drop, get_or, Some, None, [], ◌∷◌, ℕ, List, ◌++◌, map, refl, ap, ◌∙◌, arith}
 use Rattle.std.proofs.lemmas.List.{at_drop_more}
-use Rattle.rules_base.specs.Tree.{Tree}
-use Rattle.rules_lines.specs.Nodes.{line}
-use Rattle.rules_world.specs.World.{account_or_none}
+use Rattle.rules_text.specs.nodes.Tree.{Tree}
+use Rattle.rules_world.specs.lines.Nodes.{line}
+use Rattle.rules_world.specs.world.World.{account_or_none}
 use Rattle.mich_world.specs.Holders.{account_at}
 use Rattle.mich_report.proofs.Rest.{account_purse, account_seen, accounts_nodes, all_accounts, ended, found_more, none_more}
 use Rattle.mich_report.proofs.state.add_accounts.Goals as goal

@@ -1,6 +1,6 @@
 use Rattle.std.proofs.Common.{◌≡◌, ◌++◌, drop, map}
-use Rattle.rules_lines.specs.Nodes.{line}
-use Rattle.rules_world.specs.World.{World as PlainWorld}
+use Rattle.rules_world.specs.lines.Nodes.{line}
+use Rattle.rules_world.specs.world.World.{World as PlainWorld}
 use Rattle.mich_report.specs.State.{IsAtRest, Gathers}
 use Rattle.mich_report.proofs.Rest.{accounts_nodes}
 use Rattle.mich_report.proofs.state.add_accounts.Given as goal

@@ -1,7 +1,7 @@
 use Rattle.std.proofs.Common.{rules, ◌≡◌, ◌+◌, drop, get_or, Some, None, [], ◌∷◌, ℕ, List, ◌++◌, map, refl, ap, ◌∙◌, arith}
 use Rattle.std.proofs.lemmas.List.{at_drop_more}
-use Rattle.rules_base.specs.Tree.{Tree}
-use Rattle.rules_lines.specs.Nodes.{contract_node, line}
+use Rattle.rules_text.specs.nodes.Tree.{Tree}
+use Rattle.rules_world.specs.lines.Nodes.{contract_node, line}
 use Rattle.mich_world.specs.Holders.{contract_at}
 use Rattle.mich_world.specs.Standing.{plain}
 use Rattle.mich_report.proofs.Rest.{contracts_nodes, all_contracts, ended, found_more, none_more}

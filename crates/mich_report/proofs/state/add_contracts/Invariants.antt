@@ -1,5 +1,5 @@
 use Rattle.std.proofs.Common.{◌≡◌, ◌++◌, drop, map}
-use Rattle.rules_lines.specs.Nodes.{line}
+use Rattle.rules_world.specs.lines.Nodes.{line}
 use Rattle.mich_report.proofs.Rest.{contracts_nodes}
 use Rattle.mich_report.proofs.state.add_contracts.Given as goal
 

@@ -1,5 +1,5 @@
 use Rattle.std.proofs.Common.{rules, ◌≡◌, ◌∷◌}
-use Rattle.rules_lines.specs.Nodes.{line}
+use Rattle.rules_world.specs.lines.Nodes.{line}
 use Rattle.mich_term.specs.TicketView.{identity}
 use Rattle.mich_report.specs.Amounts.{Amounts}
 use Rattle.mich_report.specs.State.{ticket_of}

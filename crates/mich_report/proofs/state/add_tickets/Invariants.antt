@@ -1,5 +1,5 @@
 use Rattle.std.proofs.Common.{◌≡◌, ◌++◌, map}
-use Rattle.rules_lines.specs.Nodes.{line}
+use Rattle.rules_world.specs.lines.Nodes.{line}
 use Rattle.mich_report.specs.Amounts.{seen}
 use Rattle.mich_report.specs.State.{ticket_of}
 use Rattle.mich_report.proofs.state.add_tickets.Given as goal

@@ -1,8 +1,8 @@
 use Rattle.std.proofs.Common.{◌≡◌, List, ℤ, map, ap, ◌∙◌, subst}
 use Rattle.std.specs.Prelude.{IfOk}
 use Rattle.std.specs.declared.option.Option.{Option}
-use Rattle.rules_lines.specs.Nodes.{held_node}
-use Rattle.rules_values.specs.Tickets.{Identity}
+use Rattle.rules_world.specs.lines.Nodes.{held_node}
+use Rattle.rules_data.specs.values.Tickets.{Identity}
 use Rattle.mich_base.specs.View.{tree}
 use Rattle.mich_report.specs.Amounts.{Amounts, amount_in, amounts_on}
 use Rattle.mich_report.proofs.Written.{one_list, no_list}

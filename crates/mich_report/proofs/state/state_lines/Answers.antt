@@ -1,5 +1,5 @@
 use Rattle.std.proofs.Common.{List, ℕ, ◌++◌, map, sym, ap, ◌∙◌, subst}
-use Rattle.rules_lines.specs.Nodes.{account_node, line}
+use Rattle.rules_world.specs.lines.Nodes.{account_node, line}
 use Rattle.mich_tickets.specs.Books.{State}
 use Rattle.mich_tickets.specs.Lines.{Lines}
 use Rattle.mich_report.specs.Amounts.{seen}

@@ -1,5 +1,5 @@
 use Rattle.std.proofs.Common.{refl, ap, ◌∙◌, arith}
-use Rattle.rules_lines.specs.Nodes.{state_nodes}
+use Rattle.rules_world.specs.lines.Nodes.{state_nodes}
 use Rattle.mich_report.proofs.Rest.{ended, joined, joined_lines}
 use Rattle.mich_report.proofs.state.state_text.Goals as goal
 

@@ -1,7 +1,7 @@
 use Rattle.std.proofs.Common.{◌≡◌, ℕ, [], ◌∷◌, map, sym, ap, ◌∙◌, subst}
 use Rattle.std.specs.Prelude.{IfOk, codes}
-use Rattle.rules_base.specs.Tree.{Tree, int}
-use Rattle.rules_lines.specs.Nodes.{line, number, over}
+use Rattle.rules_text.specs.nodes.Tree.{Tree, int}
+use Rattle.rules_world.specs.lines.Nodes.{line, number, over}
 use Rattle.mich_tickets.specs.Books.{State}
 use Rattle.mich_tickets.specs.Lines.{Lines}
 use Rattle.mich_report.specs.Amounts.{seen}

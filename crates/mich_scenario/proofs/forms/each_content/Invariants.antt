@@ -1,6 +1,6 @@
 use Rattle.std.proofs.Common.{◌≡◌}
 use Rattle.std.specs.Vec.Iter.{into_iter_items}
-use Rattle.rules_statements.specs.Statements.{each_content, nodes_of}
+use Rattle.rules_files.specs.statements.Statements.{each_content, nodes_of}
 use Rattle.mich_base.specs.View.{trees}
 use Rattle.mich_scenario.proofs.Each.{reached}
 use Rattle.mich_scenario.proofs.forms.each_content.Given as goal

@@ -1,7 +1,7 @@
 -- Those that are left may be burnt one after the other.
 use Rattle.std.proofs.Common.{rules, ◌≡◌, List, [], ◌∷◌, ◌++◌, map, append_assoc, sym, ap, ◌∙◌, subst}
 use Rattle.std.specs.Vec.Iter.{into_iter_items}
-use Rattle.mich_undo.proofs.ForCallers.{keeps_same, keeps_trans}
+use Rattle.mich_base.proofs.undo_lemmas.ForCallers.{keeps_same, keeps_trans}
 use Rattle.mich_term.specs.TicketView.{held}
 use Rattle.mich_term.specs.declared.ticket.Ticket.{Ticket}
 use Rattle.mich_tickets.specs.Limits.{IsReady}

@@ -1,7 +1,7 @@
 use Rattle.std.proofs.Common.{◌≡◌, ◌++◌, map}
 use Rattle.std.specs.Vec.Iter.{into_iter_items}
-use Rattle.mich_undo.specs.History.{Keeps}
-use Rattle.rules_steps.specs.Changes.{burns}
+use Rattle.mich_base.specs.undo.History.{Keeps}
+use Rattle.rules_code.specs.steps.Changes.{burns}
 use Rattle.mich_term.specs.TicketView.{held}
 use Rattle.mich_tickets.specs.Effects.{Tells}
 use Rattle.mich_tickets.specs.Limits.{IsReady}

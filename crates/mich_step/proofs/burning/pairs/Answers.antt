@@ -1,6 +1,6 @@
 use Rattle.std.proofs.Common.{◌++◌, map, sym, ap, subst, ◌∙◌}
-use Rattle.rules_steps.specs.Changes.{burns}
-use Rattle.rules_steps.specs.Stack.{pair_step}
+use Rattle.rules_code.specs.steps.Changes.{burns}
+use Rattle.rules_code.specs.steps.Stack.{pair_step}
 use Rattle.mich_overload.specs.View.{pair_row}
 use Rattle.mich_term.specs.TicketView.{held}
 use Rattle.mich_term.specs.ValueView.{big_step}

@@ -1,9 +1,9 @@
 -- Each group ends and tells as its rule says.
 use Rattle.std.proofs.Common.{sym, subst}
 use Rattle.std.specs.Prelude.{IfOk, flat_map}
-use Rattle.rules_values.specs.Tickets.{tickets}
-use Rattle.rules_steps.specs.Stack.{stack_step, pair_step}
-use Rattle.rules_steps.specs.Collections.{collection_step}
+use Rattle.rules_data.specs.values.Tickets.{tickets}
+use Rattle.rules_code.specs.steps.Stack.{stack_step, pair_step}
+use Rattle.rules_code.specs.steps.Collections.{collection_step}
 use Rattle.mich_stack.specs.Ends.{gone}
 use Rattle.mich_overload.specs.View.{straight, stack_row, pair_row, collection_row, ticket_row}
 use Rattle.mich_stack.specs.Views.{Sight, values, plain}

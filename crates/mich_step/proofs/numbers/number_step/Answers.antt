@@ -1,5 +1,5 @@
 use Rattle.std.proofs.Common.{sym, subst}
-use Rattle.rules_steps.specs.Numbers.{number_step}
+use Rattle.rules_code.specs.steps.Numbers.{number_step}
 use Rattle.mich_overload.specs.View.{number_row}
 use Rattle.mich_stack.specs.Ends.{IsKept}
 use Rattle.mich_stack.specs.Views.{values}

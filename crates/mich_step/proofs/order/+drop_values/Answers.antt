@@ -1,5 +1,5 @@
 use Rattle.std.proofs.Common.{rules, ◌≡◌, ◌++◌, take, flat_map, append_assoc, subst, sym, ap, ◌∙◌}
-use Rattle.rules_values.specs.Tickets.{tickets}
+use Rattle.rules_data.specs.values.Tickets.{tickets}
 use Rattle.mich_term.specs.ValueView.{val, big_step}
 use Rattle.mich_stack.specs.Views.{plain}
 use Rattle.mich_step.proofs.Gone.{taken_gone}

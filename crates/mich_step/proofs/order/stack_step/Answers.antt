@@ -1,5 +1,5 @@
 use Rattle.std.proofs.Common.{sym, subst}
-use Rattle.rules_steps.specs.Stack.{stack_step}
+use Rattle.rules_code.specs.steps.Stack.{stack_step}
 use Rattle.mich_overload.specs.View.{stack_row}
 use Rattle.mich_stack.specs.Ends.{IsEnd}
 use Rattle.mich_stack.specs.Views.{values}

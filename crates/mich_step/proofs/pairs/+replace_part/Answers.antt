@@ -1,6 +1,6 @@
 use Rattle.std.proofs.Common.{rules, ◌≡◌, subst}
-use Rattle.rules_values.specs.Val.{both}
-use Rattle.rules_steps.specs.Stack.{replaced}
+use Rattle.rules_data.specs.values.Val.{both}
+use Rattle.rules_code.specs.steps.Stack.{replaced}
 use Rattle.mich_term.specs.declared.value.Value.TheVariants as value
 use Rattle.mich_stack.proofs.ForCallers.{pair_of}
 use Rattle.mich_stack.specs.Views.{seen}

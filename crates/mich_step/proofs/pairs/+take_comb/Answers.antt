@@ -1,6 +1,6 @@
 use Rattle.std.proofs.Common.{rules, ◌≡◌, Some, subst}
-use Rattle.rules_values.specs.Val.{both}
-use Rattle.rules_steps.specs.Stack.{comb}
+use Rattle.rules_data.specs.values.Val.{both}
+use Rattle.rules_code.specs.steps.Stack.{comb}
 use Rattle.mich_term.specs.declared.value.Value.TheVariants as value
 use Rattle.mich_stack.proofs.ForCallers.{pair_of}
 use Rattle.mich_stack.specs.Views.{seen, values}

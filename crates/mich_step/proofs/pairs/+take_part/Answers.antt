@@ -1,6 +1,6 @@
 use Rattle.std.proofs.Common.{rules, ◌≡◌, ◌++◌, ap, subst}
-use Rattle.rules_values.specs.Tickets.{tickets}
-use Rattle.rules_steps.specs.Stack.{part_at}
+use Rattle.rules_data.specs.values.Tickets.{tickets}
+use Rattle.rules_code.specs.steps.Stack.{part_at}
 use Rattle.mich_term.specs.declared.value.Value.TheVariants as value
 use Rattle.mich_stack.proofs.ForCallers.{pair_of}
 use Rattle.mich_stack.specs.Views.{seen}

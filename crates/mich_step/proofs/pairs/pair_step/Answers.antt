@@ -1,5 +1,5 @@
-use Rattle.rules_steps.specs.Stack.{pair_step}
-use Rattle.rules_values.specs.Tickets.{tickets}
+use Rattle.rules_code.specs.steps.Stack.{pair_step}
+use Rattle.rules_data.specs.values.Tickets.{tickets}
 use Rattle.mich_overload.specs.View.{pair_row}
 use Rattle.mich_stack.specs.Views.{seen, values}
 use Rattle.mich_stack.proofs.ForCallers.{given_ends, given_failed}

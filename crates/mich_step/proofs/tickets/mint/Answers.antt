@@ -3,9 +3,9 @@ use Rattle.std.specs.Int.{w128}
 use Rattle.std.proofs.lemmas.Int.{to_z-of_z}
 use Rattle.std.proofs.Common.{rules, SFits, ◌≡◌, ◌∷◌, Err, ap, sym, subst, ◌∙◌}
 use Rattle.std.specs.Prelude.{pos, ◌≤ℤ◌, option_map}
-use Rattle.rules_instructions.specs.Straight as i
-use Rattle.rules_steps.specs.Step.{optional}
-use Rattle.rules_steps.specs.TicketSteps.{as_value, ticket_step}
+use Rattle.rules_code.specs.instructions.Straight as i
+use Rattle.rules_code.specs.steps.Step.{optional}
+use Rattle.rules_code.specs.steps.TicketSteps.{as_value, ticket_step}
 use Rattle.mich_base.specs.TypeView.{kind}
 use Rattle.mich_term.specs.TicketView.{held}
 use Rattle.mich_term.specs.View.{datum}

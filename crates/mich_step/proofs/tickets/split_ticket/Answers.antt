@@ -2,8 +2,8 @@
 use Rattle.std.specs.Int.{w128}
 use Rattle.std.proofs.lemmas.Int.{to_z-of_z}
 use Rattle.std.proofs.Common.{rules, SFits, ◌≡◌, [], ◌∷◌, ap, ◌∙◌}
-use Rattle.rules_values.specs.Val.{number, both}
-use Rattle.rules_steps.specs.TicketSteps.{as_value}
+use Rattle.rules_data.specs.values.Val.{number, both}
+use Rattle.rules_code.specs.steps.TicketSteps.{as_value}
 use Rattle.mich_term.specs.TicketView.{held}
 use Rattle.mich_term.specs.ValueView.{big_step}
 use Rattle.mich_stack.specs.Views.{values, plain}

@@ -1,8 +1,8 @@
 -- Each instruction on tickets ends and tells as its rule says.
 use Rattle.std.proofs.Common.{sym, subst}
 use Rattle.std.specs.Prelude.{IfOk}
-use Rattle.rules_instructions.specs.Straight as i
-use Rattle.rules_steps.specs.TicketSteps.{ticket_step}
+use Rattle.rules_code.specs.instructions.Straight as i
+use Rattle.rules_code.specs.steps.TicketSteps.{ticket_step}
 use Rattle.mich_overload.specs.View.{ticket_row}
 use Rattle.mich_stack.specs.Ends.{Fits, IsKept}
 use Rattle.mich_stack.specs.Views.{Sight, values}

@@ -1,7 +1,7 @@
 -- The tickets of the value that an entry puts are told before those of the entries behind it.
 use Rattle.std.proofs.Common.{rules, ◌≡◌, List, [], ◌∷◌, ◌++◌, append_assoc, subst, sym, ap, ◌∙◌}
 use Rattle.std.specs.Vec.Iter.{into_iter_items}
-use Rattle.rules_values.specs.Tickets.{Held, tickets, pair_tickets}
+use Rattle.rules_data.specs.values.Tickets.{Held, tickets, pair_tickets}
 use Rattle.mich_term.specs.ValueView.{val, put_pairs}
 use Rattle.mich_term.proofs.Overlays.{put_tickets}
 use Rattle.mich_term.proofs.discarding.+discard.Goals as goal

@@ -1,6 +1,6 @@
 use Rattle.std.proofs.Common.{◌≡◌, List, ◌++◌}
 use Rattle.std.specs.Vec.Iter.{into_iter_items}
-use Rattle.rules_values.specs.Tickets.{Held, all_tickets, pair_tickets}
+use Rattle.rules_data.specs.values.Tickets.{Held, all_tickets, pair_tickets}
 use Rattle.mich_term.specs.ValueView.{vals, pairs, put_pairs, big_pairs}
 use Rattle.mich_term.specs.declared.value.BigMap.{out-BigMap}
 use Rattle.mich_term.proofs.discarding.+discard.Given as goal

@@ -1,6 +1,6 @@
 use Rattle.std.proofs.Common.{◌≡◌, ◌≤◌, ◌+◌, ◌-◌, ◌^◌, ◌++◌, reverse, take, map}
 use Rattle.std.specs.Map.Iter.{deref_pair}
-use Rattle.rules_values.specs.Weight.{weights, pair_weights}
+use Rattle.rules_data.specs.values.Weight.{weights, pair_weights}
 use Rattle.mich_term.specs.Weights.{capped}
 use Rattle.mich_term.specs.ValueView.{vals, pairs}
 use Rattle.mich_term.proofs.weighing.+weight.Given as goal

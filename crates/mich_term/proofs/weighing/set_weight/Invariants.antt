@@ -1,5 +1,5 @@
 use Rattle.std.proofs.Common.{◌≡◌, ◌+◌, ◌-◌, ◌^◌, ◌≤◌}
-use Rattle.rules_values.specs.Weight.{weights}
+use Rattle.rules_data.specs.values.Weight.{weights}
 use Rattle.mich_term.specs.Weights.{capped}
 use Rattle.mich_term.specs.View.{datums}
 use Rattle.mich_term.proofs.weighing.set_weight.Given as goal

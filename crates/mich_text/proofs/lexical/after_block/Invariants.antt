@@ -1,5 +1,5 @@
 use Rattle.std.proofs.Common.{◌≡◌, ◌≤◌, ◌<◌, ◌+◌, length}
-use Rattle.rules_text.specs.Lexical.{after_block}
+use Rattle.rules_text.specs.text.Lexical.{after_block}
 use Rattle.mich_text.proofs.lexical.after_block.Given as goal
 
 abbrev pub invariant-block : goal.invariant-block

@@ -1,5 +1,5 @@
 use Rattle.std.proofs.Common.{◌≡◌, length}
-use Rattle.rules_text.specs.Lexical.{after_gap}
+use Rattle.rules_text.specs.text.Lexical.{after_gap}
 use Rattle.mich_text.proofs.lexical.after_gap.Given as goal
 
 abbrev pub invariant-gaps : goal.invariant-gaps

@@ -1,5 +1,5 @@
 use Rattle.std.proofs.Common.{◌≡◌, ◌≤◌, length}
-use Rattle.rules_text.specs.Lexical.{after_line}
+use Rattle.rules_text.specs.text.Lexical.{after_line}
 use Rattle.mich_text.proofs.lexical.after_line.Given as goal
 
 abbrev pub invariant-line : goal.invariant-line

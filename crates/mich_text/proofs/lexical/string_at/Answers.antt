@@ -1,7 +1,7 @@
 use Rattle.std.proofs.Common.{◌+◌, ◌<◌, ◌∷◌, [], length, refl, sym, ap, ◌∙◌, arith}
 use Rattle.std.proofs.lemmas.List.{length-append}
-use Rattle.rules_base.specs.Limits.{byte_limit}
-use Rattle.rules_text.specs.Lexical.{spelt, with_byte}
+use Rattle.rules_text.specs.nodes.Limits.{byte_limit}
+use Rattle.rules_text.specs.text.Lexical.{spelt, with_byte}
 use Rattle.mich_text.proofs.tokens.Strings.{prepend, prepend_more, string_begins, string_ends, string_long}
 use Rattle.mich_text.proofs.lexical.string_at.Goals as goal
 

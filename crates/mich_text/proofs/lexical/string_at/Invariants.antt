@@ -1,6 +1,6 @@
 use Rattle.std.proofs.Common.{◌≡◌, ◌≤◌, length, drop}
-use Rattle.rules_base.specs.Limits.{byte_limit}
-use Rattle.rules_text.specs.Lexical.{spelt}
+use Rattle.rules_text.specs.nodes.Limits.{byte_limit}
+use Rattle.rules_text.specs.text.Lexical.{spelt}
 use Rattle.mich_text.proofs.tokens.Strings.{prepend}
 use Rattle.mich_text.proofs.lexical.string_at.Given as goal
 

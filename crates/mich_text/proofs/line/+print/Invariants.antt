@@ -1,6 +1,6 @@
 use Rattle.std.proofs.Common.{◌≡◌, ◌++◌, ◌∷◌, [], drop}
 use Rattle.mich_base.specs.View.{trees}
-use Rattle.rules_text.specs.Printed.{arguments_text}
+use Rattle.rules_text.specs.text.Printed.{arguments_text}
 use Rattle.mich_text.specs.Line.{joined}
 use Rattle.mich_text.proofs.line.+print.Given as goal
 

@@ -1,5 +1,5 @@
 use Rattle.std.proofs.Common.{◌≡◌, ◌++◌, drop}
-use Rattle.rules_text.specs.Printed.{annotations_text}
+use Rattle.rules_text.specs.text.Printed.{annotations_text}
 use Rattle.mich_text.proofs.line.put_annotations.Given as goal
 
 -- the line so far, and the annotations that are left

@@ -1,5 +1,5 @@
 use Rattle.std.proofs.Common.{◌≡◌, ◌++◌, drop}
-use Rattle.rules_text.specs.Printed.{string_text}
+use Rattle.rules_text.specs.text.Printed.{string_text}
 use Rattle.mich_text.proofs.line.put_string.Given as goal
 
 -- the line so far, and what is left of the string

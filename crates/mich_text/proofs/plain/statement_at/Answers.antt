@@ -2,7 +2,7 @@ use Rattle.std.proofs.Common.{◌≡◌, ℕ, ◌<◌, true, false, eqb, List, [
 use Rattle.std.proofs.lemmas.Bool.{eqb-true, eqb-false}
 use Rattle.std.proofs.lemmas.List.{nil_from_length}
 use Rattle.std.proofs.lemmas.Result.{err_from_is_err_and}
-use Rattle.rules_text.specs.Token.{Token}
+use Rattle.rules_text.specs.text.Token.{Token}
 use Rattle.mich_text.specs.Machine.{Stack}
 use Rattle.mich_base.specs.View.{tree}
 use Rattle.mich_text.specs.Nodes.{stack_view}

@@ -1,5 +1,5 @@
 use Rattle.std.proofs.Common.{List, length}
-use Rattle.rules_text.specs.Token.{Token}
+use Rattle.rules_text.specs.text.Token.{Token}
 use Rattle.mich_text.specs.Nodes.{stack_view}
 use Rattle.mich_text.proofs.readings.Reading.{At}
 use Rattle.mich_text.proofs.plain.statement_at.Given as goal

@@ -1,5 +1,5 @@
 use Rattle.std.proofs.Common.{option_map, sym, ap, subst, ◌∙◌}
-use Rattle.rules_base.specs.Limits.{depth_limit}
+use Rattle.rules_text.specs.nodes.Limits.{depth_limit}
 use Rattle.mich_text.specs.Machine.{Stack, refused}
 use Rattle.mich_text.specs.Nodes.{stack_view, refusal_view}
 use Rattle.mich_text.specs.Views.{token_view}

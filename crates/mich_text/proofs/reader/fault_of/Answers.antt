@@ -1,7 +1,7 @@
 use Rattle.std.proofs.Common.{ℕ, ◌≡◌, ◌-◌, List, length, drop, Err, refl, sym, subst}
 use Rattle.std.specs.List.{prefix_len}
 use Rattle.std.specs.Char.{is_ascii_hexdigit}
-use Rattle.rules_text.specs.declared.TextKind.{TextKind}
+use Rattle.rules_text.specs.declared.text.TextKind.{TextKind}
 use Rattle.mich_text.specs.Plain.{IsFaultWithoutLimits}
 use Rattle.mich_text.specs.Shown.{IsOpenBytes}
 use Rattle.mich_text.specs.Results.{IsLimitedRead}

@@ -1,5 +1,5 @@
 use Rattle.std.proofs.Common.{◌≡◌, drop}
-use Rattle.rules_types.specs.Entrypoints.{field_name}
+use Rattle.rules_data.specs.types.Entrypoints.{field_name}
 use Rattle.mich_types.proofs.annotations.field_name.Given as goal
 
 abbrev pub invariant-loop-annot : goal.invariant-loop-annot

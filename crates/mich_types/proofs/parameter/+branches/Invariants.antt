@@ -1,5 +1,5 @@
 use Rattle.std.proofs.Common.{◌+◌, ◌*◌}
-use Rattle.rules_types.specs.Kind.{nodes}
+use Rattle.rules_data.specs.types.Kind.{nodes}
 use Rattle.mich_base.specs.TypeView.{kind}
 use Rattle.mich_types.proofs.parameter.+branches.Given as goal
 

@@ -1,5 +1,5 @@
 use Rattle.std.proofs.Common.{◌≡◌, drop, map}
-use Rattle.rules_types.specs.Entrypoints.{find_entry}
+use Rattle.rules_data.specs.types.Entrypoints.{find_entry}
 use Rattle.mich_types.specs.Entered.{entry_of}
 use Rattle.mich_types.proofs.parameter.find_entry.Given as goal
 

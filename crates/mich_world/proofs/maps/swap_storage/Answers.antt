@@ -2,8 +2,8 @@ use Rattle.std.proofs.Common.{ap, sym, ◌∙◌, refl}
 use Rattle.std.specs.List.{sum_by}
 use Rattle.std.specs.Map.{values_of}
 use Rattle.std.specs.BTreeMap.{is_at}
-use Rattle.mich_undo.proofs.ForCallers.{changed_is_set, changed_none, changed_back}
-use Rattle.mich_undo.specs.Undone.{changed_at}
+use Rattle.mich_base.proofs.undo_lemmas.ForCallers.{changed_is_set, changed_none, changed_back}
+use Rattle.mich_base.specs.undo.Undone.{changed_at}
 use Rattle.mich_world.specs.declared.contract.Contract.{Contract}
 use Rattle.mich_world.specs.Holders.{by_bytes, restored}
 use Rattle.mich_world.proofs.Sums.{sum_same}

@@ -1,5 +1,5 @@
 use Rattle.std.proofs.Common.{◌∷◌, false, refl, sym, ap, ◌∙◌}
-use Rattle.mich_undo.specs.History.{grown}
+use Rattle.mich_base.specs.undo.History.{grown}
 use Rattle.mich_bigmap.specs.Bases.{Base, base_at}
 use Rattle.mich_bigmap.specs.Stored.{Stored}
 use Rattle.mich_bigmap.specs.declared.layers.Layer.{Layer}

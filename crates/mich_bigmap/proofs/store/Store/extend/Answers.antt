@@ -1,9 +1,9 @@
 use Rattle.std.proofs.Common.{ap, sym, subst}
-use Rattle.mich_undo.specs.History.{History}
+use Rattle.mich_base.specs.undo.History.{History}
 use Rattle.mich_bigmap.specs.Bases.{Base, Bases}
 use Rattle.mich_bigmap.specs.Stored.{Stored}
 use Rattle.mich_bigmap.specs.Ticketless.{HoldNoTickets}
-use Rattle.mich_undo.proofs.ForCallers.{keeps_to, keeps_equal}
+use Rattle.mich_base.proofs.undo_lemmas.ForCallers.{keeps_to, keeps_equal}
 use Rattle.mich_bigmap.proofs.Extending.{extends_more, extends_equal, entries_first, there_first}
 use Rattle.mich_bigmap.proofs.store.Store.extend.Goals as goal
 

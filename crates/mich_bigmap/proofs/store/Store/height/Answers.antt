@@ -1,5 +1,5 @@
 use Rattle.std.proofs.Common.{◌-◌, List, length, ap, ◌∙◌}
-use Rattle.mich_undo.specs.History.{height_of}
+use Rattle.mich_base.specs.undo.History.{height_of}
 use Rattle.mich_bigmap.specs.Stored.{Stored}
 use Rattle.mich_bigmap.specs.declared.layers.Layer.{Layer}
 use Rattle.mich_bigmap.proofs.Journal.{height_is}

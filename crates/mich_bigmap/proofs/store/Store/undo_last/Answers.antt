@@ -1,5 +1,5 @@
 use Rattle.std.proofs.Common.{◌<◌, ◌≤◌, ◌-◌, List, length, take, sym, ap, ◌∙◌, subst}
-use Rattle.mich_undo.specs.History.{stepped_back}
+use Rattle.mich_base.specs.undo.History.{stepped_back}
 use Rattle.mich_bigmap.specs.Stored.{Stored, IsStore, history_of, noted_of}
 use Rattle.mich_bigmap.specs.Stacked.{bases_of}
 use Rattle.mich_bigmap.specs.declared.layers.Layer.{Layer}

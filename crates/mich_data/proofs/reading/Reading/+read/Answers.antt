@@ -1,8 +1,8 @@
 use Rattle.std.proofs.Common.{◌≡◌, ◌+◌, List, None, option_map, sym, ap, ◌∙◌, subst, rules, arith}
-use Rattle.rules_base.specs.Tree.{size, sizes}
-use Rattle.rules_types.specs.Kind as k
-use Rattle.rules_values.specs.Val.{list, set}
-use Rattle.rules_values.specs.Literals.{good, mapped, with_pending, read, read_elements, read_increasing, read_entries, read_binding, read_rest, read_parts}
+use Rattle.rules_text.specs.nodes.Tree.{size, sizes}
+use Rattle.rules_data.specs.types.Kind as k
+use Rattle.rules_data.specs.values.Val.{list, set}
+use Rattle.rules_data.specs.values.Literals.{good, mapped, with_pending, read, read_elements, read_increasing, read_entries, read_binding, read_rest, read_parts}
 use Rattle.mich_base.specs.TypeView.{kind}
 use Rattle.mich_base.specs.View.{tree, trees}
 use Rattle.mich_data.specs.View.{all_pending}

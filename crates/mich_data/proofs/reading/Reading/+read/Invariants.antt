@@ -3,8 +3,8 @@ use Rattle.mich_base.specs.declared.ty.Ty.{size-Ty}
 use Rattle.mich_base.specs.View.{trees}
 use Rattle.mich_base.specs.TypeView.{kind}
 use Rattle.mich_term.specs.ValueView.{val}
-use Rattle.rules_base.specs.Tree.{sizes}
-use Rattle.rules_values.specs.Literals.{with_pending, mapped, read, read_elements, read_increasing, read_entries}
+use Rattle.rules_text.specs.nodes.Tree.{sizes}
+use Rattle.rules_data.specs.values.Literals.{with_pending, mapped, read, read_elements, read_increasing, read_entries}
 use Rattle.mich_data.specs.View.{all_pending}
 use Rattle.mich_data.proofs.Lists.{put_before}
 use Rattle.mich_data.proofs.Sets.{IsReadUpTo}

@@ -1,5 +1,5 @@
 use Rattle.std.proofs.Common.{rules, ◌≢◌}
-use Rattle.rules_forms.specs.Spelling.{default_name}
+use Rattle.rules_data.specs.forms.Spelling.{default_name}
 use Rattle.mich_forms.proofs.Joining.{joined_parts}
 use Rattle.mich_forms.proofs.OneSpelling.{written_is}
 use Rattle.mich_forms.proofs.addresses.Address.bytes.Goals as goal

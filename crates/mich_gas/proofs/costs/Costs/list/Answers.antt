@@ -1,6 +1,6 @@
 use Rattle.std.proofs.Common.{◌<◌, length, rules}
 use Rattle.std.proofs.Math.Path.{fun_ext}
-use Rattle.rules_gas.specs.Kinds.{place}
+use Rattle.rules_data.specs.gas.Kinds.{place}
 use Rattle.mich_gas.proofs.Tables.{set_listed}
 use Rattle.mich_gas.proofs.costs.Costs.list.Goals as goal
 

@@ -1,5 +1,5 @@
 use Rattle.std.proofs.Common.{◌≡◌, ◌++◌, map}
-use Rattle.rules_lines.specs.Nodes.{held_node}
+use Rattle.rules_world.specs.lines.Nodes.{held_node}
 use Rattle.mich_base.specs.View.{tree}
 use Rattle.mich_report.specs.Amounts.{seen}
 use Rattle.mich_report.proofs.amounts.Amounts.held_nodes.Given as goal

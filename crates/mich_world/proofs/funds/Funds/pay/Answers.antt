@@ -1,4 +1,4 @@
-use Rattle.mich_undo.proofs.ForCallers.{keeps_to}
+use Rattle.mich_base.proofs.undo_lemmas.ForCallers.{keeps_to}
 use Rattle.mich_world.proofs.funds.Funds.pay.Goals as goal
 
 pub returns-clause-keeps : goal.returns-clause-keeps

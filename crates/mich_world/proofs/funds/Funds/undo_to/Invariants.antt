@@ -1,5 +1,5 @@
 use Rattle.std.proofs.Common.{◌≡◌, ◌-◌, ◌≤◌}
-use Rattle.mich_undo.specs.History.{height_of, rewound}
+use Rattle.mich_base.specs.undo.History.{height_of, rewound}
 use Rattle.mich_world.proofs.funds.Funds.undo_to.Given as goal
 
 abbrev pub invariant-back : goal.invariant-back

@@ -1,6 +1,6 @@
 use Rattle.std.proofs.Common.{ℕ, List, map, sym, subst}
 use Rattle.std.specs.List.{AllByRecursion}
-use Rattle.mich_undo.specs.History.{History}
+use Rattle.mich_base.specs.undo.History.{History}
 use Rattle.mich_bigmap.specs.Kept.{all_of}
 use Rattle.mich_bigmap.specs.Notes.{Notes}
 use Rattle.mich_world.specs.Holders.{Holders}

@@ -1,5 +1,5 @@
 use Rattle.std.proofs.Common.{refl}
-use Rattle.mich_undo.proofs.ForCallers.{keeps_same, keeps_trans}
+use Rattle.mich_base.proofs.undo_lemmas.ForCallers.{keeps_same, keeps_trans}
 use Rattle.mich_world.proofs.Marks.{keeps_parts}
 use Rattle.mich_world.proofs.world.World.put_storage.Goals as goal
 

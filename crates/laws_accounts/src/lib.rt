@@ -1,2 +1,0 @@
-//! Lemmas on sums over accounts and contracts, and on holdings, texts of types and environments.
-#![tactic(auto)]

@@ -1,2 +1,0 @@
-//! Lemmas on the tickets of values that agree with their types.
-#![tactic(auto)]

@@ -1,0 +1,3 @@
+pub mod evaluation
+pub mod stacks
+pub mod safety

@@ -1,2 +1,0 @@
-//! Lemmas on instructions with bodies: code that is typed leaves what its typing says.
-#![tactic(auto)]

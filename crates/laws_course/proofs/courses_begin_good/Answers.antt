@@ -1,5 +1,0 @@
-use Rattle.laws_course.proofs.Good.{courses_begin_good}
-use Rattle.laws_course.proofs.courses_begin_good.Goals as goal
-
-pub returns : goal.returns
-returns c = courses_begin_good

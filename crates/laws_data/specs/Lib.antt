@@ -1,0 +1,4 @@
+pub mod forms
+pub mod types
+pub mod values
+pub mod binary

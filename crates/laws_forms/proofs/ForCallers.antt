@@ -1,3 +1,0 @@
--- What the proofs of the crates above may cite of this crate.
-pub use Rattle.laws_forms.proofs.Places
-pub use Rattle.laws_forms.proofs.Places.{contract_is, contract_parts, implicit_is, place_address, place_length}

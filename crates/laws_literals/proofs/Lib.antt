@@ -1,8 +1,0 @@
-pub mod Applied
-pub mod Applies
-pub mod Claims
-pub mod Clean
-pub mod Forms
-pub mod Lambdas
-pub mod Pushes
-pub mod ForCallers

@@ -1,2 +1,0 @@
-//! Lemmas on literals, on lambdas, and on what APPLY makes of them.
-#![tactic(auto)]

@@ -1,7 +1,0 @@
-pub mod Advances
-pub mod AdvancingForms
-pub mod AdvancingLevels
-pub mod AdvancingStacks
-pub mod NewContracts
-pub mod Picks
-pub mod ForCallers

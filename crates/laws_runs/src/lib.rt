@@ -1,2 +1,0 @@
-//! Lemmas on runs of contracts in good worlds.
-#![tactic(auto)]

@@ -1,2 +1,0 @@
-//! Lemmas on sights of big maps: what a value that fits its type is seen as, whatever lies in its big maps.
-#![tactic(auto)]

@@ -1,2 +1,0 @@
-//! Lemmas on what holds of a stack while typed code runs.
-#![tactic(auto)]

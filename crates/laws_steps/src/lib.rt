@@ -1,2 +1,0 @@
-//! Lemmas on instructions without bodies: what they leave fits its types.
-#![tactic(auto)]

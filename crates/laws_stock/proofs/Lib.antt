@@ -1,4 +1,0 @@
-pub mod Nodes
-pub mod Values
-pub mod Collections
-pub mod ForCallers

@@ -1,4 +1,0 @@
-pub mod Suiting
-pub mod Rows
-pub mod Tickets
-pub mod ForCallers

@@ -1,2 +1,0 @@
-//! Lemmas on what instructions ask of the stacks of typed code that runs.
-#![tactic(auto)]

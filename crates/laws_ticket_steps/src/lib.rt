@@ -1,2 +1,0 @@
-//! Lemmas on instructions without bodies: they keep the tickets of each identity.
-#![tactic(auto)]

@@ -1,5 +1,0 @@
-use Rattle.laws_tickets.proofs.Linear.{runs_keep}
-use Rattle.laws_tickets.proofs.runs_keep_tickets.Goals as goal
-
-pub returns : goal.returns
-returns c = runs_keep

@@ -1,0 +1,12 @@
+pub mod Stands
+pub mod Shapes
+pub mod Loops
+pub mod Mapping
+pub mod Calls
+pub mod Given
+pub mod Operating
+pub mod Nodes
+pub mod Ends
+pub mod Linear
+pub mod FromTotals
+pub mod ForCallers

@@ -1,5 +1,0 @@
-use Rattle.laws_tickets.proofs.FromTotals.{linear_tickets}
-use Rattle.laws_tickets.proofs.typed_code_keeps_tickets.Goals as goal
-
-pub returns : goal.returns
-returns c = linear_tickets

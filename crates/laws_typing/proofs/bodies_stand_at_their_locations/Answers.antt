@@ -1,5 +1,0 @@
-use Rattle.laws_typing.proofs.Places.{bodies_stand}
-use Rattle.laws_typing.proofs.bodies_stand_at_their_locations.Goals as goal
-
-pub returns : goal.returns
-returns c = bodies_stand

@@ -1,5 +1,0 @@
-use Rattle.laws_typing.proofs.Forms.{literals_have_form}
-use Rattle.laws_typing.proofs.literals_have_form.Goals as goal
-
-pub returns : goal.returns
-returns c = literals_have_form

@@ -1,5 +1,0 @@
-use Rattle.laws_typing.proofs.Forms.{literals_hold_no_ticket}
-use Rattle.laws_typing.proofs.literals_hold_no_ticket.Goals as goal
-
-pub returns : goal.returns
-returns c = literals_hold_no_ticket

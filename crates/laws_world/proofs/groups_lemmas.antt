@@ -1,0 +1,11 @@
+pub mod GroupLaws
+pub mod Foundings
+pub mod Taken
+pub mod Accounts
+pub mod Calls
+pub mod Transfers
+pub mod Gives
+pub mod Walks
+pub mod Groups
+pub mod Chains
+pub mod ForCallers

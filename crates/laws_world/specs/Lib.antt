@@ -1,0 +1,4 @@
+pub mod accounts
+pub mod lines
+pub mod operations
+pub mod runs

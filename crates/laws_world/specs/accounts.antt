@@ -1,0 +1,2 @@
+-- Lemmas on sums over accounts and contracts, and on holdings, texts of types and environments.
+pub mod Texts

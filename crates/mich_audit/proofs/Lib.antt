@@ -1,0 +1,12 @@
+pub mod Added
+pub mod Counts
+pub mod Forms
+pub mod Kept
+pub mod Keys
+pub mod Pieced
+pub mod Pieces
+pub mod Reversed
+pub mod Same
+pub mod Taken
+pub mod Tallied
+pub mod Telling

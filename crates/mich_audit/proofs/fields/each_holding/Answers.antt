@@ -1,0 +1,18 @@
+use Rattle.std.proofs.Common.{arith, List, subst}
+use Rattle.rules_audit.specs.Fields.{each, named, holding_by}
+use Rattle.mich_audit.specs.Told.{Tells}
+use Rattle.mich_audit.proofs.Telling.{one_more, none_more, all_told}
+use Rattle.mich_audit.proofs.fields.each_holding.Goals as goal
+
+pub returns-then-not-branch : goal.returns-then-not-branch
+returns-then-not-branch c =
+    none_more (named holding_by) _ _ _ _ c.as_slice-node-items.result.now c.holdings.node-index c.node-item.result (omega arith) c.node-item.is
+    (subst (Tells _ _ _) c.if-not-branch.true c.in_ok-holding.ensures) c.holdings.invariant
+
+pub holdings-preserved : goal.holdings-preserved
+holdings-preserved c =
+    one_more (named holding_by) _ _ _ _ c.as_slice-node-items.result.now c.holdings.node-index c.node-item.result (omega arith) c.node-item.is
+    (subst (Tells _ _ _) c.if-not-branch.false c.in_ok-holding.ensures) c.holdings.invariant
+
+pub returns : goal.returns
+returns c = all_told (named holding_by) _ _ _ c.as_slice-node-items.result.now c.holdings.node-index (omega arith) c.holdings.invariant

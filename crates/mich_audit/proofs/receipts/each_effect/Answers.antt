@@ -1,0 +1,19 @@
+use Rattle.std.proofs.Common.{arith, List, subst}
+use Rattle.rules_audit.specs.Fields.{each, named}
+use Rattle.rules_audit.specs.Lines.{effect_by}
+use Rattle.mich_audit.specs.Told.{Tells}
+use Rattle.mich_audit.proofs.Telling.{one_more, none_more, all_told}
+use Rattle.mich_audit.proofs.receipts.each_effect.Goals as goal
+
+pub returns-then-not-branch : goal.returns-then-not-branch
+returns-then-not-branch c =
+    none_more (named effect_by) _ _ _ _ c.as_slice-node-items.result.now c.effects.node-index c.node-item.result (omega arith) c.node-item.is
+    (subst (Tells _ _ _) c.if-not-branch.true c.in_ok-effect.ensures) c.effects.invariant
+
+pub effects-preserved : goal.effects-preserved
+effects-preserved c =
+    one_more (named effect_by) _ _ _ _ c.as_slice-node-items.result.now c.effects.node-index c.node-item.result (omega arith) c.node-item.is
+    (subst (Tells _ _ _) c.if-not-branch.false c.in_ok-effect.ensures) c.effects.invariant
+
+pub returns : goal.returns
+returns c = all_told (named effect_by) _ _ _ c.as_slice-node-items.result.now c.effects.node-index (omega arith) c.effects.invariant

@@ -1,9 +1,0 @@
-//! The typed code of the bodies of lambdas that ran last, so that it need not be made again (Michelson reference, "LAMBDA").
-#![tactic(auto)]
-
-mod bodies;
-mod kept;
-mod marks;
-mod same;
-
-pub use bodies::{Bodies, Uses};

@@ -1,0 +1,7 @@
+//! The typed code of the bodies of lambdas that ran last, so that it need not be made again (Michelson reference, "LAMBDA").
+mod bodies;
+mod kept;
+mod marks;
+mod same;
+
+pub use bodies::{Bodies, Uses};

@@ -1,4 +1,0 @@
--- What the proofs of the crates above may cite of this crate.
-pub use Rattle.mich_conditions.proofs.Fitting.{commits_fit, credits_fit, installs_fit}
-pub use Rattle.mich_conditions.proofs.Room.{positives}
-pub use Rattle.mich_conditions.proofs.Waiting.{gifts_may_run, originations_may_run, plain_values_may_run, transfers_may_run}

@@ -1,6 +1,0 @@
-use Rattle.std.proofs.Common.{refl}
-use Rattle.mich_entries.proofs.Sighted.{none_seen}
-use Rattle.mich_entries.proofs.entries.no_entries.Goals as goal
-
-pub returns : goal.returns
-returns c = λ bs. none_seen bs _ refl c.new.ensures

@@ -1,0 +1,2 @@
+pub mod arguments_lemmas
+pub mod unpacking_lemmas

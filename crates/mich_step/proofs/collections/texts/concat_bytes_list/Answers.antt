@@ -1,0 +1,23 @@
+use Rattle.std.proofs.Common.{ℕ, ◌∷◌, Vec, Global, ap, subst, ◌∙◌}
+use Rattle.std.specs.Prelude.{option_map}
+use Rattle.rules_code.specs.steps.Texts.{joined}
+use Rattle.mich_stack.specs.Views.{values}
+use Rattle.mich_step.specs.collections.Seen.{vals_by}
+use Rattle.mich_step.specs.collections.Sizes.{IsWithinSize}
+use Rattle.mich_step.proofs.collections_lemmas.Steps.{bytes_list_is, bytes_list_over}
+use Rattle.mich_step.proofs.collections.texts.concat_bytes_list.Goals as goal
+
+pub returns-in_ok-push-in-Some : goal.returns-in_ok-push-in-Some
+returns-in_ok-push-in-Some c = λ big.
+    let xs = vals_by big c.take_list-list.result in
+    let w = subst (λ o. IsWithinSize (joined xs) (option_map (λ (v : Vec ℕ Global). v.items) o)) c.in-Some.is (c.in_ok-joined.ensures big) in
+    bytes_list_is (values big c.args.stack.now) xs (values big c.take_list-list.new.stack) (values big c.push.new.stack) c.in-Some.bytes.items
+    (c.take_list-list.ensures big) w.0 w.1
+    (c.in_ok-push-in-Some.ensures big ∙ ap (λ v. v ∷ values big c.take_list-list.new.stack) (c.bytes_value.ensures big))
+
+pub returns-in-None : goal.returns-in-None
+returns-in-None c = λ big.
+    let xs = vals_by big c.take_list-list.result in
+    bytes_list_over (values big c.args.stack.now) xs (values big c.take_list-list.new.stack)
+    (c.take_list-list.ensures big)
+    (subst (λ o. IsWithinSize (joined xs) (option_map (λ (v : Vec ℕ Global). v.items) o)) c.in-None.is (c.in_ok-joined.ensures big))

@@ -1,0 +1,3 @@
+pub mod seen
+pub mod big_maps
+pub mod hashes

@@ -1,3 +1,0 @@
-mod Items
-mod Sequences
-mod Tried

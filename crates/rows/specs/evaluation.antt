@@ -1,0 +1,2 @@
+-- Worked rows of evaluation, computed by its definitions.
+pub mod Told

@@ -1,0 +1,2 @@
+-- Worked rows of typing, computed by its definitions.
+pub mod Told

@@ -1,0 +1,2 @@
+//! Worked rows, computed by the rules.
+#![tactic(auto)]

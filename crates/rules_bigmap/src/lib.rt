@@ -1,2 +1,0 @@
-//! Definitions alone: what changes make of the entries of a big map.
-#![tactic(auto)]

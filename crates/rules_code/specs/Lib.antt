@@ -1,0 +1,4 @@
+pub mod instructions
+pub mod steps
+pub mod typing
+pub mod evaluation

@@ -1,2 +1,0 @@
-//! What the statements of a file do, one after another. Definitions in specs/.
-#![tactic(auto)]

@@ -1,0 +1,2 @@
+-- Definitions alone: what changes make of the entries of a big map.
+pub mod Changes

@@ -1,0 +1,4 @@
+pub mod workload
+pub mod statements
+pub mod course
+pub mod commands

@@ -1,2 +1,0 @@
-//! Definitions alone: how keys, key hashes, signatures, chain ids, addresses and entrypoints are spelled in bytes.
-#![tactic(auto)]

@@ -1,2 +1,0 @@
-//! Definitions of the workload that users measure with. They stand in specs/.
-#![tactic(auto)]

@@ -1,2 +1,0 @@
-//! Definitions alone: the hash function BLAKE2b, without a key.
-#![tactic(auto)]

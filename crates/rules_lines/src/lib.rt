@@ -1,2 +1,0 @@
-// What is written of a replay: lines as nodes. Definitions in specs/.
-#![tactic(auto)]

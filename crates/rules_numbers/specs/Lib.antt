@@ -1,4 +1,0 @@
-pub mod Bits
-pub mod Integers
-pub mod Limits
-pub mod Mutez

@@ -1,9 +1,0 @@
-pub mod Places
-pub mod Replay
-pub mod Lines
-pub mod Answers
-pub mod Codec
-pub mod Scripts
-pub mod Packs
-pub mod Commands
-pub mod Promise

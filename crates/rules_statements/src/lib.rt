@@ -1,2 +1,0 @@
-//! The statements of a file, and which nodes are statements: definitions alone.
-#![tactic(auto)]

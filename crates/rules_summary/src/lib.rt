@@ -1,2 +1,0 @@
-// What sums up a workload: definitions in specs/.
-#![tactic(auto)]

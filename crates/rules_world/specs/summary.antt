@@ -1,0 +1,2 @@
+-- What sums up a workload: definitions in specs/.
+pub mod Summary

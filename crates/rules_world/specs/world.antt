@@ -1,0 +1,20 @@
+-- Definitions alone: accounts and contracts, and what operations make of them, one by one, in trees and in groups.
+pub mod World
+pub mod Balances
+pub mod Holdings
+pub mod Contents
+pub mod Receipts
+pub mod Outcomes
+pub mod Targets
+pub mod Arguments
+pub mod Runs
+pub mod Transfers
+pub mod Originations
+pub mod Gives
+pub mod Application
+pub mod Trees
+pub mod Groups
+pub mod Forms
+pub mod Good
+pub mod RunLaws
+pub mod Laws

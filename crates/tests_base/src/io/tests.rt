@@ -1,0 +1,162 @@
+// The adapters of the system over a real file and the real output; the calls that fail; a sink that cuts pieces short.
+ghost use Rattle.std.specs.Prelude.{◌≡◌, ◌∷◌, ◌≤◌, [], take, length, Some, IfOk, OnErr};
+ghost use Rattle.std.specs.Io.{WritesAtMost};
+ghost use Rattle.rules_text.specs.streams.Known.{content_in};
+
+use mich_base::{Bytes, Memory, Rows, Text, Texts};
+use mich_io::{
+    Files, FilesFault, HonestFiles, HonestSink, HostFiles, HostSink, MemFiles, MemSink, Sink,
+    SinkFault, write_all,
+};
+use std::alloc::Global;
+use std::fs;
+use std::test::Fail;
+
+fn one(alloc: Global, word: &str) -> Result<Texts, Memory>
+    ensures { IfOk result (λ t. t ≡ word.now ∷ []) }
+{
+    let mut texts = Texts::new(alloc);
+    texts.push(Text::from_slice(alloc, word.as_bytes())?)?;
+    Ok(texts)
+}
+
+fn numbers(alloc: Global, numbers: &[u64]) -> Result<Rows<u64>, Memory> {
+    let mut rows = Rows::new(alloc);
+    for number in numbers {
+        rows.push(*number)?;
+    }
+    Ok(rows)
+}
+
+// Whether the three bytes of a file that was started are read, and then its end.
+fn is_abc<F: Files>(files: &mut F) -> bool {
+    let mut buf = [0u8; 8];
+    let count = files.read(&mut buf).ok();
+    let end = files.read(&mut buf).ok();
+    count == Some(3) && end == Some(0) && buf[0] == b'a'
+}
+
+#[test]
+fn a_real_file(rt: HostRuntime) -> Result<(), Fail> {
+    fs::write(&rt, "a_real_file.txt", "abc")?;
+    let mut files = HostFiles::new(rt, one(rt.alloc(), "a_real_file.txt")?);
+    let started = files.start("a_real_file.txt").is_ok();
+    let read = started && is_abc(&mut files);
+    fs::remove_file(&rt, "a_real_file.txt")?;
+    assert!(rt; read);
+    Ok(())
+}
+
+#[test]
+fn a_file_that_is_not_there(rt: HostRuntime) -> Result<(), Fail> {
+    let mut files = HostFiles::new(rt, one(rt.alloc(), "no_such_file.txt")?);
+    let missing = files.start("no_such_file.txt").err();
+    assert!(rt; missing == Some(FilesFault::Failed));
+    Ok(())
+}
+
+#[test]
+fn a_real_output(rt: HostRuntime) {
+    let mut out = HostSink::new(rt);
+    let written = write_all(&mut out, b"written\n").is_ok() && out.write(b"").is_ok();
+    assert!(rt; written);
+}
+
+// The file `f` of three bytes, whose calls of these numbers fail.
+fn failing_files(alloc: Global, calls: &[u64]) -> Result<MemFiles, Memory> {
+    let mut held = Rows::new(alloc);
+    held.push((
+        Text::from_slice(alloc, b"f")?,
+        Bytes::from_slice(alloc, b"abc")?,
+    ))?;
+    Ok(MemFiles::new(one(alloc, "f")?, held, numbers(alloc, calls)?))
+}
+
+// Whether a read of two bytes gives the count.
+fn reads<F: Files>(files: &mut F, wanted: Option<usize>) -> bool {
+    let mut buf = [0u8; 2];
+    files.read(&mut buf).ok() == wanted
+}
+
+#[test]
+fn starts_that_are_listed_fail(rt: HostRuntime) -> Result<(), Fail> {
+    let mut files = failing_files(rt.alloc(), &[0])?;
+    let started = !files.start("f").is_ok() && files.start("f").is_ok();
+    assert!(rt; started);
+    Ok(())
+}
+
+#[test]
+fn reads_that_are_listed_fail(rt: HostRuntime) -> Result<(), Fail> {
+    let mut files = failing_files(rt.alloc(), &[1])?;
+    let read = files.start("f").is_ok()
+        && reads(&mut files, None)
+        && reads(&mut files, Some(2))
+        && reads(&mut files, Some(1))
+        && reads(&mut files, Some(0));
+    assert!(rt; read);
+    Ok(())
+}
+
+// Whether three lines come to a sink whose second write fails, but for the second.
+fn is_second_lost(alloc: Global) -> Result<bool, Memory> {
+    let mut out = MemSink::new(alloc, numbers(alloc, &[1])?);
+    let first = write_all(&mut out, b"one\n").is_ok();
+    let second = write_all(&mut out, b"two\n").is_ok();
+    let third = write_all(&mut out, b"three\n").is_ok();
+    Ok(first && !second && third && out.as_slice() == b"one\nthree\n".as_slice())
+}
+
+#[test]
+fn writes_that_are_listed_fail(rt: HostRuntime) -> Result<(), Fail> {
+    assert!(rt; is_second_lost(rt.alloc())?);
+    Ok(())
+}
+
+#[test]
+fn an_honest_file(rt: HostRuntime) -> Result<(), Fail> {
+    let content = Bytes::from_slice(rt.alloc(), b"abc")?;
+    let mut files = HonestFiles::new(Text::from_slice(rt.alloc(), b"f")?, content);
+    let read = reads(&mut files, Some(2)) && reads(&mut files, Some(1));
+    assert!(rt; read);
+    Ok(())
+}
+
+fn is_honest(alloc: Global) -> bool {
+    let mut out = HonestSink::new(alloc);
+    out.write(b"ab").ok() == Some(2) && out.as_slice() == b"ab".as_slice()
+}
+
+#[test]
+fn an_honest_output(rt: HostRuntime) {
+    assert!(rt; is_honest(rt.alloc()));
+}
+
+// Takes one byte a write.
+#[derive(Drop)]
+struct SlowSink {
+    inner: MemSink,
+}
+
+impl Sink for SlowSink {
+    ghost written = { λ s. Some s.inner.bytes };
+
+    ghost faults = { λ s. s.inner.faults };
+
+    fn write(&mut self, bytes: &[u8]) -> Result<usize, SinkFault> {
+        let count = bytes.len().min(1);
+        self.inner.write(bytes.split_at(count).0)
+    }
+}
+
+fn is_written_slowly(alloc: Global) -> bool {
+    let inner = MemSink::new(alloc, Rows::new(alloc));
+    let mut out = SlowSink { inner };
+    let written = write_all(&mut out, b"one line\n").is_ok();
+    written && out.inner.as_slice() == b"one line\n".as_slice()
+}
+
+#[test]
+fn one_byte_a_write(rt: HostRuntime) {
+    assert!(rt; is_written_slowly(rt.alloc()));
+}

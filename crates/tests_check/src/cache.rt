@@ -1,0 +1,3 @@
+//! Tests of `mich_bodies`, by its public calls.
+#[cfg(test)]
+mod tests;

@@ -1,0 +1,130 @@
+// What the calls give with ample memory, by texts.
+use crate::support::{node, ty};
+use mich_base::{Memory, Node, Shared, Ty, size_within};
+use mich_check::CheckError;
+use mich_check::cache::{Bodies, Uses};
+use std::alloc::Global;
+use std::test::Fail;
+
+// What is looked up: the argument, the result, whether it is recursive, and the body.
+type Row = (&'static str, &'static str, bool, &'static str);
+
+const NONE_MORE: Row = ("int", "int", false, "{ PUSH int 0 ; ADD }");
+
+const ONE_MORE: Row = ("int", "int", false, "{ PUSH int 1 ; ADD }");
+
+// Looks a body up, and where it is typed once more.
+fn look_up(
+    alloc: Global,
+    bodies: &mut Bodies,
+    arg: &Ty,
+    ret: &Ty,
+    recursive: bool,
+    body: &Shared<Node>,
+) -> Result<Option<u32>, Fail> {
+    match body.get() {
+        Node::Seq(_) => {
+            if !size_within(body.get(), 10_000) {
+                return Err(Fail::from("too large"));
+            }
+            match bodies.checked(alloc, arg, ret, recursive, body) {
+                Ok(_) => {
+                    bodies.code(alloc, arg, ret, recursive, body)?;
+                    Ok(None)
+                }
+                Err(CheckError::IllTyped(location)) => Ok(Some(location)),
+                Err(CheckError::Memory) => Err(Fail::from(Memory)),
+            }
+        }
+        _ => Err(Fail::from("no sequence")),
+    }
+}
+
+// The location of the fault, if there is one.
+fn fault(alloc: Global, bodies: &mut Bodies, row: Row) -> Result<Option<u32>, Fail> {
+    let (arg, ret, recursive, body) = row;
+    let arg = ty(alloc, arg)?;
+    let ret = ty(alloc, ret)?;
+    let body = Shared::new(alloc, node(alloc, body)?)?;
+    look_up(alloc, bodies, &arg, &ret, recursive, &body)
+}
+
+// What was used once these were looked up, where each of them is typed.
+fn uses_after(alloc: Global, rows: &[Row]) -> Result<Uses, Fail> {
+    let mut bodies = Bodies::new(alloc)?;
+    for row in rows {
+        if fault(alloc, &mut bodies, *row)?.is_some() {
+            return Err(Fail::new(row.3));
+        }
+    }
+    Ok(bodies.uses())
+}
+
+#[test]
+fn no_body_was_used(rt: HostRuntime) -> Result<(), Fail> {
+    assert!(rt; uses_after(rt.alloc(), &[])? == Uses { hits: 0, misses: 0 });
+    Ok(())
+}
+
+#[test]
+fn a_body_is_found_again(rt: HostRuntime) -> Result<(), Fail> {
+    let uses = uses_after(rt.alloc(), &[ONE_MORE, ONE_MORE])?;
+    assert!(rt; uses == Uses { hits: 3, misses: 1 });
+    Ok(())
+}
+
+// Each of these differs from that before it in one part.
+const DIFFERENT: [Row; 5] = [
+    ("nat", "int", false, "{ FAILWITH }"),
+    ("int", "int", false, "{ FAILWITH }"),
+    ("int", "nat", false, "{ FAILWITH }"),
+    ("int", "nat", true, "{ FAILWITH }"),
+    ("int", "nat", true, "{ { FAILWITH } }"),
+];
+
+#[test]
+fn another_body_is_typed(rt: HostRuntime) -> Result<(), Fail> {
+    let uses = uses_after(rt.alloc(), &DIFFERENT)?;
+    assert!(rt; uses == Uses { hits: 5, misses: 5 });
+    Ok(())
+}
+
+const UNTYPED: Row = ("int", "int", false, "{ CAR }");
+
+#[test]
+fn a_body_with_a_fault_is_not_kept(rt: HostRuntime) -> Result<(), Fail> {
+    let mut bodies = Bodies::new(rt.alloc())?;
+    assert!(rt; fault(rt.alloc(), &mut bodies, UNTYPED)? == Some(1));
+    assert!(rt; fault(rt.alloc(), &mut bodies, UNTYPED)? == Some(1));
+    assert!(rt; bodies.uses() == Uses { hits: 0, misses: 2 });
+    Ok(())
+}
+
+// Looks 257 bodies up, each with another number in it.
+fn fill(alloc: Global, bodies: &mut Bodies) -> Result<(), Fail> {
+    let int = ty(alloc, "int")?;
+    for n in 0..257 {
+        let text = format!(in alloc; "{{ PUSH int {n} ; ADD }}")?;
+        let body = Shared::new(alloc, node(alloc, &text)?)?;
+        look_up(alloc, bodies, &int, &int, false, &body)?;
+    }
+    Ok(())
+}
+
+// How often a body was typed once these were, and then the second and the first of them again.
+fn misses(alloc: Global) -> Result<(u64, u64, u64), Fail> {
+    let mut bodies = Bodies::new(alloc)?;
+    fill(alloc, &mut bodies)?;
+    let filled = bodies.uses().misses;
+    fault(alloc, &mut bodies, ONE_MORE)?;
+    let second = bodies.uses().misses;
+    fault(alloc, &mut bodies, NONE_MORE)?;
+    Ok((filled, second, bodies.uses().misses))
+}
+
+// The first of them makes room for the last.
+#[test]
+fn the_body_that_was_used_first_goes(rt: HostRuntime) -> Result<(), Fail> {
+    assert!(rt; misses(rt.alloc())? == (257, 257, 258));
+    Ok(())
+}

@@ -1,0 +1,3 @@
+//! Tests of `mich_overload`, by its public calls.
+#[cfg(test)]
+mod tests;

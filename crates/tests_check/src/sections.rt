@@ -1,0 +1,3 @@
+//! Tests of `mich_sections`, by its public calls.
+#[cfg(test)]
+mod tests;

@@ -1,0 +1,3 @@
+//! Tests of `mich_types`, by its public calls.
+#[cfg(test)]
+mod tests;

@@ -1,5 +1,0 @@
-//! Tests of `mich_gas`, by its public calls.
-#![tactic(auto)]
-
-#[cfg(test)]
-mod tests;

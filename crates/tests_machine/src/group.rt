@@ -1,0 +1,7 @@
+//! Tests of `mich_group`, by its public calls.
+#[cfg(test)]
+mod course_tests;
+#[cfg(test)]
+mod statements;
+#[cfg(test)]
+mod tests;

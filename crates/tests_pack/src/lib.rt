@@ -1,5 +1,0 @@
-//! Tests of `mich_pack`, by its public calls.
-#![tactic(auto)]
-
-#[cfg(test)]
-mod tests;

@@ -1,0 +1,5 @@
+use Rattle.mich_bigmap.specs.Formed.{IsFormed}
+use Rattle.tests_world.proofs.bigmap.tests.filled.Given as goal
+
+abbrev pub invariant-numbers : goal.invariant-numbers
+invariant-numbers l = IsFormed l.m
