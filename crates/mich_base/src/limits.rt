@@ -1,4 +1,4 @@
-// The limits, as numbers: those of `rules_base`.
+// The limits, as numbers: those of `rules_text`.
 
 /// How many bytes a name may have, and an annotation behind its sign (this host's own).
 pub const NAME_LIMIT: usize = 255;

@@ -17,8 +17,6 @@ use mich_stack::{StepError, optional_value, past, put, split_top, two_on_top};
 use mich_term::Value;
 use std::alloc::Global;
 
-// The greatest amount of mutez.
-
 fn add_numbers(stack: &mut Rows<Value>) -> Result<(), StepError>
     requires { Fits (number_step i.add_numbers) stack.old }
     ensures { Keeps (number_step i.add_numbers) stack.old stack.new result }
