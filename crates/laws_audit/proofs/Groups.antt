@@ -33,7 +33,7 @@ part_read sort t h =
     ∙ ap (λ o. o >>= λ n. Some (part sort (identity t.issuer (node_of t.kind) (canonical t.content)) n ∷ [])) (amount_read t.amount h.1)
 
 change_read : (c : Change) → IsChange c → named change_by (change_node c) ≡ Some (change_part c ∷ [])
-change_read (changes.minted t) h = part_read minted t h
+change_read (changes.minted t) h = part_read minted t (h.0, h.1)
 change_read (changes.burnt t) h = part_read burnt t h
 
 -- ---- one after another

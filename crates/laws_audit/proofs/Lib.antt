@@ -6,3 +6,15 @@ pub mod Logs
 pub mod Supply
 pub mod Groups
 pub mod States
+pub mod Files
+pub mod FileLogs
+pub mod Written
+pub mod Identities
+pub mod Follows
+pub mod Totals
+pub mod Judged
+pub mod Runs
+pub mod Worlds
+pub mod Amounts
+pub mod Goods
+pub mod Plain

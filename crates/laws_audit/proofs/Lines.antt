@@ -37,7 +37,7 @@ notes_of [] h = tt
 notes_of (a ∷ ns) h = (note_is a (note_of a h.0), notes_of ns h.1)
 
 mutual
-  printable : (t : Tree) → HasTextForm t → IsPrintable t
+  pub printable : (t : Tree) → HasTextForm t → IsPrintable t
   printable (int n) h = number_is n (number_of n h)
   printable (str s) h = (each is_text s h.0, h.1)
   printable (bytes b) h = (each is_byte b h.0, h.1)
@@ -48,10 +48,14 @@ mutual
   all_printable none h = tt
   all_printable (more t ts) h = (printable t h.0, all_printable ts h.1)
 
-line_stands : (t : Tree) → IsPrintable t → Stands (printed t) t (length (printed t)) 0
+pub line_stands : (t : Tree) → IsPrintable t → Stands (printed t) t (length (printed t)) 0
 line_stands t h =
     let line = line_is t h in
     record { tokens = line.0; first = printed t; rest = []; begins = line_begins t h; leads = line.2; statement = line.1; start_is = refl; ends = refl }
+
+pub line_bare : (t : Tree) (h : IsPrintable t) → (line_stands t h).rest ≡ []
+unfolding line_stands
+line_bare t h = refl
 
 pub line_read : (t u : Tree) → HasTextForm t → Holds (printed t) u → u ≡ t
 line_read t u h g = (one_statement (printed t) u t g.start 0 (length (printed t)) 0 g.node.stands (line_stands t (printable t h))).0

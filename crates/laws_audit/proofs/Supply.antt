@@ -26,14 +26,14 @@ accounts_from : (k : ℕ) (xs : List (List ℕ × Account)) → fold (λ n a. n 
 accounts_from k [] = omega arith
 accounts_from k (x ∷ xs) = let e = accounts_from (k + x.1.balance) xs in e ∙ omega arith
 
-accounts_mutez : (xs : List (List ℕ × Account)) → all_mutez (map account_line xs) ≡ sum_by (λ a. a.balance) (values_of xs)
+pub accounts_mutez : (xs : List (List ℕ × Account)) → all_mutez (map account_line xs) ≡ sum_by (λ a. a.balance) (values_of xs)
 accounts_mutez xs = let e = accounts_from 0 xs in sym (e ∙ omega arith)
 
 contracts_from : (k : ℕ) (xs : List (List ℕ × Contract)) → fold (λ n c. n + c.balance) k (values_of xs) ≡ k + all_mutez (map contract_line xs)
 contracts_from k [] = omega arith
 contracts_from k (x ∷ xs) = let e = contracts_from (k + x.1.balance) xs in e ∙ omega arith
 
-contracts_mutez : (xs : List (List ℕ × Contract)) → all_mutez (map contract_line xs) ≡ sum_by (λ c. c.balance) (values_of xs)
+pub contracts_mutez : (xs : List (List ℕ × Contract)) → all_mutez (map contract_line xs) ≡ sum_by (λ c. c.balance) (values_of xs)
 contracts_mutez xs = let e = contracts_from 0 xs in sym (e ∙ omega arith)
 
 tickets_mutez : (w : World) (ids : List values.Identity) → all_mutez (map (ticket_line w) ids) ≡ 0

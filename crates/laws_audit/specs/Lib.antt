@@ -4,3 +4,14 @@ pub mod Changes
 pub mod ToldLines
 pub mod Receipts
 pub mod States
+pub mod Agreement
+pub mod FileLogs
+pub mod Written
+pub mod Identities
+pub mod Follows
+pub mod Totals
+pub mod Judged
+pub mod Runs
+pub mod Amounts
+pub mod Files
+pub mod Plain

@@ -14,6 +14,3 @@ mod tally;
 mod verdict;
 
 pub use verdict::{Verdict, audit};
-
-#[cfg(test)]
-mod tests;

@@ -1,3 +1,3 @@
-//! Tests of `mich_bodies`, by its public calls.
+//! Tests of the cache of typed bodies, of `mich_check`.
 #[cfg(test)]
 mod tests;

@@ -1,4 +1,4 @@
-//! Tests of `mich_check`, by its public calls.
+//! Tests of whole scripts, of `mich_check`.
 #[cfg(test)]
 mod tests;
 #[cfg(test)]

@@ -1,3 +1,3 @@
-//! Tests of `mich_sections`, by its public calls.
+//! Tests of the sections of scripts, of `mich_check`.
 #[cfg(test)]
 mod tests;

@@ -1,3 +1,3 @@
-//! Tests of `mich_arguments`, by its public calls.
+//! Tests of the literals of arguments, of `mich_literals`.
 #[cfg(test)]
 mod tests;

@@ -1,3 +1,3 @@
-//! Tests of `mich_unpack`, by its public calls.
+//! Tests of UNPACK, of `mich_literals`.
 #[cfg(test)]
 mod tests;

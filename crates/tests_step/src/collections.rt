@@ -1,3 +1,3 @@
-//! Tests of `mich_collections`, by its public calls.
+//! Tests of collections, of `mich_step`.
 #[cfg(test)]
 mod tests;

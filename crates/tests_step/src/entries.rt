@@ -1,3 +1,3 @@
-//! Tests of `mich_entries`, by its public calls.
+//! Tests of big maps, of `mich_store_steps`.
 #[cfg(test)]
 mod tests;

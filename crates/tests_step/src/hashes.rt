@@ -1,3 +1,3 @@
-//! Tests of `mich_hashes`, by its public calls.
+//! Tests of hashes, of `mich_store_steps`.
 #[cfg(test)]
 mod tests;

@@ -1,3 +1,3 @@
-//! Tests of `mich_prices`, by its public calls.
+//! Tests of the prices of steps, of `mich_step`.
 #[cfg(test)]
 mod tests;

@@ -2,6 +2,7 @@
 #![tactic(auto)]
 
 pub mod answers;
+pub mod audit;
 pub mod binary;
 pub mod reader;
 pub mod report;

@@ -129,6 +129,7 @@ module _ (e : Surroundings) (good : IsGood e) (m : Tally) where
             All-push IsChange m.changes (minted t) h.1 (
               contract_is e.environment.own good.environment.own,
               amount_is (pos (suc n)) (omega (arith, ints)) (nat_high (pos (suc n)) hn),
+              comparable_value w a content c f,
             ),
           );
         },

@@ -78,7 +78,7 @@ pub minted_positive : (id : Identity) (cs : List Change) → All IsChange cs →
 minted_positive id [] h = omega (arith, ints)
 minted_positive id (burnt t ∷ cs) h = minted_positive id cs (All-tail IsChange (burnt t) cs h)
 minted_positive id (minted t ∷ cs) h = sum_positive (amount_of id t) (minted_in id cs)
-    (of_positive id t (All-head IsChange (minted t) cs h)) (minted_positive id cs (All-tail IsChange (minted t) cs h))
+    (of_positive id t ((All-head IsChange (minted t) cs h).0, (All-head IsChange (minted t) cs h).1)) (minted_positive id cs (All-tail IsChange (minted t) cs h))
 
 -- ---- the tickets in a value that fits
 

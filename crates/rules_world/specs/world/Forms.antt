@@ -10,6 +10,7 @@ use Rattle.rules_text.specs.nodes.Tree.{Tree, size}
 use Rattle.rules_data.specs.forms.Spelling.{is_chain_id, is_key_hash, is_contract, is_entrypoint, is_place}
 use Rattle.rules_data.specs.values.Forms.{is_ticket_amount}
 use Rattle.rules_data.specs.values.Tickets.{Identity, Held}
+use Rattle.rules_data.specs.values.Val.{is_comparable}
 use Rattle.rules_code.specs.steps.Changes.{Change, minted, burnt}
 use Rattle.rules_code.specs.evaluation.Surroundings.{Contract}
 use Rattle.rules_world.specs.world.Contents.{Action, Originate, Call, Give, Content}
@@ -31,12 +32,12 @@ IsAccount a = (is_key_hash a.0 ≡ true) × All IsHolding a.1.holdings × IsStri
 abbrev pub IsTwentyBytes : List ℕ × Contract → Type 0
 IsTwentyBytes c = length c.0 ≡ 20
 
--- what was minted or burnt has a place as its issuer, and a positive amount
+-- what was minted or burnt has a place as its issuer, and a positive amount; and what was minted has a comparable content
 abbrev pub IsTicket : Held → Type 0
 IsTicket t = (is_place t.issuer ≡ true) × (is_ticket_amount t.amount ≡ true)
 
 abbrev pub IsChange : Change → Type 0
-IsChange (minted t) = IsTicket t
+IsChange (minted t) = (is_place t.issuer ≡ true) × (is_ticket_amount t.amount ≡ true) × (is_comparable t.content ≡ true)
 IsChange (burnt t) = IsTicket t
 
 -- each part has its form, and accounts and contracts stand once, in the order of their bytes

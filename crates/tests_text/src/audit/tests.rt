@@ -1,5 +1,4 @@
-// Verdicts on printed runs.
-use crate::{Verdict, audit};
+use mich_audit::{Verdict, audit};
 use mich_base::Memory;
 use std::alloc::Global;
 use std::test::Fail;

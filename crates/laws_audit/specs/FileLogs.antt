@@ -1,0 +1,15 @@
+-- The log of a whole file.
+use Rattle.std.specs.Prelude.{◌≡◌, ◌++◌, ℕ, List, [], ◌∷◌}
+use Rattle.rules_code.specs.steps.Changes.{Change}
+use Rattle.rules_world.specs.world.Receipts.{Receipt}
+use Rattle.rules_world.specs.world.World.{World}
+use Rattle.rules_files.specs.commands.Replay.{Replay, State, IsReplay}
+use Rattle.laws_audit.specs.Changes.{receipt_changes}
+
+abbrev pub receipts_changes : List Receipt → List Change
+receipts_changes [] = []
+receipts_changes (r ∷ rs) = receipt_changes r ++ receipts_changes rs
+
+-- the log of the world at a file's end is what its receipts tell, in their order, and nothing else
+abbrev pub FilesTellChanges : Type 0
+FilesTellChanges = (file : List ℕ) (done : Replay) (w : World) → IsReplay file done → done.ending ≡ State w → w.log ≡ receipts_changes done.receipts

@@ -1,0 +1,3 @@
+//! Verdicts on printed runs.
+#[cfg(test)]
+mod tests;
