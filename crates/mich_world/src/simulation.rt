@@ -1,4 +1,4 @@
-//! Laws: a world that stands for one of the definitions stands for the next one after each call, and a good world gives the calls
+//! Lemmas: a world that stands for one of the definitions stands for the next one after each call, and a good world gives the calls
 //! what they ask.
 mod agreeing;
 mod running;
