@@ -42,6 +42,10 @@ AreEnds small a r at (Err error.Memory) = Unit {0}
 abbrev pub code_is_small : Kind → Kind → Bool
 code_is_small p s = is_small (pair p s) && is_small (pair (list operation) s)
 
+-- what the code of a script begins and ends with; or a fault at this location
+abbrev pub AreCodeEnds : Kind → Kind → ℕ → Result Ends CheckError → Type 0
+AreCodeEnds p s at result = AreEnds (code_is_small p s) (pair p s) (pair (list operation) s) at result
+
 -- a body without this fault has this code, from one type to another; else this is its fault
 abbrev pub IsBodyOf : Option ℕ → Context → Tree → Kind → Kind → Result (List Instr) CheckError → Type 0
 IsBodyOf f c t a r (Ok is) = (f ≡ None) × (t ≡ seq (inside t)) × AreCode c (inside t) (codes is) (a ∷ []) (r ∷ [])

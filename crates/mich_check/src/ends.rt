@@ -3,7 +3,7 @@ ghost use Rattle.std.specs.Prelude.{◌≡◌, IfOk};
 ghost use Rattle.rules_data.specs.types.Kind.{list, operation, pair};
 ghost use Rattle.rules_code.specs.typing.Scripts.{is_small};
 ghost use Rattle.mich_base.specs.TypeView.{kind};
-ghost use Rattle.mich_check.specs.Scripts.{AreEnds, code_is_small};
+ghost use Rattle.mich_check.specs.Scripts.{AreCodeEnds, AreEnds};
 
 use mich_base::{Link, Memory, Ty, copy_type};
 use mich_control::{CheckError, pair_of};
@@ -30,7 +30,7 @@ pub(crate) fn code_ends(
     storage: &Ty,
     at: u32,
 ) -> Result<Ends, CheckError>
-    ensures { AreEnds (code_is_small (kind parameter.now) (kind storage.now)) (pair (kind parameter.now) (kind storage.now)) (pair (list operation) (kind storage.now)) at result }
+    ensures { AreCodeEnds (kind parameter.now) (kind storage.now) at result }
 {
     let begins = pair_of(alloc, parameter, storage)?;
     let operations = operations(alloc)?;

@@ -5,7 +5,7 @@ ghost use Rattle.rules_text.specs.nodes.Primitives.{primitive_of_name};
 ghost use Rattle.rules_code.specs.instructions.Forms as f;
 ghost use Rattle.rules_code.specs.instructions.Forms.{form_of};
 ghost use Rattle.rules_code.specs.typing.Typing.{shift};
-ghost use Rattle.rules_code.specs.typing.Nodes.{body, tree_type, trees_type};
+ghost use Rattle.rules_code.specs.typing.Nodes.{body, trees_type};
 ghost use Rattle.rules_code.specs.typing.Literals.{fault_of_bodies};
 ghost use Rattle.mich_base.specs.TypeView.{kind};
 ghost use Rattle.mich_base.specs.View.{tree, trees};
@@ -14,7 +14,7 @@ ghost use Rattle.mich_overload.specs.View.{kinds};
 ghost use Rattle.mich_instr.specs.Typed.{lambda_form};
 ghost use Rattle.mich_check.specs.Pending.{IsFaulty, called_fault, item_fault, moved, reach};
 ghost use Rattle.mich_control.specs.View.{branch_form, context, loop_form};
-ghost use Rattle.mich_control.specs.Answers.{IsBlock, IsBody, IsInstr};
+ghost use Rattle.mich_control.specs.Answers.{IsBlock, IsBody, IsInstrAt};
 
 use crate::literals::read_literal;
 use crate::scripts::check_create;
@@ -89,7 +89,7 @@ pub(crate) fn check_node(
     types: Rows<Ty>,
 ) -> Result<Made, CheckError>
     requires { at + size (tree node.now) < 2 ^ 32 }
-    ensures { IsInstr (context place.entry) (tree node.now) (kinds types) (shift at (tree_type (tree node.now) (context place.entry) (kinds types))) result }
+    ensures { IsInstrAt at (context place.entry) (tree node.now) (kinds types) result }
 {
     match node {
         Node::Prim(app) => check_app(alloc, app, at, place, types),
@@ -113,7 +113,7 @@ fn check_app(
     types: Rows<Ty>,
 ) -> Result<Made, CheckError>
     requires { at + sizes (trees app.now.args) + 1 < 2 ^ 32 }
-    ensures { IsInstr (context place.entry) (prim app.now.name app.now.annots (trees app.now.args)) (kinds types) (shift at (tree_type (prim app.now.name app.now.annots (trees app.now.args)) (context place.entry) (kinds types))) result }
+    ensures { IsInstrAt at (context place.entry) (prim app.now.name app.now.annots (trees app.now.args)) (kinds types) result }
 {
     match form_of_name(&app.name) {
         Form::Straight => check_straight(alloc, app, at, place, types),
@@ -142,7 +142,7 @@ fn check_branch(
 ) -> Result<Made, CheckError>
     requires fits { at + sizes (trees app.now.args) + 1 < 2 ^ 32 }
     requires form { form_of (primitive_of_name app.now.name) ≡ branch_form branch }
-    ensures { IsInstr (context place.entry) (prim app.now.name app.now.annots (trees app.now.args)) (kinds types) (shift at (tree_type (prim app.now.name app.now.annots (trees app.now.args)) (context place.entry) (kinds types))) result }
+    ensures { IsInstrAt at (context place.entry) (prim app.now.name app.now.annots (trees app.now.args)) (kinds types) result }
 {
     let Some((one, other)) = app.args.both() else {
         return Err(CheckError::IllTyped(at));
@@ -170,7 +170,7 @@ fn check_loop(
 ) -> Result<Made, CheckError>
     requires fits { at + sizes (trees app.now.args) + 1 < 2 ^ 32 }
     requires form { form_of (primitive_of_name app.now.name) ≡ loop_form turns }
-    ensures { IsInstr (context place.entry) (prim app.now.name app.now.annots (trees app.now.args)) (kinds types) (shift at (tree_type (prim app.now.name app.now.annots (trees app.now.args)) (context place.entry) (kinds types))) result }
+    ensures { IsInstrAt at (context place.entry) (prim app.now.name app.now.annots (trees app.now.args)) (kinds types) result }
 {
     let Some(node) = app.args.only() else {
         return Err(CheckError::IllTyped(at));
@@ -199,7 +199,7 @@ fn check_dip(
 ) -> Result<Made, CheckError>
     requires fits { at + sizes (trees app.now.args) + 1 < 2 ^ 32 }
     requires form { form_of (primitive_of_name app.now.name) ≡ f.dip }
-    ensures { IsInstr (context place.entry) (prim app.now.name app.now.annots (trees app.now.args)) (kinds types) (shift at (tree_type (prim app.now.name app.now.annots (trees app.now.args)) (context place.entry) (kinds types))) result }
+    ensures { IsInstrAt at (context place.entry) (prim app.now.name app.now.annots (trees app.now.args)) (kinds types) result }
 {
     let dip = dip_parts(&app.args, at)?;
     let Some((upper, lower)) = split_stack(types, counted(dip.count))? else {
@@ -219,7 +219,7 @@ fn check_map(
 ) -> Result<Made, CheckError>
     requires fits { at + sizes (trees app.now.args) + 1 < 2 ^ 32 }
     requires form { form_of (primitive_of_name app.now.name) ≡ f.map }
-    ensures { IsInstr (context place.entry) (prim app.now.name app.now.annots (trees app.now.args)) (kinds types) (shift at (tree_type (prim app.now.name app.now.annots (trees app.now.args)) (context place.entry) (kinds types))) result }
+    ensures { IsInstrAt at (context place.entry) (prim app.now.name app.now.annots (trees app.now.args)) (kinds types) result }
 {
     let Some(node) = app.args.only() else {
         return Err(CheckError::IllTyped(at));
@@ -243,7 +243,7 @@ fn check_lambda(
 ) -> Result<Made, CheckError>
     requires fits { at + sizes (trees app.now.args) + 1 < 2 ^ 32 }
     requires form { form_of (primitive_of_name app.now.name) ≡ lambda_form recursive }
-    ensures { IsInstr (context _place.entry) (prim app.now.name app.now.annots (trees app.now.args)) (kinds types) (shift at (tree_type (prim app.now.name app.now.annots (trees app.now.args)) (context _place.entry) (kinds types))) result }
+    ensures { IsInstrAt at (context _place.entry) (prim app.now.name app.now.annots (trees app.now.args)) (kinds types) result }
 {
     let Some((first, second, node)) = app.args.three() else {
         return Err(CheckError::IllTyped(at));
@@ -273,7 +273,7 @@ fn check_push(
 ) -> Result<Made, CheckError>
     requires fits { at + sizes (trees app.now.args) + 1 < 2 ^ 32 }
     requires form { form_of (primitive_of_name app.now.name) ≡ f.push }
-    ensures { IsInstr (context _place.entry) (prim app.now.name app.now.annots (trees app.now.args)) (kinds types) (shift at (tree_type (prim app.now.name app.now.annots (trees app.now.args)) (context _place.entry) (kinds types))) result }
+    ensures { IsInstrAt at (context _place.entry) (prim app.now.name app.now.annots (trees app.now.args)) (kinds types) result }
 {
     let Some((written, literal)) = app.args.both() else {
         return Err(CheckError::IllTyped(at));

@@ -4,8 +4,6 @@ ghost use Rattle.rules_text.specs.nodes.Tree.{prim, size, sizes};
 ghost use Rattle.rules_text.specs.nodes.Primitives.{primitive_of_name};
 ghost use Rattle.rules_code.specs.instructions.Forms as f;
 ghost use Rattle.rules_code.specs.instructions.Forms.{form_of};
-ghost use Rattle.rules_code.specs.typing.Typing.{shift};
-ghost use Rattle.rules_code.specs.typing.Nodes.{tree_type};
 ghost use Rattle.mich_base.specs.TypeView.{kind};
 ghost use Rattle.mich_base.specs.View.{tree, trees};
 ghost use Rattle.mich_overload.specs.View.{kinds};
@@ -13,7 +11,7 @@ ghost use Rattle.mich_check.specs.sections.Outlines.{outline_at};
 ghost use Rattle.mich_check.specs.sections.View.{body_of, outline_of, view_of};
 ghost use Rattle.mich_instr.specs.View.{codes, script_code, view_code, view_codes};
 ghost use Rattle.mich_control.specs.View.{context};
-ghost use Rattle.mich_control.specs.Answers.{IsFound, IsInstr};
+ghost use Rattle.mich_control.specs.Answers.{IsFound, IsInstrAt};
 ghost use Rattle.mich_check.specs.Scripts.{AreTypedViews, IsScriptCode, IsTyped, IsTypedAt, IsView, IsWhole, script_made, view_made};
 
 use crate::creating::{origination, stack_behind};
@@ -167,7 +165,7 @@ pub(crate) fn check_create(
 ) -> Result<Made, CheckError>
     requires fits { at + sizes (trees app.now.args) + 1 < 2 ^ 32 }
     requires form { form_of (primitive_of_name app.now.name) ≡ f.create_contract }
-    ensures { IsInstr (context place.entry) (prim app.now.name app.now.annots (trees app.now.args)) (kinds types) (shift at (tree_type (prim app.now.name app.now.annots (trees app.now.args)) (context place.entry) (kinds types))) result }
+    ensures { IsInstrAt at (context place.entry) (prim app.now.name app.now.annots (trees app.now.args)) (kinds types) result }
 {
     if is_view(place) {
         return Err(CheckError::IllTyped(at));

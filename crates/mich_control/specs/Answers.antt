@@ -1,5 +1,5 @@
 -- What the answers of the calls say.
-use Rattle.std.specs.Prelude.{◌≡◌, Bool, true, List, [], ◌∷◌, Option, Some, None, Result, Ok, Err}
+use Rattle.std.specs.Prelude.{◌≡◌, ℕ, Bool, true, List, [], ◌∷◌, Option, Some, None, Result, Ok, Err}
 use Rattle.rules_text.specs.nodes.Tree.{Tree, seq, Trees, none}
 use Rattle.rules_data.specs.types.Kind.{Kind}
 use Rattle.rules_code.specs.instructions.Arguments.{Found, found, fault}
@@ -8,7 +8,8 @@ use Rattle.rules_code.specs.instructions.Context.{Context, lambda}
 use Rattle.rules_code.specs.instructions.Control.{call_kinds}
 use Rattle.rules_code.specs.typing.Literals.{lambda_fault}
 use Rattle.mich_instr.specs.declared.instr.Instr.{Instr}
-use Rattle.rules_code.specs.typing.Typing.{Typing, goes, fails, bad}
+use Rattle.rules_code.specs.typing.Typing.{Typing, goes, fails, bad, shift}
+use Rattle.rules_code.specs.typing.Nodes.{tree_type}
 use Rattle.mich_base.specs.declared.ty.Ty.{Ty}
 use Rattle.mich_overload.specs.View.{kinds}
 use Rattle.mich_instr.specs.View.{code, codes}
@@ -57,6 +58,10 @@ IsAfter T (Err e) = IsFault T e
 abbrev pub IsInstr : Context → Tree → List Kind → Typing → Result Made CheckError → Type 0
 IsInstr c t A T (Ok m) = (T ≡ typing m.after) × Leads (λ B. IsCode c t (code m.instr) A B) m.after
 IsInstr c t A T (Err e) = IsFault T e
+
+-- so the typing of a node at a location
+abbrev pub IsInstrAt : ℕ → Context → Tree → List Kind → Result Made CheckError → Type 0
+IsInstrAt at c t A r = IsInstr c t A (shift at (tree_type t c A)) r
 
 -- the typing of a block gives this code
 abbrev pub IsBlock : Context → Trees → List Kind → Typing → Result Body CheckError → Type 0

@@ -11,6 +11,7 @@ use Rattle.mich_base.specs.declared.ty.Ty.{Ty}
 use Rattle.mich_base.specs.TypeView.{kind}
 use Rattle.mich_overload.specs.View.{kinds}
 use Rattle.mich_instr.specs.Code as c
+use Rattle.mich_instr.specs.Code.{Code, Codes}
 use Rattle.mich_instr.specs.Plain.{bare}
 use Rattle.mich_instr.specs.View.{code, codes}
 use Rattle.mich_control.specs.declared.arrows.Arrow.{Arrow as CodeArrow}
@@ -45,8 +46,16 @@ IsBegun at recursive a r (Err error.Memory) = Unit {0}
 abbrev pub ended : ℕ → Body → Kind → Kind → List Kind → Typing
 ended at b a r S = shift at (ends (typing b.after) (r ∷ []) (made (lambda a r) S))
 
+-- LAMBDA or LAMBDA_REC with its types as they are written, without annotations, and its body
+abbrev pub lambda_code : Bool → Tree → Tree → Tree → CodeArrow → Codes → Code
+lambda_code recursive t u w x ks = c.lambda recursive (kind x.arg) (kind x.ret) (more (bare t) (more (bare u) none)) w ks
+
 -- the types as they are written, without annotations, and the body, of which this is made
 abbrev pub IsLambdaMade : ℕ → Bool → Tree → Tree → Tree → Kind → Kind → List Kind → Body → Result Made CheckError → Type 0
 IsLambdaMade at recursive t u w a r S b (Ok m) =
     (ended at b a r S ≡ typing m.after) × (code m.instr ≡ c.lambda recursive a r (more (bare t) (more (bare u) none)) w (codes b.code))
 IsLambdaMade at recursive t u w a r S b (Err e) = IsFault (ended at b a r S) e
+
+-- so between these types
+abbrev pub IsLambdaFrom : CodeArrow → ℕ → Bool → Tree → Tree → Tree → List Kind → Body → Result Made CheckError → Type 0
+IsLambdaFrom x at recursive t u w S b result = IsLambdaMade at recursive t u w (kind x.arg) (kind x.ret) S b result

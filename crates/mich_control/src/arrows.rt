@@ -6,11 +6,10 @@ ghost use Rattle.mich_base.specs.TypeView.{kind};
 ghost use Rattle.mich_base.specs.View.{tree, trees};
 ghost use Rattle.mich_overload.specs.View.{kinds};
 ghost use Rattle.mich_stackrules.specs.Answers.{found_from};
-ghost use Rattle.mich_instr.specs.Code as made;
 ghost use Rattle.mich_instr.specs.Plain.{bare};
 ghost use Rattle.mich_instr.specs.View.{code, codes};
 ghost use Rattle.mich_control.specs.Answers.{IsFound};
-ghost use Rattle.mich_control.specs.Arrows.{IsBegun, IsLambdaMade, arrow_in, arrow_of};
+ghost use Rattle.mich_control.specs.Arrows.{IsBegun, IsLambdaFrom, arrow_in, arrow_of, lambda_code};
 
 use crate::bodiless::lambda_of;
 use crate::error::CheckError;
@@ -92,7 +91,7 @@ fn lambda_instr(
     arrow: Arrow,
     block: Block,
 ) -> Result<Instr, Memory>
-    ensures { IfOk result (λ i. code i ≡ made.lambda recursive (kind arrow.arg) (kind arrow.ret) (more (bare (tree written.entry.0.now)) (more (bare (tree written.entry.1.now)) none)) (tree written.entry.2.now) (codes block)) }
+    ensures { IfOk result (λ i. code i ≡ lambda_code recursive (tree written.entry.0.now) (tree written.entry.1.now) (tree written.entry.2.now) arrow (codes block)) }
 {
     let types = types_written(alloc, written.0, written.1)?;
     let body = Shared::new(alloc, copy_node(alloc, written.2)?)?;
@@ -118,7 +117,7 @@ pub fn lambda_made(
     types: Rows<Ty>,
     at: u32,
 ) -> Result<Made, CheckError>
-    ensures { IsLambdaMade at recursive (tree written.entry.0.now) (tree written.entry.1.now) (tree written.entry.2.now) (kind arrow.arg) (kind arrow.ret) (kinds types) body result }
+    ensures { IsLambdaFrom arrow at recursive (tree written.entry.0.now) (tree written.entry.1.now) (tree written.entry.2.now) (kinds types) body result }
 {
     let ends = only(alloc, &arrow.ret)?;
     if !ends_in(&body.after, &ends) {

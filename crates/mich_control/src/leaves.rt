@@ -2,13 +2,11 @@
 ghost use Rattle.std.specs.Prelude.{◌≡◌, ◌+◌, ◌<◌, ◌^◌};
 ghost use Rattle.rules_text.specs.nodes.Tree.{prim, sizes};
 ghost use Rattle.rules_code.specs.instructions.Forms as f;
-ghost use Rattle.rules_code.specs.typing.Typing.{shift};
-ghost use Rattle.rules_code.specs.typing.Nodes.{tree_type};
 ghost use Rattle.mich_base.specs.View.{trees};
 ghost use Rattle.mich_overload.specs.View.{kinds};
 ghost use Rattle.mich_instr.specs.Typed.{HasForm};
 ghost use Rattle.mich_control.specs.View.{bodiless_form, context};
-ghost use Rattle.mich_control.specs.Answers.{IsInstr};
+ghost use Rattle.mich_control.specs.Answers.{IsInstrAt};
 
 use crate::bodiless::bodiless_instr;
 use crate::error::CheckError;
@@ -32,7 +30,7 @@ pub fn check_straight(
 ) -> Result<Made, CheckError>
     requires fits { at + sizes (trees app.now.args) + 1 < 2 ^ 32 }
     requires form { HasForm f.straight app.now.name }
-    ensures { IsInstr (context _place.entry) (prim app.now.name app.now.annots (trees app.now.args)) (kinds types) (shift at (tree_type (prim app.now.name app.now.annots (trees app.now.args)) (context _place.entry) (kinds types))) result }
+    ensures { IsInstrAt at (context _place.entry) (prim app.now.name app.now.annots (trees app.now.args)) (kinds types) result }
 {
     let written = plain_app(alloc, app)?;
     match rule_at(alloc, app, at, types) {
@@ -56,7 +54,7 @@ pub fn check_transfer(
 ) -> Result<Made, CheckError>
     requires fits { at + sizes (trees app.now.args) + 1 < 2 ^ 32 }
     requires form { HasForm f.transfer app.now.name }
-    ensures { IsInstr (context place.entry) (prim app.now.name app.now.annots (trees app.now.args)) (kinds types) (shift at (tree_type (prim app.now.name app.now.annots (trees app.now.args)) (context place.entry) (kinds types))) result }
+    ensures { IsInstrAt at (context place.entry) (prim app.now.name app.now.annots (trees app.now.args)) (kinds types) result }
 {
     if is_view(place) {
         return Err(CheckError::IllTyped(at));
@@ -83,7 +81,7 @@ pub fn check_bodiless(
     types: Rows<Ty>,
 ) -> Result<Made, CheckError>
     requires { HasForm (bodiless_form bodiless) app.now.name }
-    ensures { IsInstr (context _place.entry) (prim app.now.name app.now.annots (trees app.now.args)) (kinds types) (shift at (tree_type (prim app.now.name app.now.annots (trees app.now.args)) (context _place.entry) (kinds types))) result }
+    ensures { IsInstrAt at (context _place.entry) (prim app.now.name app.now.annots (trees app.now.args)) (kinds types) result }
 {
     if !app.args.is_empty() {
         return Err(CheckError::IllTyped(at));

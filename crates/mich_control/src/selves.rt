@@ -4,8 +4,6 @@ ghost use Rattle.rules_text.specs.nodes.Tree.{prim};
 ghost use Rattle.rules_data.specs.types.Kind.{contract};
 ghost use Rattle.rules_code.specs.instructions.Control.{self_of};
 ghost use Rattle.rules_code.specs.instructions.Forms as f;
-ghost use Rattle.rules_code.specs.typing.Typing.{shift};
-ghost use Rattle.rules_code.specs.typing.Nodes.{tree_type};
 ghost use Rattle.mich_base.specs.TypeView.{kind};
 ghost use Rattle.mich_base.specs.View.{trees};
 ghost use Rattle.mich_types.specs.Entered.{entry_of};
@@ -14,7 +12,7 @@ ghost use Rattle.mich_stackrules.specs.Answers.{found_from};
 ghost use Rattle.mich_instr.specs.Typed.{HasForm};
 ghost use Rattle.mich_control.specs.Begun.{entry_in};
 ghost use Rattle.mich_control.specs.View.{context};
-ghost use Rattle.mich_control.specs.Answers.{IsFound, IsInstr};
+ghost use Rattle.mich_control.specs.Answers.{IsFound, IsInstrAt};
 
 use crate::error::CheckError;
 use crate::made::Made;
@@ -66,7 +64,7 @@ pub fn check_self(
     types: Rows<Ty>,
 ) -> Result<Made, CheckError>
     requires { HasForm f.self app.now.name }
-    ensures { IsInstr (context place.entry) (prim app.now.name app.now.annots (trees app.now.args)) (kinds types) (shift at (tree_type (prim app.now.name app.now.annots (trees app.now.args)) (context place.entry) (kinds types))) result }
+    ensures { IsInstrAt at (context place.entry) (prim app.now.name app.now.annots (trees app.now.args)) (kinds types) result }
 {
     let entrypoint = self_name(app, at)?;
     let Some(entry) = named_entry(place, &entrypoint) else {

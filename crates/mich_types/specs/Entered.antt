@@ -1,8 +1,9 @@
 -- What the answers of the calls on parameters say.
-use Rattle.std.specs.Prelude.{ℕ, ◌≡◌, List, [], map, Result, Ok, Err}
-use Rattle.rules_text.specs.nodes.Tree.{Tree, prim, none, more}
+use Rattle.std.specs.Prelude.{ℕ, ◌+◌, ◌≡◌, Bool, List, [], ◌∷◌, map, Result, Ok, Err}
+use Rattle.rules_text.specs.nodes.Tree.{Tree, prim, none, more, size}
 use Rattle.rules_data.specs.types.Kind.{Kind}
 use Rattle.rules_data.specs.types.Kind as k
+use Rattle.rules_data.specs.types.Reading.{type_at}
 use Rattle.rules_data.specs.types.Entrypoints as rules
 use Rattle.mich_base.specs.TypeView.{kind}
 use Rattle.mich_types.specs.declared.parameter.Entry.{Entry}
@@ -39,6 +40,14 @@ abbrev pub IsParameter : rules.Parameter → Result Parameter TypeError → Type
 IsParameter r (Ok p) = r ≡ rules.a_parameter (kind p.ty) (map entry_of p.entries)
 IsParameter r (Err e) = IsParameterFault r e
 
+-- a section whose type is a node, behind its annotations
+abbrev pub IsSectionOf : Tree → List (List ℕ) → Tree → Type 0
+IsSectionOf t annots u = (rules.parameter t ≡ rules.of_reading annots u (type_at 1 u)) × (size t ≡ 1 + size u)
+
+-- these entrypoints, then that of a branch and those below it
+abbrev pub with_all_of : List rules.Entry → ℕ → Tree → List Bool → Kind → rules.Entries
+with_all_of es at t path a = rules.with_branches es (rules.branch at t path a ∷ rules.below a at t path)
+
 -- a type that is no `or`
 abbrev pub IsNoOr : Kind → Type 0
 IsNoOr (k.or a b) = ⊥
@@ -52,3 +61,7 @@ HasNoTwo _ = Unit {0}
 abbrev pub name_of : Tree → List ℕ
 name_of (prim name annots args) = name
 name_of _ = []
+
+-- an application to two arguments
+abbrev pub IsOfTwo : Tree → Tree → Tree → Type 0
+IsOfTwo t a b = t ≡ prim (name_of t) (rules.annotations t) (more a (more b none))

@@ -1,12 +1,11 @@
 // Parameters and their entrypoints.
-ghost use Rattle.std.specs.Prelude.{◌≡◌, ℕ, ◌+◌, ◌<◌, ◌^◌, [], ◌∷◌, ◌++◌, Bool, false, true, Some, map, IfOk, MatchOption, option_map};
-ghost use Rattle.rules_text.specs.nodes.Tree.{more, none, prim, size};
+ghost use Rattle.std.specs.Prelude.{◌≡◌, ◌+◌, ◌<◌, ◌^◌, [], ◌∷◌, ◌++◌, map, IfOk, MatchOption, option_map};
+ghost use Rattle.rules_text.specs.nodes.Tree.{size};
 ghost use Rattle.rules_data.specs.types.Kind.{or};
-ghost use Rattle.rules_data.specs.types.Reading.{type_at};
-ghost use Rattle.rules_data.specs.types.Entrypoints.{annotations, below, branch, bad_parameter, entries_of, find_entry, of_reading, parameter, field_name, root_by, with_branch, with_branches, with_default, with_name};
+ghost use Rattle.rules_data.specs.types.Entrypoints.{below, bad_parameter, entries_of, find_entry, parameter, field_name, root_by, with_branch, with_branches, with_default, with_name};
 ghost use Rattle.mich_base.specs.View.{tree};
 ghost use Rattle.mich_base.specs.TypeView.{kind};
-ghost use Rattle.mich_types.specs.Entered.{HasNoTwo, IsEntered, IsEntries, IsNoOr, IsParameter, entry_of, name_of};
+ghost use Rattle.mich_types.specs.Entered.{HasNoTwo, IsEntered, IsEntries, IsNoOr, IsOfTwo, IsParameter, IsSectionOf, entry_of, with_all_of};
 
 use crate::annotations::{behind, field_name, node_name};
 use crate::attributes::passable;
@@ -61,7 +60,7 @@ pub fn read_parameter(alloc: Global, section: &Node) -> Result<Parameter, TypeEr
 
 // The annotations and the type of a section `parameter t`.
 fn section_parts(section: &Node) -> Option<(&Texts, &Node)>
-    ensures { MatchOption result (parameter (tree section.now) ≡ bad_parameter 0) (λ p. (parameter (tree section.now) ≡ of_reading p.0.now (tree p.1.now) (type_at 1 (tree p.1.now))) × (size (tree section.now) ≡ 1 + size (tree p.1.now))) }
+    ensures { MatchOption result (parameter (tree section.now) ≡ bad_parameter 0) (λ p. IsSectionOf (tree section.now) p.0.now (tree p.1.now)) }
 {
     let Node::Prim(app) = section else {
         return None;
@@ -187,7 +186,7 @@ fn add_branch(
     path: &Rows<bool>,
 ) -> Result<(), TypeError>
     requires { at + size (tree node.now) < 2 ^ 32 }
-    ensures { IsEntered (with_branches (map entry_of entries.old) (branch at (tree node.now) path.now (kind ty.now) ∷ below (kind ty.now) at (tree node.now) path.now)) entries.new result }
+    ensures { IsEntered (with_all_of (map entry_of entries.old) at (tree node.now) path.now (kind ty.now)) entries.new result }
 {
     if let Some(name) = node_name(node) {
         add_entry(alloc, entries, name, at, path, ty)?;
@@ -240,7 +239,7 @@ fn or_parts(ty: &Ty) -> Option<(&Ty, &Ty)>
 
 // The arguments of an application with two.
 fn two_arguments(node: &Node) -> Option<(&Node, &Node)>
-    ensures { MatchOption result (HasNoTwo (tree node.now)) (λ p. tree node.now ≡ prim (name_of (tree node.now)) (annotations (tree node.now)) (more (tree p.0.now) (more (tree p.1.now) none))) }
+    ensures { MatchOption result (HasNoTwo (tree node.now)) (λ p. IsOfTwo (tree node.now) (tree p.0.now) (tree p.1.now)) }
 {
     match node {
         Node::Prim(app) => app.args.both(),

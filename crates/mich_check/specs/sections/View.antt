@@ -1,7 +1,8 @@
 -- What the parts of a script in the code stand for.
-use Rattle.std.specs.Prelude.{map, Option, Some, None, option_map}
+use Rattle.std.specs.Prelude.{ℕ, ◌+◌, List, map, Option, Some, None, option_map}
 use Rattle.rules_text.specs.declared.nodes.Primitive.{Primitive}
 use Rattle.rules_text.specs.declared.nodes.Primitive.TheVariants as p
+use Rattle.rules_text.specs.nodes.Tree.{Tree, size}
 use Rattle.rules_code.specs.typing.Nodes.{body}
 use Rattle.rules_code.specs.typing.Scripts as scripts
 use Rattle.rules_code.specs.typing.Sections as rules
@@ -35,6 +36,10 @@ body_of b = rules.a_body b.at (tree b.node.now) (body (tree b.node.now) b.at)
 
 abbrev pub written_of : WrittenView → rules.WrittenView
 written_of v = record { name = v.name.now; input = placed_of v.input; output = placed_of v.output; body = body_of v.body }
+
+-- a view, if that is a name of one, whose body is typed where it stands
+abbrev pub whole_view : ℕ → List ℕ → Tree → Tree → Tree → rules.Content
+whole_view at name t u b = rules.view_content at name t u b (body b (at + 2 + size t + size u))
 
 abbrev pub content_seen : Option Content → rules.Content
 content_seen (Some (c.Parameter s)) = rules.parameter_section (placed_of s)

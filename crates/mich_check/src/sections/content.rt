@@ -4,10 +4,10 @@ ghost use Rattle.rules_text.specs.nodes.Primitives.{primitive_of_name};
 ghost use Rattle.rules_text.specs.nodes.Tree.{Tree, size, sizes};
 ghost use Rattle.rules_text.specs.declared.nodes.Primitive.TheVariants as p;
 ghost use Rattle.rules_code.specs.typing.Nodes.{bodies, body, inner_bodies};
-ghost use Rattle.rules_code.specs.typing.Sections.{content_at, content_of, view_content};
+ghost use Rattle.rules_code.specs.typing.Sections.{content_at, content_of};
 ghost use Rattle.mich_base.specs.View.{tree, trees};
 ghost use Rattle.mich_check.specs.sections.Counted.{IsNotFour, is_sequence};
-ghost use Rattle.mich_check.specs.sections.View.{content_seen, kind_of};
+ghost use Rattle.mich_check.specs.sections.View.{content_seen, kind_of, whole_view};
 
 use crate::sections::placed::Placed;
 use mich_base::{Node, Nodes, Primitive, Text, primitive_of_name};
@@ -133,7 +133,7 @@ fn named_content<'a>(
     at: u32,
 ) -> Option<Content<'a>>
     requires { at + 2 + size (tree input.now) + size (tree output.now) + size (tree code.now) < 2 ^ 32 }
-    ensures { content_seen result ≡ view_content at name.now (tree input.now) (tree output.now) (tree code.now) (body (tree code.now) (at + 2 + size (tree input.now) + size (tree output.now))) }
+    ensures { content_seen result ≡ whole_view at name.now (tree input.now) (tree output.now) (tree code.now) }
 {
     if !is_view_name(name.as_slice()) {
         return None;
