@@ -1,5 +1,5 @@
 // The contents of a group in turn.
-ghost use Rattle.std.specs.Prelude.{◌≡◌, ◌∷◌, [], ◌++◌, ◌≤◌, ◌<◌, ◌-◌, ◌+◌, length, map, replicate, false, IfOk, OnOk, ℕ};
+ghost use Rattle.std.specs.Prelude.{◌≡◌, ◌∷◌, [], ◌++◌, ◌≤◌, ◌<◌, ◌-◌, ◌+◌, length, map, replicate, false, IfOk, OnOk};
 ghost use Rattle.std.specs.List.{All, list_any};
 ghost use Rattle.rules_world.specs.world.Forms.{IsContent};
 ghost use Rattle.rules_world.specs.world.Groups.{is_over_gas};

@@ -128,9 +128,9 @@ Stands f x costs m fs d Z o = StandsAt (frame x.sight f ∷ fs) (around x costs 
 
 -- wherever the frame of a LOOP comes first, this comes of it
 abbrev pub TurnsSo : Turn → Costs → State → State → Type 0
-TurnsSo turn costs old new =
+TurnsSo t costs old new =
     (body : List Instr) (x : Beyond) (fs : List fr.Frame) (d : ℕ) (Z : List Kind) (o : Outcome) →
-    Stands (kept.Turns body) x costs old fs d Z o → HasTurned turn body x costs new fs d Z o
+    Stands (kept.Turns body) x costs old fs d Z o → HasTurned t body x costs new fs d Z o
 
 -- what came first has acted
 abbrev pub Acts : Act → Beyond → Costs → State → List fr.Frame → ℕ → List Kind → Outcome → Type 0
