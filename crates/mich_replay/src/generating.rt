@@ -1,5 +1,5 @@
 // A workload that is made, replayed and summed up.
-ghost use Rattle.std.specs.Prelude.{◌≡◌, ◌≤◌, ◌<◌, ◌++◌, ◌∷◌, [], ◌^◌, ℕ, List, Option, length, true, Ok, IfOk, IsErrOf, if◌then◌else◌};
+ghost use Rattle.std.specs.Prelude.{◌≡◌, ◌≤◌, ◌<◌, ◌++◌, ◌∷◌, [], ◌^◌, ℕ, List, Option, length, true, IfOk, IsErrOf, if◌then◌else◌};
 ghost use Rattle.rules_files.specs.course.Course.{Course as PlainCourse};
 ghost use Rattle.rules_text.specs.streams.Causes.{HasCause};
 ghost use Rattle.rules_files.specs.commands.Commands.{Generating};

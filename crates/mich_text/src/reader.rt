@@ -1,5 +1,5 @@
 //! Reading one statement, within the limits of a statement and of a file.
-ghost use Rattle.std.specs.Prelude.{◌≡◌, ℕ, ◌+◌, ◌-◌, ◌^◌, ◌<◌, ◌≤◌, Bool, List, length, take, true, false, MatchBool, Ok, Some, Err};
+ghost use Rattle.std.specs.Prelude.{◌≡◌, ℕ, ◌+◌, ◌-◌, ◌^◌, ◌<◌, ◌≤◌, List, length, take, true, false, MatchBool, Ok, Some, Err};
 ghost use Rattle.rules_text.specs.text.Text.{IsLimit, IsStatementLimit, IsFileLimit};
 ghost use Rattle.rules_text.specs.declared.text.TextKind.{TextKind};
 ghost use Rattle.mich_text.specs.Plain.{IsFaultWithoutLimits};
