@@ -2,7 +2,6 @@
 #![tactic(auto)]
 
 pub mod cache;
-pub mod control;
 pub mod instr;
 pub mod overload;
 pub mod scripts;
