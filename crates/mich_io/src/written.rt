@@ -27,7 +27,7 @@ impl<W: Write + Drop> WriterSink<W> {
 }
 
 // Hands a piece on, and flushes it. Where that fails, the piece may have been taken.
-#[tactic(auto, using(crate::proofs::Fronts::front_kept, crate::proofs::Fronts::nothing_written, crate::proofs::Fronts::piece_kept))]
+#[tactic(auto, using(crate::proofs::Fronts::nothing_written, crate::proofs::Fronts::piece_kept))]
 fn put<W: Write>(out: &mut W, bytes: &[u8]) -> Result<usize, SinkFault>
     ensures bound { WritesAtMost result bytes.now }
     ensures some { IfOk result (λ n. n ≡ 0 → bytes.now ≡ []) }
