@@ -2,7 +2,7 @@
 // locations (Michelson reference, "Instructions").
 use crate::short_types::{is_stack, read, ty};
 use crate::support::node;
-use mich_base::{Memory, Node, Rows, Shared, Text, Ty, size_within};
+use mich_base::{Memory, Node, Nodes, Rows, Shared, Text, Ty, size_within};
 use mich_control::{
     Arrow, Bodiless, Body, Branch, CheckError, Count, Form, Loop, Made, Place, Target, begun,
     behind_loop, branch_instr, branch_stacks, call_types, check_bodiless, check_self,
@@ -314,7 +314,7 @@ fn a_recursive_lambda_may_be_too_large(rt: HostRuntime) -> Result<(), Fail> {
 fn lambda(alloc: Global, after: Option<Rows<Ty>>) -> Result<Made, CheckError> {
     let first = type_node(alloc, &Ty::Int)?;
     let second = type_node(alloc, &Ty::Nat)?;
-    let code = Node::Seq(Rows::new(alloc));
+    let code = Node::Seq(Nodes::new(alloc));
     let arrow = Arrow {
         arg: Ty::Int,
         ret: Ty::Nat,

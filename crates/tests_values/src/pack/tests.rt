@@ -6,7 +6,7 @@ ghost use Rattle.mich_term.specs.ValueView.{val};
 ghost use Rattle.laws_typing.specs.packing.Names.{HasCodes, IsPackable};
 
 use crate::support::ty;
-use mich_base::{App, Link, Memory, Node, Nodes, Rows, Shared, Text, Texts, Ty, prim_code};
+use mich_base::{App, Link, Memory, Node, Nodes, Shared, Text, Texts, Ty, prim_code};
 use mich_binary::decode;
 use mich_data::{Pending, Read, value_node};
 use mich_pack::{PackError, pack, packed_len, unpack};
@@ -64,9 +64,9 @@ fn annotated(alloc: Global) -> Result<Node, Memory>
     let Some(_) = prim_code(&name) else {
         return Err(Memory);
     };
-    let mut annots = Rows::new(alloc);
+    let mut annots = Texts::new(alloc);
     annots.push(Text::from_slice(alloc, b"@x")?)?;
-    let args = Rows::new(alloc);
+    let args = Nodes::new(alloc);
     Ok(application(name, annots, args))
 }
 
@@ -74,7 +74,7 @@ fn annotated(alloc: Global) -> Result<Node, Memory>
 fn body(alloc: Global) -> Result<Node, Memory>
     ensures { IfOk result (λ n. HasCodes (tree n)) }
 {
-    let mut nodes = Rows::new(alloc);
+    let mut nodes = Nodes::new(alloc);
     nodes.push(annotated(alloc)?)?;
     Ok(Node::Seq(nodes))
 }
@@ -109,7 +109,7 @@ fn long(alloc: Global, count: usize) -> Result<Value, Fail>
     ensures { IfOk result (λ v. IsPackable (val v)) }
 {
     let bytes = vec![in alloc; b'a'; count]?;
-    Ok(Value::Text(Text::from_vec(bytes)))
+    Ok(Value::Text(Text::from_vec(bytes)?))
 }
 
 #[test]
