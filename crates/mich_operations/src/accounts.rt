@@ -186,16 +186,8 @@ pub(crate) fn send_account(
     }
     if is_ticket(&value) {
         let argument = printed(alloc, world.store(), &value)?;
-        return send_ticket(
-            alloc,
-            world,
-            from,
-            to,
-            entry,
-            amount,
-            argument,
-            ticket_of(value)?,
-        );
+        let ticket = ticket_of(value)?;
+        return send_ticket(alloc, world, from, to, entry, amount, argument, ticket);
     }
     let paid = pay_account(alloc, world, from, to, entry, amount, &value);
     abandon(value);

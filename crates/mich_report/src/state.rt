@@ -182,5 +182,5 @@ pub fn state_text(alloc: Global, world: &World) -> Result<Text, Memory>
     for line in lines.as_slice() {
         text.extend_from_slice(line.as_slice())?;
     }
-    Text::from_vec(text)
+    Ok(Text::from_vec(text)?)
 }

@@ -195,7 +195,7 @@ fn statement_by(alloc: Global, name: &[u8], fields: Rows<Node>) -> Result<Statem
 /// `Block level moment`, or `Group source { content ; .. }` of 1 to 1,000 contents, each `Originate fee gas balance script
 /// storage`, `Call fee gas amount destination "entrypoint" argument` or `Give fee gas issuer type content amount destination
 /// "entrypoint"`, with amounts in mutez and moments in seconds. BadStatement of another node; Memory where there is no room for
-/// the list of contents. No part of the node is copied.
+/// the list of contents. No part of the node is copied that nothing else holds.
 pub fn take_form(alloc: Global, node: Node) -> Result<Statement, FormError>
     ensures { IsForm said (form (tree node)) result }
 {
