@@ -169,7 +169,7 @@ fn optional_parts(alloc: Global, parts: Option<(Ticket, Ticket)>) -> Result<Valu
     Ok(Value::Some(Link::new(alloc, pair)?))
 }
 
-#[tactic(auto, using(crate::proofs::Splitting::split_is, crate::proofs::Splitting::split_tells, crate::proofs::Splitting::ends_with, crate::proofs::Splitting::tells_with))]
+#[tactic(auto, using(mich_base::proofs::undo_lemmas::ForCallers::keeps_same, crate::proofs::Splitting::split_is, crate::proofs::Splitting::split_tells, crate::proofs::Splitting::ends_with, crate::proofs::Splitting::tells_with))]
 fn split_ticket(
     alloc: Global,
     stack: &mut Rows<Value>,
@@ -215,7 +215,7 @@ fn take_tickets(stack: &mut Rows<Value>) -> Result<(Ticket, Ticket), Memory>
     Ok((ticket_in(first)?, ticket_in(second)?))
 }
 
-#[tactic(auto, using(crate::proofs::Splitting::join_is, crate::proofs::Splitting::join_tells, crate::proofs::Splitting::ends_with, crate::proofs::Splitting::tells_with))]
+#[tactic(auto, using(mich_base::proofs::undo_lemmas::ForCallers::keeps_same, crate::proofs::Splitting::join_is, crate::proofs::Splitting::join_tells, crate::proofs::Splitting::ends_with, crate::proofs::Splitting::tells_with))]
 fn join_tickets(
     alloc: Global,
     stack: &mut Rows<Value>,
