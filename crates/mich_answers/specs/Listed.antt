@@ -31,6 +31,14 @@ abbrev pub IsSmall : ℕ → Option CodePlaced → Type 0
 IsSmall most None = Unit {0}
 IsSmall most (Some p) = size (tree p.node) ≤ most
 
+-- a statement stands at a place
+abbrev pub IsAt : List ℕ → ℕ → CodePlaced → Type 0
+IsAt file place p = IsNodeAt file place (tree p.node) p.start p.end
+
+-- it has at most as many nodes as there are bytes to its end
+abbrev pub Fits : ℕ → CodePlaced → Type 0
+Fits place p = size (tree p.node) + place ≤ p.end
+
 -- of statements up to a place this is kept
 pub record Passed (file : List ℕ) (place : ℕ) (first : Option CodePlaced) (second : Option ℕ) : Type 0 where
   pub statements : List Placed
@@ -59,5 +67,5 @@ of_kept command size (Some p) second = beside (command (tree p.node)) p.start se
 -- this stands in a file from a place on; a statement has at most as many nodes as bytes, so at least a byte
 abbrev pub IsNext : List ℕ → ℕ → Next → Type 0
 IsNext file place next.End = IsEndAt file place
-IsNext file place (next.Statement p) = IsNodeAt file place (tree p.node) p.start p.end × (place < p.end) × (size (tree p.node) + place ≤ p.end) × (p.end ≤ length file)
+IsNext file place (next.Statement p) = IsAt file place p × (place < p.end) × Fits place p × (p.end ≤ length file)
 IsNext file place (next.Fault kind at) = IsFaultAt file place kind at

@@ -1,9 +1,6 @@
 // The statements of a file.
-ghost use Rattle.std.specs.Prelude.{◌≡◌, ◌<◌, ◌≤◌, ◌+◌, ℕ, List, length, IfOk};
-ghost use Rattle.rules_text.specs.nodes.Tree.{size};
-ghost use Rattle.rules_files.specs.commands.Places.{IsNodeAt};
-ghost use Rattle.mich_base.specs.View.{tree};
-ghost use Rattle.mich_answers.specs.Listed.{IsListed, IsNext, Passed};
+ghost use Rattle.std.specs.Prelude.{◌≤◌, ℕ, List, length, IfOk};
+ghost use Rattle.mich_answers.specs.Listed.{Fits, IsAt, IsListed, IsNext, Passed};
 
 use mich_base::Memory;
 use mich_text::{Placed, TextError, read_statement};
@@ -45,8 +42,8 @@ pub struct Listed {
 // Keeps a statement where it is the first, and its place where it is the second.
 #[tactic(auto, using(crate::proofs::Listing::passed_first, crate::proofs::Listing::passed_second, crate::proofs::Listing::passed_more))]
 fn keep(first: &mut Option<Placed>, second: &mut Option<u64>, placed: Placed)
-    ensures { (file : List ℕ) (place : ℕ) → IsNodeAt file place (tree placed.node) placed.start placed.end
-        → size (tree placed.node) + place ≤ placed.end → Passed file place first.old second.old → Passed file placed.end first.new second.new }
+    ensures { (file : List ℕ) (place : ℕ) → IsAt file place placed → Fits place placed
+        → Passed file place first.old second.old → Passed file placed.end first.new second.new }
 {
     match first {
         None => *first = Some(placed),

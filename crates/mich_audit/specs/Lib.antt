@@ -1,3 +1,4 @@
+pub mod Answers
 pub mod Key
 pub mod Pieces
 pub mod Sums

@@ -1,11 +1,11 @@
 // What is told of all tickets.
-ghost use Rattle.std.specs.Prelude.{◌≡◌, ◌++◌, ◌∷◌, ℕ, List, IfOk};
-ghost use Rattle.std.specs.List.{AllByRecursion, list_all};
+ghost use Rattle.std.specs.Prelude.{◌≡◌, List};
+ghost use Rattle.std.specs.List.{list_all};
 ghost use Rattle.rules_audit.specs.Fields as fields;
 ghost use Rattle.rules_audit.specs.Lines.{Line};
 ghost use Rattle.rules_audit.specs.Verdicts.{has_line};
-ghost use Rattle.mich_audit.specs.Tallies.{AreFound, AreKept, HasForm, IsLined, found};
-ghost use Rattle.mich_audit.specs.View.{identity_seen, part_seen, parts_seen};
+ghost use Rattle.mich_audit.specs.Answers.{AddsLine, AddsPart, AddsParts};
+ghost use Rattle.mich_audit.specs.Tallies.{AreFound, AreKept, found};
 
 use crate::key::key_of;
 use crate::part::{Identity, Part};
@@ -19,7 +19,7 @@ pub(crate) type Book = BTreeMap<Text, Sums>;
 
 /// Adds a part. Memory where there is no room for it.
 pub(crate) fn add_part(alloc: Global, book: &mut Book, part: &Part<'_>) -> Result<(), Memory>
-    ensures { (ps : List fields.Part) (ls : List Line) → AreKept ps ls book.old.entries → HasForm (identity_seen part.now.identity) → IfOk result (λ _. AreKept (part_seen part.now ∷ ps) ls book.new.entries) }
+    ensures { AddsPart part.now book.old.entries book.new.entries result }
 {
     let key = key_of(alloc, &part.identity)?;
     let sums = sums_at(book, &key).with(part.sort, part.amount);
@@ -29,8 +29,7 @@ pub(crate) fn add_part(alloc: Global, book: &mut Book, part: &Part<'_>) -> Resul
 
 /// Adds all parts. Memory where there is no room for them.
 pub(crate) fn add_parts(alloc: Global, book: &mut Book, parts: &[Part<'_>]) -> Result<(), Memory>
-    ensures { (ps : List fields.Part) (ls : List Line) → AreKept ps ls book.old.entries → AllByRecursion (λ p. HasForm p.identity) (parts_seen parts.now)
-        → IfOk result (λ _. AreKept (parts_seen parts.now ++ ps) ls book.new.entries) }
+    ensures { AddsParts parts.now book.old.entries book.new.entries result }
 {
     'parts: for part in parts {
         add_part(alloc, book, part)?;
@@ -55,8 +54,7 @@ pub(crate) fn take_line(
     book: &mut Book,
     id: &Identity<'_>,
 ) -> Result<Option<Sums>, Memory>
-    ensures { (ps : List fields.Part) (ls : List Line) → AreKept ps ls book.old.entries → HasForm (identity_seen id.now) → (m b h : ℕ)
-        → IfOk result (λ sums. IsLined ps ls (identity_seen id.now) m b h book.new.entries sums) }
+    ensures { AddsLine id.now book.old.entries book.new.entries result }
 {
     let key = key_of(alloc, id)?;
     let sums = sums_at(book, &key);

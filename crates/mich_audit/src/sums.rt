@@ -1,7 +1,7 @@
 // Sums of amounts, which stop where they no longer fit.
 ghost use Rattle.std.specs.Prelude.{◌≡◌, ◌+◌, ◌==◌, ◌&&◌, ℕ, Bool, false};
-ghost use Rattle.rules_audit.specs.Fields as fields;
-ghost use Rattle.mich_audit.specs.Sums.{AreSums, added, fitting};
+ghost use Rattle.mich_audit.specs.Answers.{AreSumsWith};
+ghost use Rattle.mich_audit.specs.Sums.{AreSums, fitting};
 ghost use Rattle.mich_audit.specs.View.{sort_seen};
 
 use crate::part::Sort;
@@ -53,8 +53,7 @@ impl Sums {
 
     /// The sums with one more amount.
     pub(crate) fn with(self, sort: Sort, amount: u128) -> Sums
-        ensures { (m b h : ℕ) (lined : Bool) → AreSums m b h lined self
-            → AreSums (m + added fields.minted (sort_seen sort) amount) (b + added fields.burnt (sort_seen sort) amount) (h + added fields.held (sort_seen sort) amount) lined result }
+        ensures { (m b h : ℕ) (lined : Bool) → AreSums m b h lined self → AreSumsWith (sort_seen sort) amount m b h lined result }
     {
         match sort {
             Sort::Minted => Sums {

@@ -1,11 +1,12 @@
 // What the lines so far tell.
-ghost use Rattle.std.specs.Prelude.{◌≡◌, ◌+◌, ◌<◌, ◌≤◌, ◌^◌, ◌==◌, ◌&&◌, ◌||◌, nat_le, pos, true, false, ◌∷◌, [], List, IfOk};
+ghost use Rattle.std.specs.Prelude.{◌≡◌, ◌+◌, ◌<◌, ◌≤◌, ◌^◌, ◌==◌, ◌&&◌, ◌||◌, nat_le, pos, true, false, ◌∷◌, [], List};
 ghost use Rattle.rules_audit.specs.Same.{same_number};
 ghost use Rattle.rules_audit.specs.Form.{ended};
 ghost use Rattle.rules_audit.specs.Lines as lines;
 ghost use Rattle.rules_audit.specs.Lines.{account, contract, fees, group, storage_burn, supply, tickets};
 ghost use Rattle.rules_audit.specs.Audits.{verdict_on};
-ghost use Rattle.mich_audit.specs.Tallies.{HaveForms, IsCounted, IsPassed, IsTaken, IsTally, fits, unless_before};
+ghost use Rattle.mich_audit.specs.Answers.{TakesLine};
+ghost use Rattle.mich_audit.specs.Tallies.{IsCounted, IsPassed, IsTaken, IsTally, fits, unless_before};
 ghost use Rattle.mich_audit.specs.View.{identity_seen, line_seen, parts_seen, verdict_seen};
 
 use crate::book::{Book, add_parts, all_lined, take_line};
@@ -117,7 +118,7 @@ impl Tally {
     // Takes the line of a group, where its number comes next.
     fn take_group(&mut self, alloc: Global, number: i128, parts: &Parts<'_>) -> Result<bool, Memory>
         requires { self.old.count + 1 < 2 ^ 64 }
-        ensures { (before : List lines.Line) → IsTally before self.old → HaveForms (group number (parts_seen parts.now)) → IfOk result (λ taken. IsTaken before (group number (parts_seen parts.now)) self.new taken) }
+        ensures { TakesLine (group number (parts_seen parts.now)) self.old self.new result }
     {
         if !self.follows_group(number) {
             return Ok(false);
@@ -134,7 +135,7 @@ impl Tally {
         parts: &Parts<'_>,
     ) -> Result<bool, Memory>
         requires { self.old.count + 1 < 2 ^ 64 }
-        ensures { (before : List lines.Line) → IsTally before self.old → HaveForms (account balance (parts_seen parts.now)) → IfOk result (λ taken. IsTaken before (account balance (parts_seen parts.now)) self.new taken) }
+        ensures { TakesLine (account balance (parts_seen parts.now)) self.old self.new result }
     {
         if !self.is_within(2) {
             return Ok(false);
@@ -152,7 +153,7 @@ impl Tally {
         fourth: bool,
     ) -> Result<bool, Memory>
         requires { self.old.count + 1 < 2 ^ 64 }
-        ensures { (before : List lines.Line) → IsTally before self.old → HaveForms (contract balance (parts_seen parts.now) fourth) → IfOk result (λ taken. IsTaken before (contract balance (parts_seen parts.now) fourth) self.new taken) }
+        ensures { TakesLine (contract balance (parts_seen parts.now) fourth) self.old self.new result }
     {
         if !self.follows_contract(fourth) {
             return Ok(false);
@@ -187,7 +188,7 @@ impl Tally {
     ) -> Result<bool, Memory>
         requires count { self.old.count + 1 < 2 ^ 64 }
         requires tickets { self.old.tickets ≤ self.old.count }
-        ensures { (before : List lines.Line) → IsTally before self.old → HaveForms (tickets (identity_seen id.now) minted burnt held) → IfOk result (λ taken. IsTaken before (tickets (identity_seen id.now) minted burnt held) self.new taken) }
+        ensures { TakesLine (tickets (identity_seen id.now) minted burnt held) self.old self.new result }
     {
         if !self.is_within(4) {
             return Ok(false);
@@ -238,7 +239,7 @@ impl Tally {
     pub(crate) fn take(&mut self, alloc: Global, line: &Line<'_>) -> Result<bool, Memory>
         requires count { self.old.count + 1 < 2 ^ 64 }
         requires tickets { self.old.tickets ≤ self.old.count }
-        ensures { (before : List lines.Line) → IsTally before self.old → HaveForms (line_seen line.now) → IfOk result (λ taken. IsTaken before (line_seen line.now) self.new taken) }
+        ensures { TakesLine (line_seen line.now) self.old self.new result }
     {
         match line {
             Line::Group(number, parts) => self.take_group(alloc, *number, parts),

@@ -1,10 +1,11 @@
 // The verdict on a text that a run printed.
-ghost use Rattle.std.specs.Prelude.{◌≡◌, ◌+◌, ◌<◌, ◌≤◌, ◌^◌, [], List, IfOk, MatchOption, take};
-ghost use Rattle.rules_audit.specs.Form.{Form, IsForm, audit_limit};
+ghost use Rattle.std.specs.Prelude.{◌≡◌, ◌+◌, ◌<◌, ◌≤◌, ◌^◌, List, IfOk, MatchOption, take};
+ghost use Rattle.rules_audit.specs.Form.{audit_limit};
 ghost use Rattle.rules_audit.specs.Lines.{Line};
-ghost use Rattle.rules_audit.specs.Audits.{IsVerdict, verdict_on};
+ghost use Rattle.rules_audit.specs.Audits.{IsVerdict};
+ghost use Rattle.mich_audit.specs.Answers.{IsEndVerdict};
 ghost use Rattle.mich_audit.specs.Tallies.{IsPieceTaken, IsTally};
-ghost use Rattle.mich_audit.specs.Pieces.{HasNoFeed, IsFirstFeed, cut};
+ghost use Rattle.mich_audit.specs.Pieces.{HasNoFeed, IsFirstFeed};
 ghost use Rattle.mich_audit.specs.View.{verdict_seen};
 
 use crate::lines::line_of;
@@ -73,8 +74,7 @@ fn line_end(bytes: &[u8]) -> Option<usize>
 // The verdict where a text ends behind a line, or within one.
 fn end_verdict(tally: &Tally, rest: &[u8], longer: bool) -> Verdict
     requires { tally.now.count + 1 < 2 ^ 64 }
-    ensures { (before : List Line) → IsTally before tally.now → HasNoFeed rest.now
-        → (form : Form) × IsForm before (cut longer [] rest.now) form × (verdict_seen result ≡ verdict_on form) }
+    ensures { (before : List Line) → IsTally before tally.now → HasNoFeed rest.now → IsEndVerdict before longer rest.now result }
 {
     if longer {
         return Verdict::BadForm(tally.count + 1);

@@ -9,6 +9,10 @@ pub data Reached (ns : List ℕ) (bs : Bases) : ℕ → Type 0 where
   over : (j k : ℕ) (b : Base) (below : Bases) → Reached ns bs j → base_at bs j ≡ Some (b, below) → b.over ≡ Some k → is_there below (Some k) ≡ true
       → Reached ns bs k
 
+-- there is a base of this number, and it is reached
+abbrev pub IsReachedBase : List ℕ → Bases → ℕ → Type 0
+IsReachedBase ns bs k = (is_there bs (Some k) ≡ true) × Reached ns bs k
+
 -- no number is given twice
 abbrev pub AreDistinct : Bases → Type 0
 AreDistinct [] = Unit {0}

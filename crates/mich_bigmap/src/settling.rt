@@ -1,5 +1,5 @@
 // Big maps whose entries are all put into the store.
-ghost use Rattle.std.specs.Prelude.{◌≡◌, true, false, [], Some, IfOk};
+ghost use Rattle.std.specs.Prelude.{◌≡◌, true, false, Some, IfOk};
 ghost use Rattle.std.specs.Map.{keys_of};
 ghost use Rattle.rules_data.specs.big_maps.Changes.{changed};
 ghost use Rattle.mich_base.specs.undo.History.{Keeps};
@@ -9,9 +9,7 @@ ghost use Rattle.mich_bigmap.specs.Bases.{big_in, entries_in, seen};
 ghost use Rattle.mich_bigmap.specs.Extended.{Extends};
 ghost use Rattle.mich_bigmap.specs.Formed.{IsFormed, HasBase, is_there};
 ghost use Rattle.mich_bigmap.specs.Settled.{IsSettled};
-ghost use Rattle.mich_bigmap.specs.Ticketless.{HoldNoTickets};
-ghost use Rattle.rules_data.specs.values.Tickets.{pair_tickets};
-ghost use Rattle.mich_term.specs.ValueView.{put_pairs};
+ghost use Rattle.mich_bigmap.specs.Ticketless.{HoldNoTickets, PutNoTickets};
 
 use crate::merging::merged;
 use crate::overlay::Change;
@@ -33,7 +31,7 @@ fn lay(
     ensures there { IfOk result (λ k. is_there store.new.bases.present (Some k) ≡ true) }
     ensures others { Extends store.old.bases.present store.new.bases.present }
     ensures keeps { Keeps store.old.bases store.new.bases }
-    ensures ticketless { HoldNoTickets store.old.bases.present → pair_tickets (put_pairs changes) ≡ [] → HoldNoTickets store.new.bases.present }
+    ensures ticketless { HoldNoTickets store.old.bases.present → PutNoTickets changes → HoldNoTickets store.new.bases.present }
     ensures noted { store.new.noted ≡ store.old.noted }
 {
     let (under, all) = merged(alloc, store.layers(), over, changes)?;
@@ -53,7 +51,7 @@ pub fn settle(alloc: Global, store: &mut Store, m: BigMap) -> Result<BigMap, Mem
     ensures there { HasBase store.old.bases.present m → IfOk result (λ n. HasBase store.new.bases.present n) }
     ensures others { Extends store.old.bases.present store.new.bases.present }
     ensures keeps { Keeps store.old.bases store.new.bases }
-    ensures ticketless { HoldNoTickets store.old.bases.present → ((out-BigMap m).shares ≡ true → pair_tickets (put_pairs (out-BigMap m).overlay) ≡ []) → HoldNoTickets store.new.bases.present }
+    ensures ticketless { HoldNoTickets store.old.bases.present → ((out-BigMap m).shares ≡ true → PutNoTickets (out-BigMap m).overlay) → HoldNoTickets store.new.bases.present }
     ensures noted { store.new.noted ≡ store.old.noted }
 {
     if !m.shares {
@@ -76,7 +74,7 @@ fn settle_shared(alloc: Global, store: &mut Store, m: BigMap) -> Result<BigMap, 
     ensures there { IfOk result (λ n. HasBase store.new.bases.present n) }
     ensures others { Extends store.old.bases.present store.new.bases.present }
     ensures keeps { Keeps store.old.bases store.new.bases }
-    ensures ticketless { HoldNoTickets store.old.bases.present → pair_tickets (put_pairs (out-BigMap m).overlay) ≡ [] → HoldNoTickets store.new.bases.present }
+    ensures ticketless { HoldNoTickets store.old.bases.present → PutNoTickets (out-BigMap m).overlay → HoldNoTickets store.new.bases.present }
     ensures noted { store.new.noted ≡ store.old.noted }
 {
     let number = lay(alloc, store, m.base, m.overlay)?;

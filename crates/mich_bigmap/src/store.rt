@@ -7,13 +7,11 @@ ghost use Rattle.rules_data.specs.big_maps.Changes.{changed};
 ghost use Rattle.mich_bigmap.specs.Bases.{base_at, entries_in, seen};
 ghost use Rattle.mich_bigmap.specs.Extended.{Extends};
 ghost use Rattle.mich_bigmap.specs.Formed.{is_there};
-ghost use Rattle.mich_bigmap.specs.Reached.{Reached};
+ghost use Rattle.mich_bigmap.specs.Reached.{IsReachedBase};
 ghost use Rattle.mich_bigmap.specs.Stacked.{AreLayers, bases_of};
 ghost use Rattle.mich_bigmap.specs.Notes.{Notes};
 ghost use Rattle.mich_bigmap.specs.Stored.{no_bases, with_kept};
-ghost use Rattle.mich_bigmap.specs.Ticketless.{HoldNoTickets};
-ghost use Rattle.rules_data.specs.values.Tickets.{pair_tickets};
-ghost use Rattle.mich_term.specs.ValueView.{put_pairs};
+ghost use Rattle.mich_bigmap.specs.Ticketless.{HoldNoTickets, PutNoTickets};
 
 use crate::keeping::{clear, mark, sweep_all};
 use crate::layers::Layer;
@@ -102,7 +100,7 @@ impl Store {
         ensures there { IfOk result (λ k. is_there self.new.bases.present (Some k) ≡ true) }
         ensures others { Extends self.old.bases.present self.new.bases.present }
         ensures keeps { Keeps self.old.bases self.new.bases }
-        ensures ticketless { HoldNoTickets self.old.bases.present → pair_tickets (put_pairs changes) ≡ [] → HoldNoTickets self.new.bases.present }
+        ensures ticketless { HoldNoTickets self.old.bases.present → PutNoTickets changes → HoldNoTickets self.new.bases.present }
         ensures noted { self.new.noted ≡ self.old.noted }
     {
         let number = self.add(over, changes)?;
@@ -143,7 +141,7 @@ impl Store {
     /// directly or through others; takes no memory.
     pub fn keep(&mut self)
         ensures kept { self.new ≡ with_kept self.old }
-        ensures reached { (k : ℕ) → (is_there self.new.bases.present (Some k) ≡ true) ↔ ((is_there self.old.bases.present (Some k) ≡ true) × Reached self.old.noted self.old.bases.present k) }
+        ensures reached { (k : ℕ) → (is_there self.new.bases.present (Some k) ≡ true) ↔ IsReachedBase self.old.noted self.old.bases.present k }
     {
         sweep_all(&mut self.layers);
         clear(&mut self.layers);

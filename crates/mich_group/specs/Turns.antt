@@ -1,20 +1,24 @@
 -- The contents of a group in turn (Octez "Operations", batches).
-use Rattle.std.specs.Prelude.{◌≡◌, ◌-◌, ℕ, List, map, Result, Ok, Err}
+use Rattle.std.specs.Prelude.{◌≡◌, ◌-◌, ℕ, List, [], map, Result, Ok, Err}
 use Rattle.rules_code.specs.steps.Failure.{Failure}
 use Rattle.rules_world.specs.world.Groups.{all_applied, one_failed}
 use Rattle.rules_world.specs.world.Groups as rules
 use Rattle.rules_world.specs.world.Receipts as r
-use Rattle.rules_world.specs.world.Trees.{Walk, Last, completed, broken_off}
+use Rattle.rules_world.specs.world.Trees.{Walk, Last, completed, broken_off, tree}
 use Rattle.rules_world.specs.world.World.{World as PlainWorld}
+use Rattle.mich_gas.specs.declared.costs.Costs.{Costs}
 use Rattle.mich_machine.specs.Calls.{counts_of}
 use Rattle.mich_interpreter.specs.declared.state.Counts.{Counts}
 use Rattle.mich_ops.specs.Told.{told, told_status}
-use Rattle.mich_ops.specs.View.{effect, failure, status}
+use Rattle.mich_ops.specs.View.{content as content_of, effect, failure, status}
 use Rattle.mich_ops.specs.declared.failure.Failure.{Failure as Failed}
+use Rattle.mich_ops.specs.declared.group.Action.{Action}
+use Rattle.mich_ops.specs.declared.group.Content.{Content}
 use Rattle.mich_ops.specs.declared.receipt.Effect.{Effect}
 use Rattle.mich_ops.specs.declared.receipt.Status.{Status}
 use Rattle.mich_world.specs.Standing.{StandsFor}
 use Rattle.mich_world.specs.World.{World}
+use Rattle.mich_group.specs.Trees.{Goes, alone, setting_in}
 use Rattle.mich_group.specs.declared.content.Ended.{Ended}
 use Rattle.mich_group.specs.declared.content.Ended.TheVariants as ended
 use Rattle.mich_group.specs.declared.contents.Turn.{Turn}
@@ -43,6 +47,12 @@ ContentAs t gas v old new (Ok (ended.Applied used effects)) = IsDone t gas v old
 ContentAs t gas v old new (Ok (ended.Failed count f)) = IsBroken t count f
 ContentAs t gas v old new (Err e) = Unit {0}
 
+-- wherever this action alone waits, its content ends so
+abbrev pub ContentEnds : {E : Type 0} → Costs → List ℕ → Action → ℕ → World → Counts → World → Counts → Result Ended E → Type 0
+ContentEnds costs source action gas v counts z now r =
+    (start w : PlainWorld) (contents : ℕ) → Goes start (setting_in costs counts source) contents v w (alone action) (counts_of counts) →
+    ContentAs (tree (setting_in costs counts source) w (alone action) gas (counts_of counts)) gas z counts now r
+
 -- what holds where all its operations were applied
 abbrev pub OnEnded : {E : Type 0} → Result Ended E → Type 0 → Type 0
 OnEnded (Ok (ended.Applied used effects)) a = a
@@ -68,6 +78,12 @@ abbrev pub TurnsAs : {E : Type 0} → rules.Turn → World → Result Turn E →
 TurnsAs t v (Ok (turn.Applied ss)) = AreApplied t v ss
 TurnsAs t v (Ok (turn.Failed ss)) = AreBroken t ss
 TurnsAs t v (Err e) = Unit {0}
+
+-- wherever a source's group begins, its contents end so
+abbrev pub ContentsEnd : {E : Type 0} → Costs → List ℕ → List Content → World → Counts → World → Result Turn E → Type 0
+ContentsEnd costs source contents v counts z r =
+    (start w : PlainWorld) → Goes start (setting_in costs counts source) 0 v w [] (counts_of counts) →
+    TurnsAs (rules.in_turn (setting_in costs counts source) (map content_of contents) w (counts_of counts)) z r
 
 -- what holds where each content was applied
 abbrev pub OnApplied : {E : Type 0} → Result Turn E → Type 0 → Type 0

@@ -1,16 +1,10 @@
 // One content.
-ghost use Rattle.std.specs.Prelude.{◌≡◌, ◌∷◌, [], ◌≤◌, pos, ◌≤ℤ◌, unsigned_abs, IfOk, OnOk, ℕ};
+ghost use Rattle.std.specs.Prelude.{◌≡◌, ◌∷◌, ◌≤◌, pos, ◌≤ℤ◌, unsigned_abs, OnOk};
 ghost use Rattle.rules_text.specs.nodes.Limits.{most_gas};
-ghost use Rattle.rules_world.specs.world.Groups.{setting_of};
-ghost use Rattle.rules_world.specs.world.Outcomes.{ordered};
-ghost use Rattle.rules_world.specs.world.Trees.{tree};
-ghost use Rattle.rules_world.specs.world.World.{World as PlainWorld};
-ghost use Rattle.mich_gas.specs.View.{listed};
-ghost use Rattle.mich_machine.specs.Calls.{counts_of, IsHosting};
-ghost use Rattle.mich_ops.specs.View.{action as action_of};
+ghost use Rattle.mich_machine.specs.Calls.{IsHosting};
 ghost use Rattle.mich_world.specs.Marks.{KeepsWorld};
-ghost use Rattle.mich_group.specs.Trees.{Goes};
-ghost use Rattle.mich_group.specs.Turns.{ContentAs, OnEnded};
+ghost use Rattle.mich_group.specs.Trees.{SomeGoing, alone};
+ghost use Rattle.mich_group.specs.Turns.{ContentEnds, OnEnded};
 
 use crate::tree::{TreeError, apply_tree};
 use mich_base::{Memory, Rows};
@@ -48,9 +42,9 @@ pub(crate) fn apply_content(
     content: &Content,
     gas: u64,
 ) -> Result<Ended, Memory>
-    requires goes { (start w : PlainWorld) × (contents : ℕ) × Goes start (setting_of (listed costs.now) counts.old.group source.now) contents world.old w (ordered (action_of content.now.action) ∷ []) (counts_of counts.old) }
+    requires goes { SomeGoing costs.now source.now (alone content.now.action) world.old counts.old }
     requires hosting { IsHosting world.old }
-    ensures ends { (start w : PlainWorld) (contents : ℕ) → Goes start (setting_of (listed costs.entry.now) counts.old.group source.entry.now) contents world.old w (ordered (action_of content.entry.now.action) ∷ []) (counts_of counts.old) → ContentAs (tree (setting_of (listed costs.entry.now) counts.old.group source.entry.now) w (ordered (action_of content.entry.now.action) ∷ []) gas (counts_of counts.old)) gas world.new counts.old counts.new result }
+    ensures ends { ContentEnds costs.entry.now source.entry.now content.entry.now.action gas world.old counts.old world.new counts.new result }
     ensures hosting { OnEnded result (IsHosting world.new) }
     ensures keeps { OnOk result (KeepsWorld world.old world.new) }
 {

@@ -1,16 +1,15 @@
 // The contents of a group in turn.
-ghost use Rattle.std.specs.Prelude.{◌≡◌, ◌∷◌, [], ◌++◌, ◌≤◌, ◌<◌, ◌-◌, ◌+◌, length, map, replicate, false, IfOk, OnOk, ℕ};
+ghost use Rattle.std.specs.Prelude.{◌≡◌, ◌∷◌, [], ◌++◌, ◌≤◌, ◌<◌, ◌-◌, ◌+◌, length, map, replicate, false, IfOk, OnOk};
 ghost use Rattle.std.specs.List.{All, list_any};
 ghost use Rattle.rules_world.specs.world.Forms.{IsContent};
-ghost use Rattle.rules_world.specs.world.Groups.{setting_of, in_turn, is_over_gas};
+ghost use Rattle.rules_world.specs.world.Groups.{is_over_gas};
 ghost use Rattle.rules_world.specs.world.World.{World as PlainWorld};
-ghost use Rattle.mich_gas.specs.View.{listed};
 ghost use Rattle.mich_machine.specs.Calls.{counts_of, IsHosting};
 ghost use Rattle.mich_ops.specs.View.{content as content_of};
 ghost use Rattle.mich_ops.specs.declared.receipt.Status.TheVariants as status;
 ghost use Rattle.mich_world.specs.Marks.{KeepsWorld};
-ghost use Rattle.mich_group.specs.Trees.{Goes};
-ghost use Rattle.mich_group.specs.Turns.{TurnsAs, OnApplied};
+ghost use Rattle.mich_group.specs.Trees.{Goes, setting_in};
+ghost use Rattle.mich_group.specs.Turns.{ContentsEnd, OnApplied};
 
 use crate::content::{Ended, apply_content, gas_of};
 use mich_base::{Memory, Rows};
@@ -63,12 +62,12 @@ pub(crate) fn apply_contents(
     bodies: &mut Bodies,
     contents: &[Content],
 ) -> Result<Turn, Memory>
-    requires goes { (start w : PlainWorld) × Goes start (setting_of (listed costs.now) counts.old.group source.now) 0 world.old w [] (counts_of counts.old) }
+    requires goes { (start w : PlainWorld) × Goes start (setting_in costs.now counts.old source.now) 0 world.old w [] (counts_of counts.old) }
     requires few { length contents.now ≤ 1000 }
     requires forms { All IsContent (map content_of contents.now) }
     requires gas { list_any is_over_gas (map content_of contents.now) ≡ false }
     requires hosting { IsHosting world.old }
-    ensures turns { (start w : PlainWorld) → Goes start (setting_of (listed costs.entry.now) counts.old.group source.entry.now) 0 world.old w [] (counts_of counts.old) → TurnsAs (in_turn (setting_of (listed costs.entry.now) counts.old.group source.entry.now) (map content_of contents.now) w (counts_of counts.old)) world.new result }
+    ensures turns { ContentsEnd costs.entry.now source.entry.now contents.now world.old counts.old world.new result }
     ensures hosting { OnApplied result (IsHosting world.new) }
     ensures keeps { OnOk result (KeepsWorld world.old world.new) }
 {

@@ -1,9 +1,8 @@
 // Groups.
-ghost use Rattle.std.specs.Prelude.{◌≡◌, ◌≢◌, ◌≤◌, [], length, false, None, IfOk, OnOk, Ok, ℕ};
+ghost use Rattle.std.specs.Prelude.{◌≡◌, ◌≢◌, ◌≤◌, [], length, false, IfOk, OnOk, Ok};
 ghost use Rattle.std.specs.List.{All, list_any};
-ghost use Rattle.rules_data.specs.gas.Prices.{Listed};
 ghost use Rattle.rules_world.specs.world.Forms.{IsContent};
-ghost use Rattle.rules_world.specs.world.Groups.{admitted, all_fees, fees_taken, group as settled_group, is_over_gas, refusal_of, setting_of};
+ghost use Rattle.rules_world.specs.world.Groups.{all_fees, is_over_gas, setting_of};
 ghost use Rattle.rules_world.specs.world.Laws.{IsGroup};
 ghost use Rattle.rules_world.specs.world.Outcomes.{no_counts};
 ghost use Rattle.rules_world.specs.world.World.{World as PlainWorld};
@@ -16,7 +15,7 @@ ghost use Rattle.mich_forms.specs.declared.places.Place.TheVariants as place;
 ghost use Rattle.mich_world.specs.Holders.{balance_or_none};
 ghost use Rattle.mich_world.specs.Marks.{KeepsWorld};
 ghost use Rattle.mich_world.specs.Standing.{StandsFor};
-ghost use Rattle.mich_group.specs.Settled.{IsSettled};
+ghost use Rattle.mich_group.specs.Settled.{Settles, SettlesAdmitted, TakesFees};
 ghost use Rattle.mich_group.specs.Trees.{Goes};
 
 use crate::contents::{Turn, apply_contents};
@@ -33,7 +32,7 @@ use std::alloc::Global;
 fn take_fees(world: &mut World, group: &Group, fees: u64) -> Result<(), Memory>
     requires all { fees ≡ all_fees (contents_of group.now) }
     requires covered { fees ≤ balance_or_none world.old.funds.present (place.Implicit group.now.source) }
-    ensures goes { (w : PlainWorld) (prices : Listed) (number : ℕ) → StandsFor world.old w → IsGroup prices number group.now.source (contents_of group.now) w → refusal_of w group.now.source (contents_of group.now) ≡ None → IfOk result (λ _. Goes w (setting_of prices number group.now.source) 0 world.new (fees_taken w group.now.source (contents_of group.now)) [] no_counts) }
+    ensures goes { TakesFees world.old group.now.source (contents_of group.now) world.new result }
     ensures hosting { IsHosting world.old → IfOk result (λ _. IsHosting world.new) }
     ensures keeps { KeepsWorld world.old world.new }
 {
@@ -58,7 +57,7 @@ fn apply_admitted(
     requires forms { All IsContent (contents_of group.now) }
     requires gas { list_any is_over_gas (contents_of group.now) ≡ false }
     requires hosting { IsHosting world.old }
-    ensures settled { (start w : PlainWorld) → Goes start (setting_of (listed costs.entry.now) number group.entry.now.source) 0 world.old w [] no_counts → IfOk result (IsSettled (admitted (setting_of (listed costs.entry.now) number group.entry.now.source) w (contents_of group.entry.now)) world.new) }
+    ensures settled { SettlesAdmitted (listed costs.entry.now) number group.entry.now.source (contents_of group.entry.now) world.old world.new result }
     ensures done { (fault : GroupFault) → result ≢ Ok (receipt.Refused fault) }
     ensures hosting { OnOk result (IsHosting world.new) }
     ensures keeps { OnOk result (KeepsWorld world.old world.new) }
@@ -100,7 +99,7 @@ pub fn apply_group(
 ) -> Result<GroupReceipt, Memory>
     requires good { (w : PlainWorld) × StandsFor world.old w × IsGroup (listed costs.now) number group.now.source (contents_of group.now) w }
     requires hosting { IsHosting world.old }
-    ensures settled { (w : PlainWorld) → StandsFor world.old w → IsGroup (listed costs.entry.now) number group.entry.now.source (contents_of group.entry.now) w → IfOk result (IsSettled (settled_group (listed costs.entry.now) number group.entry.now.source (contents_of group.entry.now) w) world.new) }
+    ensures settled { Settles (listed costs.entry.now) number group.entry.now.source (contents_of group.entry.now) world.old world.new result }
     ensures refused { (fault : GroupFault) → result ≡ Ok (receipt.Refused fault) → world.new ≡ world.old }
     ensures hosting { OnOk result (IsHosting world.new) }
     ensures keeps { OnOk result (KeepsWorld world.old world.new) }

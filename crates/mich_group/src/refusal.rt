@@ -1,13 +1,11 @@
 // Why a group is refused.
-ghost use Rattle.std.specs.Prelude.{◌≡◌, ◌≤◌, true, false, map, IfOk, MatchResult, Some, None};
-ghost use Rattle.rules_data.specs.forms.Spelling.{implicit_place, is_place};
+ghost use Rattle.std.specs.Prelude.{◌≡◌, ◌≤◌, true, false, map, IfOk};
 ghost use Rattle.std.specs.List.{list_any};
-ghost use Rattle.rules_world.specs.world.Groups.{all_fees, is_over_gas, refusal_of};
-ghost use Rattle.rules_world.specs.world.World.{World as PlainWorld};
+ghost use Rattle.rules_world.specs.world.Groups.{all_fees, is_over_gas};
 ghost use Rattle.mich_forms.specs.declared.places.Place.TheVariants as place;
-ghost use Rattle.mich_ops.specs.View.{content as content_of, contents as contents_of, fault as fault_of};
+ghost use Rattle.mich_ops.specs.View.{content as content_of, contents as contents_of};
 ghost use Rattle.mich_world.specs.Holders.{balance_or_none};
-ghost use Rattle.mich_world.specs.Standing.{StandsFor};
+ghost use Rattle.mich_group.specs.Settled.{IsAdmitted};
 
 use mich_base::MOST_GAS;
 use mich_forms::Place;
@@ -43,7 +41,7 @@ pub(crate) fn admit(world: &World, group: &Group) -> Result<u64, GroupFault>
     ensures fees { IfOk result (λ fees. fees ≡ all_fees (contents_of group.now)) }
     ensures covered { IfOk result (λ fees. fees ≤ balance_or_none world.now.funds.present (place.Implicit group.now.source)) }
     ensures gas { IfOk result (λ _. list_any is_over_gas (contents_of group.now) ≡ false) }
-    ensures refusal { (w : PlainWorld) → StandsFor world.now w → is_place (implicit_place group.now.source) ≡ true → MatchResult result (λ fees. refusal_of w group.now.source (contents_of group.now) ≡ None) (λ f. refusal_of w group.now.source (contents_of group.now) ≡ Some (fault_of f)) }
+    ensures refusal { IsAdmitted world.now group.now.source (contents_of group.now) result }
 {
     let Some(balance) = world.balance(Place::Implicit(group.source)) else {
         return Err(GroupFault::UnknownSource);

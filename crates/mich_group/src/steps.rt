@@ -1,13 +1,8 @@
 // The next operation.
-ghost use Rattle.std.specs.Prelude.{◌≡◌, ◌∷◌, [], Ok, true, false, IfOk, OnOk, ℕ};
-ghost use Rattle.rules_world.specs.world.Groups.{setting_of};
-ghost use Rattle.rules_world.specs.world.Outcomes.{ordered};
-ghost use Rattle.rules_world.specs.world.World.{World as PlainWorld};
-ghost use Rattle.mich_gas.specs.View.{listed};
-ghost use Rattle.mich_machine.specs.Calls.{counts_of, IsHosting};
-ghost use Rattle.mich_ops.specs.View.{action as action_of};
+ghost use Rattle.std.specs.Prelude.{◌≡◌, ◌∷◌, [], Ok, true, false, IfOk, OnOk};
+ghost use Rattle.mich_machine.specs.Calls.{IsHosting};
 ghost use Rattle.mich_world.specs.Marks.{KeepsWorld};
-ghost use Rattle.mich_group.specs.Trees.{Goes, StepsAs, StepsTo, OnStep};
+ghost use Rattle.mich_group.specs.Trees.{Acts, NoneWaits, SomeGoing, Steps, OnStep, alone};
 ghost use Rattle.mich_group.specs.Waiting.{AreHanded, all_sent};
 
 use crate::waiting::{Sent, send};
@@ -35,9 +30,9 @@ pub(crate) fn apply_first(
     effects: &mut Rows<Effect>,
 ) -> Result<(), ApplyError>
     requires nothing { waiting.old ≡ [] }
-    requires goes { (start w : PlainWorld) × (contents : ℕ) × Goes start (setting_of (listed costs.now) counts.old.group source.now) contents world.old w (ordered (action_of action.now) ∷ []) (counts_of counts.old) }
+    requires goes { SomeGoing costs.now source.now (alone action.now) world.old counts.old }
     requires hosting { IsHosting world.old }
-    ensures steps { (start w : PlainWorld) (contents : ℕ) → Goes start (setting_of (listed costs.entry.now) counts.old.group source.entry.now) contents world.old w (ordered (action_of action.entry.now) ∷ []) (counts_of counts.old) → StepsAs (setting_of (listed costs.entry.now) counts.old.group source.entry.now) w (ordered (action_of action.entry.now) ∷ []) meter.old (counts_of counts.old) world.new meter.new (counts_of counts.new) waiting.new effects.old effects.new result }
+    ensures steps { Acts costs.entry.now source.entry.now action.entry.now world.old meter.old counts.old world.new meter.new counts.new waiting.new effects.old effects.new result }
     ensures group { OnOk result (counts.new.group ≡ counts.old.group) }
     ensures hosting { IfOk result (λ _. IsHosting world.new) }
     ensures handed { IfOk result (λ _. AreHanded world.new waiting.new) }
@@ -62,11 +57,11 @@ pub(crate) fn apply_next(
     waiting: &mut Rows<Sent>,
     effects: &mut Rows<Effect>,
 ) -> Result<bool, ApplyError>
-    requires goes { (start w : PlainWorld) × (contents : ℕ) × Goes start (setting_of (listed costs.now) counts.old.group source.now) contents world.old w (all_sent world.old.store.bases.present waiting.old) (counts_of counts.old) }
+    requires goes { SomeGoing costs.now source.now (all_sent world.old.store.bases.present waiting.old) world.old counts.old }
     requires hosting { IsHosting world.old }
     requires handed { AreHanded world.old waiting.old }
-    ensures none { result ≡ Ok false → (waiting.old ≡ []) × (waiting.new ≡ []) × (world.new ≡ world.old) × (meter.new ≡ meter.old) × (counts.new ≡ counts.old) × (effects.new ≡ effects.old) }
-    ensures steps { (start w : PlainWorld) (contents : ℕ) → Goes start (setting_of (listed costs.entry.now) counts.old.group source.entry.now) contents world.old w (all_sent world.old.store.bases.present waiting.old) (counts_of counts.old) → StepsTo (setting_of (listed costs.entry.now) counts.old.group source.entry.now) w (all_sent world.old.store.bases.present waiting.old) meter.old (counts_of counts.old) world.new meter.new (counts_of counts.new) waiting.new effects.old effects.new result }
+    ensures none { result ≡ Ok false → NoneWaits waiting.old world.old meter.old counts.old effects.old waiting.new world.new meter.new counts.new effects.new }
+    ensures steps { Steps costs.entry.now source.entry.now world.old waiting.old meter.old counts.old world.new meter.new counts.new waiting.new effects.old effects.new result }
     ensures group { OnOk result (counts.new.group ≡ counts.old.group) }
     ensures hosting { IfOk result (λ _. IsHosting world.new) }
     ensures handed { IfOk result (λ _. AreHanded world.new waiting.new) }

@@ -1,14 +1,8 @@
 // An operation with all that it emits.
-ghost use Rattle.std.specs.Prelude.{◌≡◌, ◌∷◌, [], ◌<◌, ◌-◌, map, IfOk, ℕ};
-ghost use Rattle.rules_world.specs.world.Groups.{setting_of};
-ghost use Rattle.rules_world.specs.world.Outcomes.{ordered};
-ghost use Rattle.rules_world.specs.world.Trees.{tree, tree_within};
-ghost use Rattle.rules_world.specs.world.World.{World as PlainWorld};
-ghost use Rattle.mich_gas.specs.View.{listed};
-ghost use Rattle.mich_machine.specs.Calls.{counts_of, IsHosting};
-ghost use Rattle.mich_ops.specs.View.{action as action_of, effect};
+ghost use Rattle.std.specs.Prelude.{◌≡◌, ◌∷◌, [], ◌<◌, ◌-◌, IfOk};
+ghost use Rattle.mich_machine.specs.Calls.{IsHosting};
 ghost use Rattle.mich_world.specs.Marks.{KeepsWorld};
-ghost use Rattle.mich_group.specs.Trees.{Goes, WalksAs, WithMemory, behind_all};
+ghost use Rattle.mich_group.specs.Trees.{SomeGoing, Walks, WalksOn, WithMemory, alone};
 ghost use Rattle.mich_group.specs.Waiting.{AreHanded, all_sent};
 
 use crate::steps::{apply_first, apply_next};
@@ -55,10 +49,10 @@ fn apply_waiting(
     effects: &mut Rows<Effect>,
 ) -> Result<(), TreeError>
     requires some { 0 < gas }
-    requires goes { (start w : PlainWorld) × (contents : ℕ) × Goes start (setting_of (listed costs.now) counts.old.group source.now) contents world.old w (all_sent world.old.store.bases.present waiting.old) (counts_of counts.old) }
+    requires goes { SomeGoing costs.now source.now (all_sent world.old.store.bases.present waiting.old) world.old counts.old }
     requires hosting { IsHosting world.old }
     requires handed { AreHanded world.old waiting.old }
-    ensures walks { (start w : PlainWorld) (contents : ℕ) → Goes start (setting_of (listed costs.entry.now) counts.old.group source.entry.now) contents world.old w (all_sent world.old.store.bases.present waiting.old) (counts_of counts.old) → WalksAs (behind_all (map effect effects.old) 1 (tree_within (gas - 1) (setting_of (listed costs.entry.now) counts.old.group source.entry.now) w (all_sent world.old.store.bases.present waiting.old) meter.old (counts_of counts.old))) world.new meter.new counts.old counts.new effects.new result }
+    ensures walks { WalksOn costs.entry.now source.entry.now gas world.old waiting.old meter.old counts.old effects.old world.new meter.new counts.new effects.new result }
     ensures hosting { IfOk result (λ _. IsHosting world.new) }
     ensures keeps { WithMemory result (KeepsWorld world.old world.new) }
 {
@@ -96,9 +90,9 @@ pub fn apply_tree(
     effects: &mut Rows<Effect>,
 ) -> Result<(), TreeError>
     requires empty { effects.old ≡ [] }
-    requires goes { (start w : PlainWorld) × (contents : ℕ) × Goes start (setting_of (listed costs.now) counts.old.group source.now) contents world.old w (ordered (action_of action.now) ∷ []) (counts_of counts.old) }
+    requires goes { SomeGoing costs.now source.now (alone action.now) world.old counts.old }
     requires hosting { IsHosting world.old }
-    ensures walks { (start w : PlainWorld) (contents : ℕ) → Goes start (setting_of (listed costs.entry.now) counts.old.group source.entry.now) contents world.old w (ordered (action_of action.entry.now) ∷ []) (counts_of counts.old) → WalksAs (tree (setting_of (listed costs.entry.now) counts.old.group source.entry.now) w (ordered (action_of action.entry.now) ∷ []) meter.old (counts_of counts.old)) world.new meter.new counts.old counts.new effects.new result }
+    ensures walks { Walks costs.entry.now source.entry.now action.entry.now world.old meter.old counts.old world.new meter.new counts.new effects.new result }
     ensures hosting { IfOk result (λ _. IsHosting world.new) }
     ensures keeps { WithMemory result (KeepsWorld world.old world.new) }
 {

@@ -28,6 +28,7 @@ use Rattle.mich_interpreter.specs.declared.act.Act.TheVariants as a
 use Rattle.mich_interpreter.specs.declared.act.Failed.{Failed}
 use Rattle.mich_interpreter.specs.declared.act.Failed.TheVariants as x
 use Rattle.mich_interpreter.specs.declared.frame.Frame.{Frame}
+use Rattle.mich_interpreter.specs.declared.frame.Frame.TheVariants as kept
 use Rattle.mich_interpreter.specs.declared.loops.Turn.{Turn}
 use Rattle.mich_interpreter.specs.declared.loops.Turn.TheVariants as turn
 use Rattle.mich_interpreter.specs.declared.state.State.{State}
@@ -124,6 +125,12 @@ Meets i x costs m fs d Z o = MeetsAt i fs (around x costs m) (tops x.sight m.sta
 -- this frame comes first
 abbrev pub Stands : Frame → Beyond → Costs → State → List fr.Frame → ℕ → List Kind → Outcome → Type 0
 Stands f x costs m fs d Z o = StandsAt (frame x.sight f ∷ fs) (around x costs m) (tops x.sight m.stack) (tally x m) d Z o
+
+-- wherever the frame of a LOOP comes first, this comes of it
+abbrev pub TurnsSo : Turn → Costs → State → State → Type 0
+TurnsSo t costs old new =
+    (body : List Instr) (x : Beyond) (fs : List fr.Frame) (d : ℕ) (Z : List Kind) (o : Outcome) →
+    Stands (kept.Turns body) x costs old fs d Z o → HasTurned t body x costs new fs d Z o
 
 -- what came first has acted
 abbrev pub Acts : Act → Beyond → Costs → State → List fr.Frame → ℕ → List Kind → Outcome → Type 0

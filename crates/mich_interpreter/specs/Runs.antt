@@ -1,5 +1,6 @@
 -- Where a run stands, and how its steps end.
-use Rattle.std.specs.Prelude.{◌≡◌, ◌≤◌, ◌<◌, ◌+◌, ◌++◌, ℕ, Bool, true, false, List, [], ◌∷◌, drop, Option, Some, None}
+use Rattle.std.specs.Prelude.{◌≡◌, ◌≤◌, ◌<◌, ◌+◌, ◌++◌, ℕ, Bool, true, false, List, [], ◌∷◌, drop, Option, Some, None, Result, IfOk, IfSome}
+use Rattle.mich_base.specs.declared.memory.Memory.{Memory}
 use Rattle.rules_text.specs.nodes.Limits.{block_limit}
 use Rattle.rules_data.specs.types.Kind.{Kind}
 use Rattle.rules_code.specs.evaluation.Outcome.{Outcome, stack, failed}
@@ -74,6 +75,24 @@ IsStep s.Paid x costs m gs Z o = InBlock x costs m gs Z o
 IsStep s.Done x costs m gs Z o = StandsAt gs (around x costs m.state) (tops x.sight m.state.stack) (tally x m.state) m.depth Z o
 IsStep (s.View w) x costs m gs Z o = HasActedIn (a.View w) x costs m gs Z o
 IsStep (s.Failed why) x costs m gs Z o = o ≡ failed (failure x.sight why)
+
+-- wherever the run is in its block, and sees a world, the outcome of the whole stays behind the step
+abbrev pub StaysIn : World → Costs → Machine → Machine → Result Step Memory → Type 0
+StaysIn v costs old new r =
+    (x : Beyond) (gs : List fr.Frame) (Z : List Kind) (o : Outcome) → InBlock x costs old gs Z o → Sees v x →
+    IfOk r (λ s. IsStep s x costs new gs Z o)
+
+-- wherever this has acted in front of the rest of the block
+abbrev pub StaysBehindAct : Act → Machine → Machine → Result Step Memory → Type 0
+StaysBehindAct act old new r =
+    (x : Beyond) (costs : Costs) (gs : List fr.Frame) (Z : List Kind) (o : Outcome) → HasActedIn act x costs old gs Z o →
+    IfOk r (λ s. IsStep s x costs new gs Z o)
+
+-- wherever it is behind its block, if there was a step
+abbrev pub StaysBehindTurn : Costs → Machine → Machine → Result (Option Step) Memory → Type 0
+StaysBehindTurn costs old new r =
+    (x : Beyond) (gs : List fr.Frame) (Z : List Kind) (o : Outcome) → Behind x costs old gs Z o →
+    IfOk r (λ t. IfSome t (λ s. IsStep s x costs new gs Z o))
 
 -- how much there is that costs nothing
 abbrev pub size_of : Machine → ℕ

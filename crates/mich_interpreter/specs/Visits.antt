@@ -4,7 +4,7 @@ use Rattle.rules_text.specs.nodes.Tree.{Trees, seq}
 use Rattle.rules_data.specs.types.Kind.{Kind}
 use Rattle.rules_data.specs.types.Kind as k
 use Rattle.rules_code.specs.instructions.Context as place
-use Rattle.rules_code.specs.evaluation.Contracts.{Viewed}
+use Rattle.rules_code.specs.evaluation.Contracts.{Viewed, viewed}
 use Rattle.mich_frames.specs.Views.{view_code}
 use Rattle.mich_instr.specs.Typed.{AreCode}
 use Rattle.mich_instr.specs.View.{codes, view_codes}
@@ -38,3 +38,7 @@ abbrev pub IsVisit : Beyond → Kind → Kind → Option Viewed → Option Visit
 IsVisit x a b None None = Unit {0}
 IsVisit x a b (Some w) (Some v) = Visits x a b w v
 IsVisit x a b _ _ = ⊥
+
+-- what is found is the view of a name with these types, at an address as it is spelled
+abbrev pub Finds : Beyond → List ℕ → List ℕ → Kind → Kind → Option Visit → Type 0
+Finds x address name a b v = IsVisit x a b (viewed x.contract_at name a b address) v

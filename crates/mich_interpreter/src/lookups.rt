@@ -1,11 +1,11 @@
 // Contracts that code names.
 ghost use Rattle.std.specs.Prelude.{◌≡◌, option_map};
 ghost use Rattle.rules_code.specs.evaluation.Contracts.{Lookup, chosen_entrypoint, contract_of, takes};
-ghost use Rattle.rules_data.specs.forms.Spelling.{contract_place, implicit_place, spelled_address};
+ghost use Rattle.rules_data.specs.forms.Spelling.{contract_place, implicit_place};
 ghost use Rattle.mich_literals.specs.arguments.Arguments.{HasTypedScripts};
 ghost use Rattle.mich_base.specs.TypeView.{kind};
 ghost use Rattle.mich_forms.specs.Spelled.{address_bytes, place_bytes};
-ghost use Rattle.mich_interpreter.specs.Sees.{LooksInto};
+ghost use Rattle.mich_interpreter.specs.Sees.{IsNamed, LooksInto};
 
 use mich_base::Ty;
 use mich_forms::{Address, Entrypoint, KeyHash, Place};
@@ -51,7 +51,7 @@ fn account_entrypoint(
     annotation: Entrypoint,
     ty: &Ty,
 ) -> Option<Entrypoint>
-    ensures { (at : Lookup) → option_map (spelled_address (implicit_place who)) result ≡ contract_of at annotation (kind ty.now) (spelled_address (implicit_place who) of_address) }
+    ensures { (at : Lookup) → IsNamed at (implicit_place who) of_address annotation (kind ty.now) result }
 {
     let Some(name) = chosen_entrypoint(of_address, annotation) else {
         return None;
@@ -72,7 +72,7 @@ fn contract_entrypoint(
     ty: &Ty,
 ) -> Option<Entrypoint>
     requires { HasTypedScripts world.now }
-    ensures { (at : Lookup) → LooksInto world.now at → option_map (spelled_address (contract_place hash)) result ≡ contract_of at annotation (kind ty.now) (spelled_address (contract_place hash) of_address) }
+    ensures { (at : Lookup) → LooksInto world.now at → IsNamed at (contract_place hash) of_address annotation (kind ty.now) result }
 {
     let Some(name) = chosen_entrypoint(of_address, annotation) else {
         return None;
@@ -93,7 +93,7 @@ fn named_entrypoint(
     ty: &Ty,
 ) -> Option<Entrypoint>
     requires { HasTypedScripts world.now }
-    ensures { (at : Lookup) → LooksInto world.now at → option_map (spelled_address (place_bytes place)) result ≡ contract_of at annotation (kind ty.now) (spelled_address (place_bytes place) of_address) }
+    ensures { (at : Lookup) → LooksInto world.now at → IsNamed at (place_bytes place) of_address annotation (kind ty.now) result }
 {
     match place {
         Place::Implicit(who) => account_entrypoint(who, of_address, annotation, ty),

@@ -1,13 +1,9 @@
 // LOOP and LOOP_LEFT.
-ghost use Rattle.std.specs.Prelude.{◌≡◌, ℕ, List, IfOk};
-ghost use Rattle.rules_data.specs.types.Kind.{Kind as TypeKind};
-ghost use Rattle.rules_code.specs.evaluation.Outcome.{Outcome};
-ghost use Rattle.mich_frames.specs.Frames.{Frame as PlainFrame};
+ghost use Rattle.std.specs.Prelude.{◌≡◌, List, IfOk};
 ghost use Rattle.mich_instr.specs.Code as made;
 ghost use Rattle.mich_instr.specs.View.{codes};
 ghost use Rattle.mich_instr.specs.declared.instr.Instr.{Instr};
-ghost use Rattle.mich_interpreter.specs.Ends.{Comes, Carries, Waits, Resumes, Spends, Stands, Turns, HasTurned, IsTurned};
-ghost use Rattle.mich_interpreter.specs.View.{Beyond};
+ghost use Rattle.mich_interpreter.specs.Ends.{Comes, Carries, Waits, Resumes, Spends, Turns, TurnsSo, IsTurned};
 
 use crate::act::{Act, Failed};
 use crate::frame::Frame;
@@ -32,7 +28,7 @@ pub(crate) enum Turn {
 // Takes the truth value on top and pays for a further turn, where it says that there is one. Else nothing is changed.
 pub(crate) fn further_turn(m: &mut State, costs: &Costs) -> Turn
     requires { (body : List Instr) × Waits (Frame.Turns body) costs.now m.old }
-    ensures turned { (body : List Instr) (x : Beyond) (fs : List PlainFrame) (d : ℕ) (Z : List TypeKind) (o : Outcome) → Stands (Frame.Turns body) x costs.now m.old fs d Z o → HasTurned result body x costs.now m.new fs d Z o }
+    ensures turned { TurnsSo result costs.now m.old m.new }
     ensures gas { IsTurned result m.old m.new }
     ensures ledger { m.new.ledger ≡ m.old.ledger }
     ensures counts { m.new.counts ≡ m.old.counts }

@@ -2,7 +2,6 @@
 ghost use Rattle.std.specs.Prelude.{[], ◌∷◌, ◌++◌, ◌≡◌, ◌+◌, ◌^◌, ◌<◌, ℕ, List, length, IfOk, IfSome, MatchOption};
 ghost use Rattle.rules_data.specs.types.Kind.{Kind};
 ghost use Rattle.rules_code.specs.evaluation.Outcome.{Outcome};
-ghost use Rattle.mich_gas.specs.declared.costs.Costs.{Costs as Prices};
 ghost use Rattle.mich_frames.specs.Frames.{Frame as PlainFrame};
 ghost use Rattle.mich_instr.specs.View.{code};
 ghost use Rattle.mich_interpreter.specs.View.{Beyond};
@@ -10,7 +9,7 @@ ghost use Rattle.mich_interpreter.specs.Ends.{ComesIn, CarriesIn, Waits, Resumes
 ghost use Rattle.mich_interpreter.specs.declared.state.State.{State as PlainState};
 ghost use Rattle.mich_interpreter.specs.Sees.{Sees};
 ghost use Rattle.mich_interpreter.specs.Callers.{InCall, SomeStart};
-ghost use Rattle.mich_interpreter.specs.Runs.{InBlock, Behind, HasActedIn, IsStep, IsBegun, IsSpent, IsPaidStep, IsSettled, HasLeft, with_below, with_rest, SomeRun, SomeEnd, IsEnd, KeepsStep, KeepsEnd, IsNoBlock, IsNoSequence};
+ghost use Rattle.mich_interpreter.specs.Runs.{Behind, IsStep, StaysIn, StaysBehindAct, StaysBehindTurn, IsBegun, IsSpent, IsPaidStep, IsSettled, HasLeft, with_below, with_rest, SomeRun, SomeEnd, IsEnd, KeepsStep, KeepsEnd, IsNoBlock, IsNoSequence};
 
 use crate::act::{Act, Failed, View};
 use crate::applying::act_apply;
@@ -175,7 +174,7 @@ fn begin_inside(m: &mut Machine, below: Option<Frame>, body: Block) -> Result<bo
 
 // What has acted in the block that runs.
 fn follow(m: &mut Machine, act: Act) -> Result<Step, Memory>
-    ensures stays { (x : Beyond) (costs : Prices) (gs : List PlainFrame) (Z : List Kind) (o : Outcome) → HasActedIn act x costs m.old gs Z o → IfOk result (λ s. IsStep s x costs m.new gs Z o) }
+    ensures stays { StaysBehindAct act m.old m.new result }
     ensures spent { (n : ℕ) → Spends act n m.old.state.meter → IfOk result (λ s. IsPaidStep s n m.new.state.meter) }
     ensures state { m.new.state ≡ m.old.state }
     ensures keeps { (from : PlainState) → KeepsAct act from m.old.state → IfOk result (λ s. KeepsStep s from m.new.state) }
@@ -209,7 +208,7 @@ fn turning(frames: &Rows<Frame>) -> Option<&Block>
 #[tactic(auto, using(crate::proofs::Keeping::same_keeps, crate::proofs::Keeping::keeps_state))]
 fn turn_again(m: &mut Machine, costs: &Costs) -> Result<Option<Step>, Memory>
     requires { SomeEnd costs.now m.old }
-    ensures stays { (x : Beyond) (gs : List PlainFrame) (Z : List Kind) (o : Outcome) → Behind x costs.now m.old gs Z o → IfOk result (λ r. IfSome r (λ s. IsStep s x costs.now m.new gs Z o)) }
+    ensures stays { StaysBehindTurn costs.now m.old m.new result }
     ensures spent { IfOk result (λ r. MatchOption r (m.new ≡ m.old) (λ s. HasLeft s m.old m.new)) }
     ensures keeps { IfOk result (λ r. IfSome r (λ s. KeepsStep s m.old.state m.new.state)) }
 {
@@ -278,7 +277,7 @@ fn advance_inside(
     requires within { m.old.at < length m.old.block }
     requires fits { m.old.at + 1 < 2 ^ 64 }
     requires stands { SomeRun world.now costs.now m.old }
-    ensures stays { (x : Beyond) (gs : List PlainFrame) (Z : List Kind) (o : Outcome) → InBlock x costs.now m.old gs Z o → Sees world.now x → IfOk result (λ s. IsStep s x costs.now m.new gs Z o) }
+    ensures stays { StaysIn world.now costs.now m.old m.new result }
     ensures spent { IfOk result (λ s. IsSpent s m.old m.new) }
     ensures keeps { IfOk result (λ s. KeepsStep s m.old.state m.new.state) }
 {
@@ -310,7 +309,7 @@ fn advance(
     bodies: &mut Bodies,
 ) -> Result<Step, Memory>
     requires { SomeRun world.now costs.now m.old }
-    ensures stays { (x : Beyond) (gs : List PlainFrame) (Z : List Kind) (o : Outcome) → InBlock x costs.now m.old gs Z o → Sees world.now x → IfOk result (λ s. IsStep s x costs.now m.new gs Z o) }
+    ensures stays { StaysIn world.now costs.now m.old m.new result }
     ensures spent { IfOk result (λ s. IsSpent s m.old m.new) }
     ensures keeps { IfOk result (λ s. KeepsStep s m.old.state m.new.state) }
 {
@@ -339,7 +338,7 @@ fn settle(
     bodies: &mut Bodies,
 ) -> Result<Step, Memory>
     requires { SomeRun world.now costs.now m.old }
-    ensures stays { (x : Beyond) (gs : List PlainFrame) (Z : List Kind) (o : Outcome) → InBlock x costs.now m.old gs Z o → Sees world.now x → IfOk result (λ s. IsStep s x costs.now m.new gs Z o) }
+    ensures stays { StaysIn world.now costs.now m.old m.new result }
     ensures less { IfOk result (λ s. IsSettled s m.old m.new) }
     ensures keeps { IfOk result (λ s. KeepsStep s m.old.state m.new.state) }
 {

@@ -1,6 +1,5 @@
 // Views of contracts.
 ghost use Rattle.std.specs.Prelude.{◌≡◌, IfOk, option_map};
-ghost use Rattle.rules_code.specs.evaluation.Contracts.{viewed};
 ghost use Rattle.rules_data.specs.forms.Spelling.{contract_place, implicit_place, spelled_address};
 ghost use Rattle.mich_base.specs.TypeView.{kind};
 ghost use Rattle.mich_forms.specs.Spelled.{address_bytes};
@@ -10,7 +9,7 @@ ghost use Rattle.mich_instr.specs.View.{codes, view_codes};
 ghost use Rattle.mich_instr.specs.declared.instr.Script.{out-Script};
 ghost use Rattle.mich_interpreter.specs.Sees.{Sees};
 ghost use Rattle.mich_interpreter.specs.View.{Beyond};
-ghost use Rattle.mich_interpreter.specs.Visits.{HasCode, IsVisit};
+ghost use Rattle.mich_interpreter.specs.Visits.{HasCode, Finds};
 
 use mich_base::{Memory, Rows, Text, Ty};
 use mich_forms::{Address, Entrypoint, KeyHash, Place};
@@ -94,7 +93,7 @@ fn visit_hash(
     input: &Ty,
     output: &Ty,
 ) -> Result<Option<Visit>, Memory>
-    ensures { IfOk result (λ r. (x : Beyond) → Sees world.now x → IsVisit x (kind input.now) (kind output.now) (viewed x.contract_at name.now (kind input.now) (kind output.now) (spelled_address (contract_place hash) entrypoint)) r) }
+    ensures { IfOk result (λ r. (x : Beyond) → Sees world.now x → Finds x (spelled_address (contract_place hash) entrypoint) name.now (kind input.now) (kind output.now) r) }
 {
     match world.contract(&hash) {
         Some(contract) => Ok(visit_contract(alloc, contract, hash, name, input, output)?),
@@ -110,7 +109,7 @@ fn visit_account(
     input: &Ty,
     output: &Ty,
 ) -> Option<Visit>
-    ensures { (x : Beyond) → IsVisit x (kind input.now) (kind output.now) (viewed x.contract_at name.now (kind input.now) (kind output.now) (spelled_address (implicit_place who) entrypoint)) result }
+    ensures { (x : Beyond) → Finds x (spelled_address (implicit_place who) entrypoint) name.now (kind input.now) (kind output.now) result }
 {
     None
 }
@@ -124,7 +123,7 @@ pub(crate) fn find_view(
     input: &Ty,
     output: &Ty,
 ) -> Result<Option<Visit>, Memory>
-    ensures { IfOk result (λ r. (x : Beyond) → Sees world.now x → IsVisit x (kind input.now) (kind output.now) (viewed x.contract_at name.now (kind input.now) (kind output.now) (address_bytes address.now)) r) }
+    ensures { IfOk result (λ r. (x : Beyond) → Sees world.now x → Finds x (address_bytes address.now) name.now (kind input.now) (kind output.now) r) }
 {
     match address.place {
         Place::Implicit(who) => Ok(visit_account(who, address.entrypoint, name, input, output)),

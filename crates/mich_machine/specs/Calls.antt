@@ -99,6 +99,12 @@ EndsAs (run_failed why) v gas old new (Err (Failed f)) = failure f ≡ told why
 EndsAs e v gas old new (Err (Failed f)) = ⊥
 EndsAs e v gas old new (Err Memory) = Unit {0}
 
+-- wherever it is the call of a target, the run ends as that of the definitions
+abbrev pub EndsAsCall : World → Listed → List ℕ → List ℕ → Value → Env → ℕ → Counts → World → ℕ → Counts → Result Finished RunError → Type 0
+EndsAsCall v prices to name argument env gas counts z left now r =
+    (w : PlainWorld) (t : Target) → Calls v w prices counts to name argument env t →
+    EndsAs (run_of v w prices counts gas argument env t) z left counts now r
+
 -- what holds where memory sufficed
 abbrev pub WithMemory : Result Finished RunError → Type 0 → Type 0
 WithMemory (Err Memory) a = Unit {0}

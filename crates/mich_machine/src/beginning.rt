@@ -1,13 +1,12 @@
 // How a run begins.
 ghost use Rattle.std.specs.Prelude.{◌≡◌, [], ◌∷◌, Bool, IfOk, Some, is_some, true, map};
-ghost use Rattle.rules_data.specs.types.Entrypoints.{Entry, find_entry};
-ghost use Rattle.rules_data.specs.values.Val.{both};
+ghost use Rattle.rules_data.specs.types.Entrypoints.{find_entry};
 ghost use Rattle.rules_world.specs.world.Targets.{wrapped};
 ghost use Rattle.mich_types.specs.Entered.{entry_of};
 ghost use Rattle.mich_stack.specs.Views.{Sight, seen};
 ghost use Rattle.mich_tickets.specs.Books.{fresh, no_books};
 ghost use Rattle.mich_world.specs.World.{with_ledger};
-ghost use Rattle.mich_machine.specs.Begins.{entries_of, code_of};
+ghost use Rattle.mich_machine.specs.Begins.{IsOpening, entries_of, code_of};
 
 use crate::lending::take_ledger;
 use mich_base::{Link, Memory, Rows};
@@ -55,7 +54,7 @@ pub(crate) fn opening(
 ) -> Result<(Block, Value), Memory>
     requires { is_some (find_entry name.now (entries_of contract.now.script)) ≡ true }
     ensures code { IfOk result (λ r. r.0 ≡ code_of contract.now.script) }
-    ensures value { IfOk result (λ r. (big : Sight) (e : Entry) → find_entry name.now (entries_of contract.now.script) ≡ Some e → seen big r.1 ≡ both (wrapped e.path (seen big argument)) (seen big contract.now.storage)) }
+    ensures value { IfOk result (λ r. IsOpening contract.now name.now argument r.1) }
 {
     let script = contract.script.get();
     let Some(entry) = entrypoint(&script.parameter, name) else {

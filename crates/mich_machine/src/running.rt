@@ -3,7 +3,7 @@ ghost use Rattle.std.specs.Prelude.{◌≡◌, IfOk};
 ghost use Rattle.mich_bigmap.specs.Extended.{Extends};
 ghost use Rattle.mich_bigmap.specs.Layers.{HasBases};
 ghost use Rattle.mich_gas.specs.View.{listed};
-ghost use Rattle.mich_machine.specs.Calls.{Calls, EndsAs, IsHosting, WithMemory, run_of};
+ghost use Rattle.mich_machine.specs.Calls.{Calls, EndsAsCall, IsHosting, WithMemory};
 ghost use Rattle.mich_term.specs.Layers.{AreFormed};
 ghost use Rattle.mich_world.specs.Marks.{KeepsWorld};
 ghost use Rattle.rules_world.specs.world.Targets.{Target};
@@ -69,7 +69,7 @@ pub fn run(
     requires hosting { IsHosting world.old }
     requires formed { AreFormed argument }
     requires based { HasBases world.old.store.bases.present argument }
-    ensures ends { (w : PlainWorld) (t : Target) → Calls world.old w (listed costs.entry.now) counts.old to.entry.now name.entry.now argument env.entry.now t → EndsAs (run_of world.old w (listed costs.entry.now) counts.old meter.old argument env.entry.now t) world.new meter.new counts.old counts.new result }
+    ensures ends { EndsAsCall world.old (listed costs.entry.now) to.entry.now name.entry.now argument env.entry.now meter.old counts.old world.new meter.new counts.new result }
     ensures hosting { IfOk result (λ _. IsHosting world.new) }
     ensures bases { IfOk result (λ _. Extends world.old.store.bases.present world.new.store.bases.present) }
     ensures keeps { WithMemory result (KeepsWorld world.old world.new) }

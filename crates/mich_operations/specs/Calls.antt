@@ -1,28 +1,47 @@
 -- Mutez that go to a contract, which is called with them (Octez "Operations", transactions).
 use Rattle.std.specs.Prelude.{◌≡◌, ◌≤◌, ℕ, nat_le, true, is_some, List, Result, Ok, Err}
+use Rattle.std.specs.Borrow.{Bor}
 use Rattle.rules_text.specs.nodes.Tree.{Tree}
-use Rattle.rules_data.specs.forms.Spelling.{contract_place, is_place}
+use Rattle.rules_data.specs.gas.Prices.{Listed}
+use Rattle.rules_data.specs.forms.Spelling.{contract_place, is_implicit, is_place}
 use Rattle.rules_code.specs.instructions.Arguments.{fault}
+use Rattle.rules_code.specs.steps.Changes.{Change}
 use Rattle.rules_code.specs.steps.Failure.{no_contract, no_entrypoint}
 use Rattle.rules_data.specs.values.Val.{Val}
-use Rattle.rules_world.specs.world.Arguments.{literal_in}
+use Rattle.rules_world.specs.world.Application.{ordered_transaction}
+use Rattle.rules_world.specs.world.Arguments.{Argument, literal_in, value}
 use Rattle.rules_world.specs.world.Balances.{balance_or_none, moved}
+use Rattle.rules_world.specs.world.Contents as contents
 use Rattle.rules_world.specs.world.Forms.{IsWorld}
-use Rattle.rules_world.specs.world.Outcomes.{Setting, Counts, Outcome}
+use Rattle.rules_world.specs.world.Groups.{setting_of}
+use Rattle.rules_world.specs.world.Outcomes.{Setting, ordered, Counts, Outcome}
+use Rattle.rules_world.specs.world.Receipts.{Effect}
 use Rattle.rules_world.specs.world.RunLaws.{IsCall}
-use Rattle.rules_world.specs.world.Runs.{Call, environment_of}
+use Rattle.rules_world.specs.world.Runs.{Call, environment_of, run}
 use Rattle.rules_world.specs.world.Targets.{Target, met, missing, search}
-use Rattle.rules_world.specs.world.Transfers.{Transaction, if_covered}
+use Rattle.rules_world.specs.world.Transfers.{Transaction, delivered, if_covered, transfer_effect}
 use Rattle.rules_world.specs.world.World.{World as PlainWorld}
+use Rattle.mich_base.specs.View.{tree}
+use Rattle.mich_base.specs.declared.node.Node.{Node}
 use Rattle.mich_literals.specs.arguments.Arguments.{IsArgument}
 use Rattle.mich_bigmap.specs.Standing.{val_in}
 use Rattle.mich_forms.specs.Spelled.{place_bytes}
 use Rattle.mich_forms.specs.declared.places.Place.{Place}
+use Rattle.mich_forms.specs.declared.places.Place.TheVariants as place
+use Rattle.mich_gas.specs.View.{listed}
+use Rattle.mich_gas.specs.declared.costs.Costs.{Costs}
+use Rattle.mich_interpreter.specs.declared.state.Counts.{Counts as CodeCounts}
+use Rattle.mich_machine.specs.Calls.{counts_of}
 use Rattle.mich_ops.specs.declared.failure.Failure.TheVariants as failures
+use Rattle.mich_step.specs.Views.{environment}
+use Rattle.mich_step.specs.declared.environment.Env.{Env}
 use Rattle.mich_term.specs.declared.value.Value.{Value}
 use Rattle.mich_world.specs.Holders.{contract_at}
 use Rattle.mich_world.specs.Standing.{StandsFor}
 use Rattle.mich_world.specs.World.{World}
+use Rattle.mich_operations.specs.Going.{BeginsIn, EndsAs, setting_in}
+use Rattle.mich_operations.specs.Transfers.{transaction}
+use Rattle.mich_operations.specs.declared.applied.Applied.{Applied}
 use Rattle.mich_operations.specs.declared.applied.ApplyError.{ApplyError}
 use Rattle.mich_operations.specs.declared.applied.ApplyError.TheVariants.{Failed, Memory}
 
@@ -65,3 +84,61 @@ module _ (v : World) (w : PlainWorld) (s : Setting) (counts : Counts) (from : Pl
     pub named : t.entry.name ≡ name
     pub call : amount ≤ balance_or_none w (place_bytes from) →
         IsCalled s (moved w (place_bytes from) (contract_place to) amount) counts from amount t (val_in v.store.bases.present argument)
+
+-- ---- the same of a group in the code
+
+abbrev pub IsReadyIn : World → PlainWorld → Listed → CodeCounts → List ℕ → Place → List ℕ → List ℕ → ℕ → Value → Target → Type 0
+IsReadyIn v w prices counts source from to name amount argument t =
+    IsReady v w (setting_in prices counts source) (counts_of counts) from to name amount argument t
+
+abbrev pub IsDueIn : World → PlainWorld → Listed → CodeCounts → List ℕ → Place → List ℕ → List ℕ → ℕ → Value → Target → Type 0
+IsDueIn v w prices counts source from to name amount argument t =
+    IsDue v w (setting_in prices counts source) (counts_of counts) from to name amount argument t
+
+-- this surrounds a contract that a place calls, in each group of a source
+abbrev pub IsAround : World → List ℕ → Place → List ℕ → ℕ → Env → Type 0
+IsAround v source from to amount env =
+    (w : PlainWorld) (prices : Listed) (group : ℕ) (t : Target) (x : Val) → StandsFor v w → t.hash ≡ to
+    → environment env ≡ environment_of (setting_of prices group source) w (call_of from amount t x)
+
+-- ---- how they end
+
+-- a contract that is ready runs as the definitions say, and so its run is told
+abbrev pub Runs : Listed → List ℕ → Place → List ℕ → List ℕ → ℕ → Value → (List Change → Effect)
+    → World → ℕ → CodeCounts → World → ℕ → CodeCounts → Result Applied ApplyError → Type 0
+Runs prices source from to name amount argument effect v gas counts new left after r =
+    (w : PlainWorld) (t : Target) → IsReadyIn v w prices counts source from to name amount argument t
+    → EndsAs
+    (run (setting_in prices counts source) w (call_of from amount t (val_in v.store.bases.present argument)) gas (counts_of counts) effect)
+    new left counts after r
+
+-- as a transfer
+abbrev pub RunsContract : Bor Costs → Bor (List ℕ) → Bor Place → Bor (List ℕ) → Bor (List ℕ) → ℕ → Value
+    → World → ℕ → CodeCounts → World → ℕ → CodeCounts → Result Applied ApplyError → Type 0
+RunsContract costs source from to name amount argument v gas counts new left after r =
+    Runs (listed costs.now) source.now from.now to.now name.now amount argument
+    (transfer_effect (transaction from.now (place.Contract to.now) name.now amount (value (val_in v.store.bases.present argument)))
+    (val_in v.store.bases.present argument))
+    v gas counts new left after r
+
+-- a contract is called as is due, where the place has the mutez
+abbrev pub CallsContract : Bor Costs → Bor (List ℕ) → Bor Place → Bor (List ℕ) → Bor (List ℕ) → ℕ → Value
+    → World → ℕ → CodeCounts → World → ℕ → CodeCounts → Result Applied ApplyError → Type 0
+CallsContract costs source from to name amount argument v gas counts new left after r =
+    (w : PlainWorld) (t : Target) (a : Argument) → IsDueIn v w (listed costs.now) counts source.now from.now to.now name.now amount argument t
+    → EndsAs
+    (covered (setting_in (listed costs.now) counts source.now) w (transaction from.now (place.Contract to.now) name.now amount a) t
+    (val_in v.store.bases.present argument) gas (counts_of counts))
+    new left counts after r
+
+-- where a group comes to a call, and its price is paid, it ends as the definitions say
+abbrev pub CallsPlace : Bor Costs → Bor (List ℕ) → ℕ → Bor Place → Bor (List ℕ) → Bor Node
+    → World → ℕ → CodeCounts → World → ℕ → CodeCounts → Result Applied ApplyError → Type 0
+CallsPlace costs source amount to entry argument v gas counts new left after r =
+    (w : PlainWorld)
+    → BeginsIn v w (listed costs.now) counts source.now (ordered (contents.Call amount (place_bytes to.now) entry.now (tree argument.now)))
+    → EndsAs
+    (delivered (is_implicit (place_bytes to.now)) (setting_in (listed costs.now) counts source.now) w
+    (ordered_transaction (setting_in (listed costs.now) counts source.now) amount (place_bytes to.now) entry.now (tree argument.now))
+    gas (counts_of counts))
+    new left counts after r

@@ -2,11 +2,14 @@
 use Rattle.std.specs.Prelude.{◌≡◌, ℕ, true, List, Result, Ok, Err}
 use Rattle.rules_text.specs.nodes.Tree.{Tree}
 use Rattle.rules_code.specs.instructions.Arguments.{Found, found, fault}
+use Rattle.rules_data.specs.gas.Prices.{Listed}
 use Rattle.rules_data.specs.forms.Spelling.{is_place}
 use Rattle.rules_code.specs.typing.Nodes.{script}
 use Rattle.rules_data.specs.values.Val.{Val}
 use Rattle.rules_world.specs.world.Forms.{IsWorld}
-use Rattle.rules_world.specs.world.Originations.{Founding}
+use Rattle.rules_world.specs.world.Contents.{Originate}
+use Rattle.rules_world.specs.world.Originations.{Founding, found_contract, with_script}
+use Rattle.rules_world.specs.world.Outcomes.{ordered}
 use Rattle.rules_world.specs.world.World.{World as PlainWorld}
 use Rattle.mich_bigmap.specs.Bases.{Bases}
 use Rattle.mich_bigmap.specs.Standing.{val_in}
@@ -15,11 +18,15 @@ use Rattle.mich_forms.specs.declared.places.Place.{Place}
 use Rattle.mich_instr.specs.Scripts.{IsTypedScript}
 use Rattle.mich_instr.specs.View.{script_node}
 use Rattle.mich_instr.specs.declared.instr.Script.{Script}
+use Rattle.mich_interpreter.specs.declared.state.Counts.{Counts}
+use Rattle.mich_machine.specs.Calls.{counts_of}
 use Rattle.mich_ops.specs.declared.failure.Failure.TheVariants.{IllTyped, BadStorage}
 use Rattle.mich_term.specs.ValueView.{val}
 use Rattle.mich_term.specs.declared.value.Value.{Value}
 use Rattle.mich_world.specs.Standing.{StandsFor}
 use Rattle.mich_world.specs.World.{World}
+use Rattle.mich_operations.specs.Going.{BeginsIn, EndsAs, setting_in}
+use Rattle.mich_operations.specs.declared.applied.Applied.{Applied}
 use Rattle.mich_operations.specs.declared.applied.ApplyError.{ApplyError}
 use Rattle.mich_operations.specs.declared.applied.ApplyError.TheVariants.{Failed, Memory}
 
@@ -38,6 +45,18 @@ pub record IsPayer (v : World) (w : PlainWorld) (from : Place) : Type 0 where
   pub stands : StandsFor v w
   pub form : IsWorld w
   pub payer : is_place (place_bytes from) ≡ true
+
+-- a contract is made, whose balance a place pays
+abbrev pub Founds : World → Place → Founding → World → Result Applied ApplyError → Type 0
+Founds v from f new r =
+    (w : PlainWorld) (gas : ℕ) (counts : Counts) → IsPayer v w from
+    → EndsAs (found_contract w f gas (counts_of counts)) new gas counts counts r
+
+-- where a group comes to an origination, and its price is paid, it ends as the definitions say
+abbrev pub Originates : List ℕ → ℕ → Tree → Tree → World → Counts → World → Counts → Result Applied ApplyError → Type 0
+Originates source balance t storage v counts new after r =
+    (prices : Listed) (w : PlainWorld) (gas : ℕ) → BeginsIn v w prices counts source (ordered (Originate balance t storage))
+    → EndsAs (with_script (script t) (setting_in prices counts source) w balance t storage gas (counts_of counts)) new gas counts after r
 
 -- a node is this script, or has its first fault here
 abbrev pub IsScriptOf : Tree → Result Script ApplyError → Type 0

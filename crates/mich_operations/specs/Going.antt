@@ -1,12 +1,20 @@
 -- One operation of a group, and how its application ends (Octez "Operations", internal operations).
 use Rattle.std.specs.Prelude.{◌≡◌, ◌≤◌, ℕ, true, is_some, List, [], ◌∷◌, map, Result, Ok, Err}
+use Rattle.std.specs.Borrow.{Bor}
 use Rattle.std.specs.List.{AllByRecursion}
+use Rattle.rules_data.specs.gas.Prices.{Listed}
+use Rattle.rules_data.specs.types.Kind.{Kind}
+use Rattle.rules_data.specs.values.Val.{Val}
 use Rattle.rules_data.specs.forms.Spelling.{contract_place}
+use Rattle.rules_world.specs.world.Application as rules
+use Rattle.rules_world.specs.world.Groups.{setting_of}
 use Rattle.rules_world.specs.world.World.{World as PlainWorld}
 use Rattle.rules_world.specs.world.Outcomes.{Setting, Waiting, issued, Counts as PlainCounts, Outcome, applied, failed}
 use Rattle.laws_world.specs.runs.Going.{IsSetting, IsGoing}
 use Rattle.mich_base.specs.Counted.{IsNotEmpty}
 use Rattle.mich_bigmap.specs.Bases.{Bases}
+use Rattle.mich_gas.specs.View.{listed}
+use Rattle.mich_gas.specs.declared.costs.Costs.{Costs}
 use Rattle.mich_instr.specs.declared.issued.Issued.{Issued}
 use Rattle.mich_machine.specs.Calls.{counts_of, issued_in, IsHanded}
 use Rattle.mich_interpreter.specs.declared.state.Counts.{Counts}
@@ -38,6 +46,16 @@ pub record IsNext (s : Setting) (w : PlainWorld) (op : Waiting) (counts : PlainC
 pub record Begins (v : World) (w : PlainWorld) (s : Setting) (op : Waiting) (counts : PlainCounts) : Type 0 where
   pub stands : StandsFor v w
   pub next : IsNext s w op counts
+
+-- ---- the group in the code
+
+-- its setting: the prices, its number, which is kept with the counts, and its source
+abbrev pub setting_in : Listed → Counts → List ℕ → Setting
+setting_in prices counts source = setting_of prices counts.group source
+
+-- it comes to this operation
+abbrev pub BeginsIn : World → PlainWorld → Listed → Counts → List ℕ → Waiting → Type 0
+BeginsIn v w prices counts source op = Begins v w (setting_in prices counts source) op (counts_of counts)
 
 -- ---- behind it
 
@@ -74,3 +92,13 @@ KeepsContracts old new = (hash : List ℕ) → is_some (contract_at old.funds.pr
 abbrev pub WithMemory : Result Applied ApplyError → Type 0 → Type 0
 WithMemory (Err Memory) a = Unit {0}
 WithMemory r a = a
+
+-- where a group comes to an operation, its application ends as the definitions say
+abbrev pub Applies : Bor Costs → Bor (List ℕ) → Waiting → World → ℕ → Counts → World → ℕ → Counts → Result Applied ApplyError → Type 0
+Applies costs source op v gas counts new left after r = (w : PlainWorld) → BeginsIn v w (listed costs.now) counts source.now op
+    → EndsAs (rules.apply (setting_in (listed costs.now) counts source.now) w op gas (counts_of counts)) new left counts after r
+
+-- a contract tells a value of a type under a tag
+abbrev pub TellsEvent : World → List ℕ → List ℕ → Kind → Val → Result Applied ApplyError → Type 0
+TellsEvent v by tag a x r = (w : PlainWorld) (gas : ℕ) (counts : Counts) → StandsFor v w
+    → EndsAs (rules.told w (contract_place by) tag a x gas (counts_of counts)) v gas counts counts r

@@ -1,24 +1,21 @@
 // Transfers to accounts.
-ghost use Rattle.std.specs.Prelude.{◌≡◌, ◌<◌, ◌^◌, [], ℕ, true, is_some, Some, None, IfOk};
+ghost use Rattle.std.specs.Prelude.{◌≡◌, ◌<◌, ◌^◌, [], true, is_some, None, IfOk};
 ghost use Rattle.rules_text.specs.nodes.Tree.{size};
 ghost use Rattle.rules_data.specs.values.Canonical.{canonical};
-ghost use Rattle.rules_world.specs.world.Arguments.{Argument, node};
-ghost use Rattle.rules_world.specs.world.Arguments as rules;
 ghost use Rattle.rules_world.specs.world.Gives.{as_value};
-ghost use Rattle.rules_world.specs.world.Transfers.{as_ticket, to_account, with_taken};
+ghost use Rattle.rules_world.specs.world.Transfers.{as_ticket};
 ghost use Rattle.rules_world.specs.world.World.{World as PlainWorld};
 ghost use Rattle.mich_base.specs.View.{tree};
 ghost use Rattle.mich_bigmap.specs.Bases.{Bases};
 ghost use Rattle.mich_bigmap.specs.Standing.{val_in};
 ghost use Rattle.mich_forms.specs.declared.places.Place.TheVariants as place;
-ghost use Rattle.mich_machine.specs.Calls.{counts_of, IsHosting};
-ghost use Rattle.mich_interpreter.specs.declared.state.Counts.{Counts};
+ghost use Rattle.mich_machine.specs.Calls.{IsHosting};
 ghost use Rattle.mich_ops.specs.declared.receipt.Effect.TheVariants as effect;
 ghost use Rattle.mich_term.specs.TicketView.{held};
 ghost use Rattle.mich_world.specs.Holders.{may_receive};
 ghost use Rattle.mich_world.specs.Marks.{KeepsWorld};
-ghost use Rattle.mich_operations.specs.Going.{EndsAs, KeepsContracts};
-ghost use Rattle.mich_operations.specs.Transfers.{AreBetween, IsSent, transaction};
+ghost use Rattle.mich_operations.specs.Going.{KeepsContracts};
+ghost use Rattle.mich_operations.specs.Transfers.{CallsAccount, IsSent, PaysAccount, SendsAccount, SendsWith};
 
 use crate::applied::{Applied, ApplyError};
 use crate::crediting::credit;
@@ -42,7 +39,7 @@ pub(crate) fn pay_account(
 ) -> Result<Applied, ApplyError>
     requires there { may_receive world.old.funds.present from.now ≡ true }
     requires plain { as_ticket (val_in world.old.store.bases.present value.now) ≡ None }
-    ensures ends { (w : PlainWorld) (argument : Argument) (gas : ℕ) (counts : Counts) → AreBetween world.old w from.now (place.Implicit to.now) → EndsAs (with_taken (Some (val_in world.old.store.bases.present value.now)) w (transaction from.now (place.Implicit to.now) entry.now amount argument) gas (counts_of counts)) world.new gas counts counts result }
+    ensures ends { PaysAccount world.old from.now to.now entry.now amount (val_in world.old.store.bases.present value.now) world.new result }
     ensures hosting { IsHosting world.old → IfOk result (λ _. IsHosting world.new) }
     ensures contracts { KeepsContracts world.old world.new }
     ensures store { world.new.store ≡ world.old.store }
@@ -95,7 +92,7 @@ pub(crate) fn call_account(
     argument: &Node,
 ) -> Result<Applied, ApplyError>
     requires { size (tree argument.now) < 2 ^ 32 }
-    ensures ends { (w : PlainWorld) (gas : ℕ) (counts : Counts) → AreBetween world.old w (place.Implicit source.now) (place.Implicit to.now) → EndsAs (to_account w (transaction (place.Implicit source.now) (place.Implicit to.now) entry.now amount (node (tree argument.now))) gas (counts_of counts)) world.new gas counts counts result }
+    ensures ends { CallsAccount world.old source.now to.now entry.now amount (tree argument.now) world.new result }
     ensures hosting { IsHosting world.old → IfOk result (λ _. IsHosting world.new) }
     ensures contracts { KeepsContracts world.old world.new }
     ensures store { world.new.store ≡ world.old.store }
@@ -146,7 +143,7 @@ fn send_ticket(
     requires there { may_receive world.old.funds.present from.now ≡ true }
     requires sent { (w : PlainWorld) × IsSent world.old w from.now to.now (as_value (held ticket)) }
     requires printed { tree argument ≡ canonical (as_value (held ticket)) }
-    ensures ends { (w : PlainWorld) (a : Argument) (gas : ℕ) (counts : Counts) → IsSent world.old w from.now to.now (as_value (held ticket)) → EndsAs (with_taken (Some (as_value (held ticket))) w (transaction from.now (place.Implicit to.now) entry.now amount a) gas (counts_of counts)) world.new gas counts counts result }
+    ensures ends { SendsWith world.old from.now to.now entry.now amount (as_value (held ticket)) world.new result }
     ensures hosting { IsHosting world.old → IfOk result (λ _. IsHosting world.new) }
     ensures contracts { KeepsContracts world.old world.new }
     ensures store { world.new.store ≡ world.old.store }
@@ -174,7 +171,7 @@ pub(crate) fn send_account(
 ) -> Result<Applied, ApplyError>
     requires there { may_receive world.old.funds.present from.now ≡ true }
     requires sent { (w : PlainWorld) × IsSent world.old w from.now to.now (val_in world.old.store.bases.present value) }
-    ensures ends { (w : PlainWorld) (gas : ℕ) (counts : Counts) → IsSent world.old w from.now to.now (val_in world.old.store.bases.present value) → EndsAs (to_account w (transaction from.now (place.Implicit to.now) entry.now amount (rules.value (val_in world.old.store.bases.present value))) gas (counts_of counts)) world.new gas counts counts result }
+    ensures ends { SendsAccount world.old from.now to.now entry.now amount (val_in world.old.store.bases.present value) world.new result }
     ensures hosting { IsHosting world.old → IfOk result (λ _. IsHosting world.new) }
     ensures contracts { KeepsContracts world.old world.new }
     ensures store { world.new.store ≡ world.old.store }

@@ -1,15 +1,13 @@
 // Operations that a source orders.
 ghost use Rattle.std.specs.Prelude.{IfOk};
-ghost use Rattle.rules_world.specs.world.Application.{apply};
 ghost use Rattle.rules_world.specs.world.Outcomes.{ordered};
-ghost use Rattle.rules_world.specs.world.Groups.{setting_of};
 ghost use Rattle.rules_world.specs.world.World.{World as PlainWorld};
 ghost use Rattle.mich_bigmap.specs.Extended.{Extends};
 ghost use Rattle.mich_gas.specs.View.{listed};
-ghost use Rattle.mich_machine.specs.Calls.{counts_of, IsHosting};
+ghost use Rattle.mich_machine.specs.Calls.{IsHosting};
 ghost use Rattle.mich_ops.specs.View.{action as action_of};
 ghost use Rattle.mich_world.specs.Marks.{KeepsWorld};
-ghost use Rattle.mich_operations.specs.Going.{Begins, EndsAs, KeepsContracts, WithMemory};
+ghost use Rattle.mich_operations.specs.Going.{Applies, BeginsIn, KeepsContracts, WithMemory};
 
 use crate::applied::{Applied, ApplyError};
 use crate::calls::call;
@@ -35,9 +33,9 @@ pub fn apply_action(
     bodies: &mut Bodies,
     action: &Action,
 ) -> Result<Applied, ApplyError>
-    requires next { (w : PlainWorld) × Begins world.old w (setting_of (listed costs.now) counts.old.group source.now) (ordered (action_of action.now)) (counts_of counts.old) }
+    requires next { (w : PlainWorld) × BeginsIn world.old w (listed costs.now) counts.old source.now (ordered (action_of action.now)) }
     requires hosting { IsHosting world.old }
-    ensures ends { (w : PlainWorld) → Begins world.old w (setting_of (listed costs.entry.now) counts.old.group source.entry.now) (ordered (action_of action.entry.now)) (counts_of counts.old) → EndsAs (apply (setting_of (listed costs.entry.now) counts.old.group source.entry.now) w (ordered (action_of action.entry.now)) meter.old (counts_of counts.old)) world.new meter.new counts.old counts.new result }
+    ensures ends { Applies costs.entry source.entry (ordered (action_of action.entry.now)) world.old meter.old counts.old world.new meter.new counts.new result }
     ensures hosting { IfOk result (λ _. IsHosting world.new) }
     ensures bases { IfOk result (λ _. Extends world.old.store.bases.present world.new.store.bases.present) }
     ensures contracts { IfOk result (λ _. KeepsContracts world.old world.new) }

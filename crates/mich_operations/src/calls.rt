@@ -1,19 +1,16 @@
 // Calls that a source orders.
-ghost use Rattle.std.specs.Prelude.{IfOk, ℕ};
-ghost use Rattle.rules_data.specs.forms.Spelling.{is_implicit};
-ghost use Rattle.rules_world.specs.world.Application.{ordered_transaction};
+ghost use Rattle.std.specs.Prelude.{IfOk};
 ghost use Rattle.rules_world.specs.world.Contents.{Call};
-ghost use Rattle.rules_world.specs.world.Groups.{setting_of};
 ghost use Rattle.rules_world.specs.world.Outcomes.{ordered};
-ghost use Rattle.rules_world.specs.world.Transfers.{delivered};
 ghost use Rattle.rules_world.specs.world.World.{World as PlainWorld};
 ghost use Rattle.mich_base.specs.View.{tree};
 ghost use Rattle.mich_bigmap.specs.Extended.{Extends};
 ghost use Rattle.mich_forms.specs.Spelled.{place_bytes};
 ghost use Rattle.mich_gas.specs.View.{listed};
-ghost use Rattle.mich_machine.specs.Calls.{counts_of, IsHosting};
+ghost use Rattle.mich_machine.specs.Calls.{IsHosting};
 ghost use Rattle.mich_world.specs.Marks.{KeepsWorld};
-ghost use Rattle.mich_operations.specs.Going.{Begins, EndsAs, KeepsContracts, WithMemory};
+ghost use Rattle.mich_operations.specs.Calls.{CallsPlace};
+ghost use Rattle.mich_operations.specs.Going.{BeginsIn, KeepsContracts, WithMemory};
 
 use crate::accounts::call_account;
 use crate::applied::{Applied, ApplyError};
@@ -40,9 +37,9 @@ pub(crate) fn call(
     entry: &Entrypoint,
     argument: &Node,
 ) -> Result<Applied, ApplyError>
-    requires next { (w : PlainWorld) × Begins world.old w (setting_of (listed costs.now) counts.old.group source.now) (ordered (Call amount (place_bytes to.now) entry.now (tree argument.now))) (counts_of counts.old) }
+    requires next { (w : PlainWorld) × BeginsIn world.old w (listed costs.now) counts.old source.now (ordered (Call amount (place_bytes to.now) entry.now (tree argument.now))) }
     requires hosting { IsHosting world.old }
-    ensures ends { (w : PlainWorld) → Begins world.old w (setting_of (listed costs.entry.now) counts.old.group source.entry.now) (ordered (Call amount (place_bytes to.entry.now) entry.entry.now (tree argument.entry.now))) (counts_of counts.old) → EndsAs (delivered (is_implicit (place_bytes to.entry.now)) (setting_of (listed costs.entry.now) counts.old.group source.entry.now) w (ordered_transaction (setting_of (listed costs.entry.now) counts.old.group source.entry.now) amount (place_bytes to.entry.now) entry.entry.now (tree argument.entry.now)) meter.old (counts_of counts.old)) world.new meter.new counts.old counts.new result }
+    ensures ends { CallsPlace costs.entry source.entry amount to.entry entry.entry argument.entry world.old meter.old counts.old world.new meter.new counts.new result }
     ensures hosting { IfOk result (λ _. IsHosting world.new) }
     ensures bases { IfOk result (λ _. Extends world.old.store.bases.present world.new.store.bases.present) }
     ensures contracts { IfOk result (λ _. KeepsContracts world.old world.new) }

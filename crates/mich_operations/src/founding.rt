@@ -1,14 +1,11 @@
 // Contracts that are made.
-ghost use Rattle.std.specs.Prelude.{◌≡◌, [], ℕ, true, false, is_some, IfOk};
+ghost use Rattle.std.specs.Prelude.{◌≡◌, [], true, false, is_some, IfOk};
 ghost use Rattle.rules_data.specs.values.Tickets.{tickets};
-ghost use Rattle.rules_world.specs.world.Originations.{found_contract};
-ghost use Rattle.rules_world.specs.world.World.{World as PlainWorld};
 ghost use Rattle.mich_bigmap.specs.Extended.{Extends};
 ghost use Rattle.mich_bigmap.specs.Layers.{HasBases};
 ghost use Rattle.mich_forms.specs.declared.places.Place.TheVariants as place;
 ghost use Rattle.mich_instr.specs.Scripts.{IsTypedScript};
-ghost use Rattle.mich_machine.specs.Calls.{counts_of, IsHosting};
-ghost use Rattle.mich_interpreter.specs.declared.state.Counts.{Counts};
+ghost use Rattle.mich_machine.specs.Calls.{IsHosting};
 ghost use Rattle.mich_ops.specs.declared.receipt.Effect.TheVariants as effect;
 ghost use Rattle.mich_term.specs.Layers.{AreFormed};
 ghost use Rattle.mich_term.specs.ValueView.{val};
@@ -16,8 +13,8 @@ ghost use Rattle.mich_tickets.specs.Carrying.{MayEnter};
 ghost use Rattle.mich_world.specs.Holders.{contract_at, may_receive};
 ghost use Rattle.mich_world.specs.Marks.{KeepsWorld};
 ghost use Rattle.mich_world.specs.Storages.{owner_of};
-ghost use Rattle.mich_operations.specs.Foundings.{IsPayer, founding};
-ghost use Rattle.mich_operations.specs.Going.{EndsAs, KeepsContracts};
+ghost use Rattle.mich_operations.specs.Foundings.{Founds, founding};
+ghost use Rattle.mich_operations.specs.Going.{KeepsContracts};
 
 use crate::applied::{Applied, ApplyError};
 use mich_base::{Rows, Shared};
@@ -45,7 +42,7 @@ pub(crate) fn found(
     requires based { HasBases world.old.store.bases.present storage }
     requires typed { IsTypedScript script }
     requires hosting { IsHosting world.old }
-    ensures ends { (w : PlainWorld) (gas : ℕ) (counts : Counts) → IsPayer world.old w from.now → EndsAs (found_contract w (founding world.old.store.bases.present from.now hash balance script storage) gas (counts_of counts)) world.new gas counts counts result }
+    ensures ends { Founds world.old from.now (founding world.old.store.bases.present from.now hash balance script storage) world.new result }
     ensures hosting { IfOk result (λ _. IsHosting world.new) }
     ensures bases { IfOk result (λ _. Extends world.old.store.bases.present world.new.store.bases.present) }
     ensures contracts { IfOk result (λ _. KeepsContracts world.old world.new) }

@@ -1,19 +1,15 @@
 // Tickets that go from a source, and what is told of it.
-ghost use Rattle.std.specs.Prelude.{◌≡◌, ℕ, ℤ, map, IfOk};
-ghost use Rattle.rules_data.specs.gas.Prices.{Listed};
-ghost use Rattle.rules_world.specs.world.Gives.{give_account, give_effect};
-ghost use Rattle.rules_world.specs.world.Groups.{setting_of};
+ghost use Rattle.std.specs.Prelude.{◌≡◌, map, IfOk};
 ghost use Rattle.rules_world.specs.world.World.{World as PlainWorld};
 ghost use Rattle.mich_forms.specs.declared.places.Place.TheVariants as place;
 ghost use Rattle.mich_forms.specs.declared.places.Place.{Place as AnyPlace};
-ghost use Rattle.mich_interpreter.specs.declared.state.Counts.{Counts};
-ghost use Rattle.mich_machine.specs.Calls.{counts_of, IsHosting};
-ghost use Rattle.mich_ops.specs.View.{change, effect as effect_of};
+ghost use Rattle.mich_machine.specs.Calls.{IsHosting};
+ghost use Rattle.mich_ops.specs.View.{change};
 ghost use Rattle.mich_world.specs.Holders.{moved};
 ghost use Rattle.mich_world.specs.Marks.{KeepsWorld};
 ghost use Rattle.mich_world.specs.World.{with_funds, with_ledger};
-ghost use Rattle.mich_operations.specs.Gifts.{IsGiven, IsTakenFrom, gift, tickets_of};
-ghost use Rattle.mich_operations.specs.Going.{EndsAs, KeepsContracts};
+ghost use Rattle.mich_operations.specs.Gifts.{GivesAccount, IsGiven, IsTakenFrom, TellsGift, gift, tickets_of};
+ghost use Rattle.mich_operations.specs.Going.{KeepsContracts};
 
 use crate::applied::{Applied, ApplyError};
 use crate::crediting::{credit, debit};
@@ -37,7 +33,7 @@ pub(crate) fn gave(
     amount: i128,
     changes: Rows<Change>,
 ) -> Result<Effect, Memory>
-    ensures { IfOk result (λ e. (prices : Listed) (group : ℕ) → effect_of e ≡ give_effect (setting_of prices group source.now) (gift (tickets_of id.now amount) to entry.now) (map change changes)) }
+    ensures { IfOk result (λ e. TellsGift source.now (gift (tickets_of id.now amount) to entry.now) (map change changes) e) }
 {
     let ty = type_node(alloc, &id.ty)?;
     let content = id.content.value(alloc)?;
@@ -102,7 +98,7 @@ pub(crate) fn give_account(
     entry: &Entrypoint,
 ) -> Result<Applied, ApplyError>
     requires { (w : PlainWorld) × IsGiven world.old w source.now (tickets_of id.now amount) (place.Implicit to.now) }
-    ensures ends { (w : PlainWorld) (prices : Listed) (group gas : ℕ) (counts : Counts) → IsGiven world.old w source.now (tickets_of id.now amount) (place.Implicit to.now) → EndsAs (give_account (setting_of prices group source.now) w (gift (tickets_of id.now amount) (place.Implicit to.now) entry.now) gas (counts_of counts)) world.new gas counts counts result }
+    ensures ends { GivesAccount world.old source.now (tickets_of id.now amount) to.now entry.now world.new result }
     ensures hosting { IsHosting world.old → IfOk result (λ _. IsHosting world.new) }
     ensures contracts { IfOk result (λ _. KeepsContracts world.old world.new) }
     ensures store { world.new.store ≡ world.old.store }

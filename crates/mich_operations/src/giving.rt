@@ -1,33 +1,23 @@
 // Gifts that a source orders.
-ghost use Rattle.std.specs.Prelude.{◌≡◌, true, is_some, IfOk, ℤ};
-ghost use Rattle.rules_data.specs.forms.Spelling.{is_implicit};
-ghost use Rattle.rules_world.specs.world.Contents.{Give};
+ghost use Rattle.std.specs.Prelude.{◌≡◌, true, is_some, IfOk};
 ghost use Rattle.rules_code.specs.instructions.Same as same;
 ghost use Rattle.rules_data.specs.types.Kind as kinds;
-ghost use Rattle.rules_world.specs.world.Gives.{give_effect, offered, with_offered};
-ghost use Rattle.rules_world.specs.world.Gives as rules;
-ghost use Rattle.rules_world.specs.world.Groups.{setting_of};
-ghost use Rattle.rules_world.specs.world.Outcomes.{ordered};
-ghost use Rattle.rules_world.specs.world.Runs.{run};
 ghost use Rattle.rules_world.specs.world.Targets.{Target, search};
 ghost use Rattle.rules_world.specs.world.World.{World as PlainWorld};
 ghost use Rattle.mich_literals.specs.arguments.Arguments.{HasTypedScripts};
 ghost use Rattle.mich_base.specs.TypeView.{kind};
-ghost use Rattle.mich_base.specs.View.{tree};
 ghost use Rattle.mich_bigmap.specs.Extended.{Extends};
 ghost use Rattle.mich_bigmap.specs.Layers.{HasBases};
-ghost use Rattle.mich_bigmap.specs.Standing.{val_in};
-ghost use Rattle.mich_forms.specs.Spelled.{place_bytes};
 ghost use Rattle.mich_forms.specs.declared.places.Place.TheVariants as place;
 ghost use Rattle.mich_gas.specs.View.{listed};
-ghost use Rattle.mich_machine.specs.Calls.{counts_of, IsHosting};
+ghost use Rattle.mich_machine.specs.Calls.{IsHosting};
 ghost use Rattle.mich_term.specs.Layers.{AreFormed};
 ghost use Rattle.mich_world.specs.Holders.{contract_at};
 ghost use Rattle.mich_world.specs.Marks.{KeepsWorld};
 ghost use Rattle.mich_world.specs.Standing.{StandsFor};
-ghost use Rattle.mich_operations.specs.Calls.{call_of, IsReady};
-ghost use Rattle.mich_operations.specs.Gifts.{IsHandedOver, IsWanted, gift, tickets_of};
-ghost use Rattle.mich_operations.specs.Going.{Begins, EndsAs, KeepsContracts, WithMemory};
+ghost use Rattle.mich_operations.specs.Calls.{IsReadyIn};
+ghost use Rattle.mich_operations.specs.Gifts.{Gives, GivesContract, IsHandedIn, IsWanted, RunsGift, ordered_gift, tickets_of};
+ghost use Rattle.mich_operations.specs.Going.{BeginsIn, KeepsContracts, WithMemory};
 
 use crate::applied::{Applied, ApplyError};
 use crate::gifts::{gave, give_account, take};
@@ -91,12 +81,12 @@ fn run_gift(
     name: &Entrypoint,
     argument: Value,
 ) -> Result<Applied, ApplyError>
-    requires ready { (w : PlainWorld) × (t : Target) × IsReady world.old w (setting_of (listed costs.now) counts.old.group source.now) (counts_of counts.old) (place.Implicit source.now) to.now name.now 0 argument t }
+    requires ready { (w : PlainWorld) × (t : Target) × IsReadyIn world.old w (listed costs.now) counts.old source.now (place.Implicit source.now) to.now name.now 0 argument t }
     requires hosting { IsHosting world.old }
     requires there { is_some (contract_at world.old.funds.present to.now) ≡ true }
     requires formed { AreFormed argument }
     requires based { HasBases world.old.store.bases.present argument }
-    ensures ends { (w : PlainWorld) (t : Target) → IsReady world.old w (setting_of (listed costs.entry.now) counts.old.group source.entry.now) (counts_of counts.old) (place.Implicit source.entry.now) to.entry.now name.entry.now 0 argument t → EndsAs (run (setting_of (listed costs.entry.now) counts.old.group source.entry.now) w (call_of (place.Implicit source.entry.now) 0 t (val_in world.old.store.bases.present argument)) meter.old (counts_of counts.old) (give_effect (setting_of (listed costs.entry.now) counts.old.group source.entry.now) (gift (tickets_of id.entry.now amount) (place.Contract to.entry.now) name.entry.now))) world.new meter.new counts.old counts.new result }
+    ensures ends { RunsGift costs.entry source.entry id.entry amount to.entry name.entry argument world.old meter.old counts.old world.new meter.new counts.new result }
     ensures hosting { IfOk result (λ _. IsHosting world.new) }
     ensures bases { IfOk result (λ _. Extends world.old.store.bases.present world.new.store.bases.present) }
     ensures contracts { IfOk result (λ _. KeepsContracts world.old world.new) }
@@ -143,9 +133,9 @@ fn give_contract(
     to: &[u8; 20],
     name: &Entrypoint,
 ) -> Result<Applied, ApplyError>
-    requires due { (w : PlainWorld) × IsHandedOver world.old w (setting_of (listed costs.now) counts.old.group source.now) (counts_of counts.old) (tickets_of id.now amount) to.now name.now }
+    requires due { (w : PlainWorld) × IsHandedIn world.old w (listed costs.now) counts.old source.now (tickets_of id.now amount) to.now name.now }
     requires hosting { IsHosting world.old }
-    ensures ends { (w : PlainWorld) → IsHandedOver world.old w (setting_of (listed costs.entry.now) counts.old.group source.entry.now) (counts_of counts.old) (tickets_of id.entry.now amount) to.entry.now name.entry.now → EndsAs (rules.give_contract (setting_of (listed costs.entry.now) counts.old.group source.entry.now) w (gift (tickets_of id.entry.now amount) (place.Contract to.entry.now) name.entry.now) meter.old (counts_of counts.old)) world.new meter.new counts.old counts.new result }
+    ensures ends { GivesContract costs.entry source.entry id.entry amount to.entry name.entry world.old meter.old counts.old world.new meter.new counts.new result }
     ensures hosting { IfOk result (λ _. IsHosting world.new) }
     ensures bases { IfOk result (λ _. Extends world.old.store.bases.present world.new.store.bases.present) }
     ensures contracts { IfOk result (λ _. KeepsContracts world.old world.new) }
@@ -170,26 +160,26 @@ pub(crate) fn give(
     bodies: &mut Bodies,
     issuer: &Place,
     ty: &Node,
-    literal: &Node,
+    node: &Node,
     amount: i128,
     to: &Place,
-    entry: &Entrypoint,
+    name: &Entrypoint,
 ) -> Result<Applied, ApplyError>
-    requires next { (w : PlainWorld) × Begins world.old w (setting_of (listed costs.now) counts.old.group source.now) (ordered (Give (place_bytes issuer.now) (tree ty.now) (tree literal.now) amount (place_bytes to.now) entry.now)) (counts_of counts.old) }
+    requires next { (w : PlainWorld) × BeginsIn world.old w (listed costs.now) counts.old source.now (ordered_gift issuer.now ty.now node.now amount to.now name.now) }
     requires hosting { IsHosting world.old }
-    ensures ends { (w : PlainWorld) → Begins world.old w (setting_of (listed costs.entry.now) counts.old.group source.entry.now) (ordered (Give (place_bytes issuer.entry.now) (tree ty.entry.now) (tree literal.entry.now) amount (place_bytes to.entry.now) entry.entry.now)) (counts_of counts.old) → EndsAs (with_offered (offered (record { issuer = place_bytes issuer.entry.now; kind = tree ty.entry.now; content = tree literal.entry.now; amount = amount })) (setting_of (listed costs.entry.now) counts.old.group source.entry.now) w (place_bytes to.entry.now) entry.entry.now meter.old (counts_of counts.old)) world.new meter.new counts.old counts.new result }
+    ensures ends { Gives costs.entry source.entry issuer.entry ty.entry node.entry amount to.entry name.entry world.old meter.old counts.old world.new meter.new counts.new result }
     ensures hosting { IfOk result (λ _. IsHosting world.new) }
     ensures bases { IfOk result (λ _. Extends world.old.store.bases.present world.new.store.bases.present) }
     ensures contracts { IfOk result (λ _. KeepsContracts world.old world.new) }
     ensures keeps { WithMemory result (KeepsWorld world.old world.new) }
 {
-    let Some(id) = spelled_id(alloc, issuer, ty, literal)? else {
+    let Some(id) = spelled_id(alloc, issuer, ty, node)? else {
         return Err(ApplyError::Failed(Failure::BadParameter(0)));
     };
     match to {
-        Place::Implicit(who) => give_account(alloc, world, source, &id, amount, who, entry),
+        Place::Implicit(who) => give_account(alloc, world, source, &id, amount, who, name),
         Place::Contract(hash) => give_contract(
-            alloc, world, costs, source, meter, counts, bodies, &id, amount, hash, entry,
+            alloc, world, costs, source, meter, counts, bodies, &id, amount, hash, name,
         ),
     }
 }

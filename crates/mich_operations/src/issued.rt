@@ -1,14 +1,12 @@
 // Operations that a contract issued.
 ghost use Rattle.std.specs.Prelude.{◌≡◌, true, is_some, IfOk};
-ghost use Rattle.rules_world.specs.world.Application.{apply};
-ghost use Rattle.rules_world.specs.world.Groups.{setting_of};
 ghost use Rattle.rules_world.specs.world.World.{World as PlainWorld};
 ghost use Rattle.mich_bigmap.specs.Extended.{Extends};
 ghost use Rattle.mich_gas.specs.View.{listed};
-ghost use Rattle.mich_machine.specs.Calls.{counts_of, IsHanded, IsHosting};
+ghost use Rattle.mich_machine.specs.Calls.{IsHanded, IsHosting};
 ghost use Rattle.mich_world.specs.Holders.{contract_at};
 ghost use Rattle.mich_world.specs.Marks.{KeepsWorld};
-ghost use Rattle.mich_operations.specs.Going.{Begins, EndsAs, KeepsContracts, WithMemory, issued_by};
+ghost use Rattle.mich_operations.specs.Going.{Applies, BeginsIn, KeepsContracts, WithMemory, issued_by};
 
 use crate::applied::{Applied, ApplyError};
 use crate::charging::charge;
@@ -37,11 +35,11 @@ pub fn apply_issued(
     by: [u8; 20],
     operation: Issued,
 ) -> Result<Applied, ApplyError>
-    requires next { (w : PlainWorld) × Begins world.old w (setting_of (listed costs.now) counts.old.group source.now) (issued_by world.old.store.bases.present by operation) (counts_of counts.old) }
+    requires next { (w : PlainWorld) × BeginsIn world.old w (listed costs.now) counts.old source.now (issued_by world.old.store.bases.present by operation) }
     requires hosting { IsHosting world.old }
     requires there { is_some (contract_at world.old.funds.present by) ≡ true }
     requires handed { IsHanded world.old.store.bases.present operation }
-    ensures ends { (w : PlainWorld) → Begins world.old w (setting_of (listed costs.entry.now) counts.old.group source.entry.now) (issued_by world.old.store.bases.present by operation) (counts_of counts.old) → EndsAs (apply (setting_of (listed costs.entry.now) counts.old.group source.entry.now) w (issued_by world.old.store.bases.present by operation) meter.old (counts_of counts.old)) world.new meter.new counts.old counts.new result }
+    ensures ends { Applies costs.entry source.entry (issued_by world.old.store.bases.present by operation) world.old meter.old counts.old world.new meter.new counts.new result }
     ensures hosting { IfOk result (λ _. IsHosting world.new) }
     ensures bases { IfOk result (λ _. Extends world.old.store.bases.present world.new.store.bases.present) }
     ensures contracts { IfOk result (λ _. KeepsContracts world.old world.new) }

@@ -7,9 +7,8 @@ ghost use Rattle.rules_data.specs.values.Literals.{read};
 ghost use Rattle.rules_world.specs.world.Gives.{offered};
 ghost use Rattle.mich_base.specs.TypeView.{kind};
 ghost use Rattle.mich_base.specs.View.{tree};
-ghost use Rattle.mich_forms.specs.Spelled.{place_bytes};
 ghost use Rattle.mich_term.specs.View.{datum};
-ghost use Rattle.mich_operations.specs.Gifts.{compared, content_in, tickets_of};
+ghost use Rattle.mich_operations.specs.Gifts.{compared, content_in, offer, tickets_of};
 
 use mich_base::{Memory, Node, TYPE_LIMIT, Ty, size_within};
 use mich_data::{ValueError, read_value};
@@ -63,7 +62,7 @@ pub(crate) fn spelled_id(
     literal: &Node,
 ) -> Result<Option<TicketId>, Memory>
     requires { size (tree literal.now) < 2 ^ 32 }
-    ensures { IfOk result (λ o. (amount : ℤ) → offered (record { issuer = place_bytes issuer.now; kind = tree ty.now; content = tree literal.now; amount = amount }) ≡ option_map (λ id. tickets_of id amount) o) }
+    ensures { IfOk result (λ o. (amount : ℤ) → offered (offer issuer.now ty.now literal.now amount) ≡ option_map (λ id. tickets_of id amount) o) }
 {
     let Some(ty) = comparable_type(alloc, ty)? else {
         return Ok(None);

@@ -1,13 +1,10 @@
 // Contracts that a source makes.
-ghost use Rattle.std.specs.Prelude.{◌≡◌, ◌<◌, ◌^◌, ℕ, IfOk};
+ghost use Rattle.std.specs.Prelude.{◌≡◌, ◌<◌, ◌^◌, IfOk};
 ghost use Rattle.laws_data.specs.types.Laws.{IsWellFormed};
 ghost use Rattle.rules_text.specs.nodes.Tree.{size};
 ghost use Rattle.rules_data.specs.gas.Prices.{Listed};
-ghost use Rattle.rules_code.specs.typing.Nodes.{script as read_script};
 ghost use Rattle.rules_world.specs.world.Arguments.{literal_in};
 ghost use Rattle.rules_world.specs.world.Contents.{Originate};
-ghost use Rattle.rules_world.specs.world.Groups.{setting_of};
-ghost use Rattle.rules_world.specs.world.Originations.{with_script};
 ghost use Rattle.rules_world.specs.world.Outcomes.{ordered};
 ghost use Rattle.rules_world.specs.world.World.{World as PlainWorld};
 ghost use Rattle.mich_literals.specs.arguments.Arguments.{HasTypedScripts};
@@ -15,12 +12,12 @@ ghost use Rattle.mich_base.specs.TypeView.{kind};
 ghost use Rattle.mich_base.specs.View.{tree};
 ghost use Rattle.mich_bigmap.specs.Extended.{Extends};
 ghost use Rattle.mich_data.specs.Whole.{IsWhole};
-ghost use Rattle.mich_machine.specs.Calls.{counts_of, IsHosting};
+ghost use Rattle.mich_machine.specs.Calls.{IsHosting};
 ghost use Rattle.mich_term.specs.Layers.{AreFormed};
 ghost use Rattle.mich_world.specs.Marks.{KeepsWorld};
 ghost use Rattle.mich_world.specs.Standing.{StandsFor};
-ghost use Rattle.mich_operations.specs.Foundings.{IsScriptOf, IsStorageOf};
-ghost use Rattle.mich_operations.specs.Going.{Begins, EndsAs, KeepsContracts, WithMemory};
+ghost use Rattle.mich_operations.specs.Foundings.{IsScriptOf, IsStorageOf, Originates};
+ghost use Rattle.mich_operations.specs.Going.{BeginsIn, KeepsContracts, WithMemory};
 
 use crate::applied::{Applied, ApplyError};
 use crate::founding::found;
@@ -74,10 +71,9 @@ pub(crate) fn originate(
     script: &Node,
     storage: &Node,
 ) -> Result<Applied, ApplyError>
-    requires next { (prices : Listed) × (w : PlainWorld) × Begins world.old w (setting_of prices counts.old.group source.now) (ordered (Originate balance (tree script.now) (tree storage.now))) (counts_of counts.old) }
+    requires next { (prices : Listed) × (w : PlainWorld) × BeginsIn world.old w prices counts.old source.now (ordered (Originate balance (tree script.now) (tree storage.now))) }
     requires hosting { IsHosting world.old }
-    ensures ends { (prices : Listed) (w : PlainWorld) (gas : ℕ) → Begins world.old w (setting_of prices counts.old.group source.now) (ordered (Originate balance (tree script.now) (tree storage.now))) (counts_of counts.old)
-        → EndsAs (with_script (read_script (tree script.now)) (setting_of prices counts.old.group source.now) w balance (tree script.now) (tree storage.now) gas (counts_of counts.old)) world.new gas counts.old counts.new result }
+    ensures ends { Originates source.now balance (tree script.now) (tree storage.now) world.old counts.old world.new counts.new result }
     ensures hosting { IfOk result (λ _. IsHosting world.new) }
     ensures bases { IfOk result (λ _. Extends world.old.store.bases.present world.new.store.bases.present) }
     ensures contracts { IfOk result (λ _. KeepsContracts world.old world.new) }

@@ -1,27 +1,16 @@
 // Contracts that are called.
-ghost use Rattle.std.specs.Prelude.{◌≡◌, ℕ, is_some, true, IfOk};
-ghost use Rattle.rules_data.specs.gas.Prices.{Listed};
-ghost use Rattle.rules_data.specs.values.Val.{Val};
-ghost use Rattle.rules_world.specs.world.Arguments.{Argument, value};
-ghost use Rattle.rules_world.specs.world.Groups.{setting_of};
-ghost use Rattle.rules_world.specs.world.Runs.{environment_of, run};
+ghost use Rattle.std.specs.Prelude.{◌≡◌, is_some, true, IfOk};
 ghost use Rattle.rules_world.specs.world.Targets.{Target};
-ghost use Rattle.rules_world.specs.world.Transfers.{transfer_effect};
 ghost use Rattle.rules_world.specs.world.World.{World as PlainWorld};
 ghost use Rattle.mich_bigmap.specs.Extended.{Extends};
 ghost use Rattle.mich_bigmap.specs.Layers.{HasBases};
-ghost use Rattle.mich_bigmap.specs.Standing.{val_in};
-ghost use Rattle.mich_forms.specs.declared.places.Place.TheVariants as place;
 ghost use Rattle.mich_gas.specs.View.{listed};
-ghost use Rattle.mich_machine.specs.Calls.{counts_of, IsHosting};
-ghost use Rattle.mich_step.specs.Views.{environment};
+ghost use Rattle.mich_machine.specs.Calls.{IsHosting};
 ghost use Rattle.mich_term.specs.Layers.{AreFormed};
 ghost use Rattle.mich_world.specs.Holders.{contract_at, may_receive};
 ghost use Rattle.mich_world.specs.Marks.{KeepsWorld};
-ghost use Rattle.mich_world.specs.Standing.{StandsFor};
-ghost use Rattle.mich_operations.specs.Calls.{call_of, covered, IsDue, IsReady};
-ghost use Rattle.mich_operations.specs.Going.{EndsAs, KeepsContracts, WithMemory};
-ghost use Rattle.mich_operations.specs.Transfers.{transaction};
+ghost use Rattle.mich_operations.specs.Calls.{CallsContract, IsAround, IsDueIn, IsReadyIn, RunsContract};
+ghost use Rattle.mich_operations.specs.Going.{KeepsContracts, WithMemory};
 
 use crate::applied::{Applied, ApplyError};
 use crate::printing::printed;
@@ -43,7 +32,7 @@ pub(crate) fn surroundings(
     amount: u64,
 ) -> Env
     ensures source { result.source ≡ source.now }
-    ensures environment { (w : PlainWorld) (prices : Listed) (group : ℕ) (t : Target) (x : Val) → StandsFor world.now w → t.hash ≡ to → environment result ≡ environment_of (setting_of prices group source.now) w (call_of from.now amount t x) }
+    ensures environment { IsAround world.now source.now from.now to amount result }
 {
     let (chain, level, now) = world.clock();
     Env {
@@ -73,12 +62,12 @@ fn run_contract(
     amount: u64,
     argument: Value,
 ) -> Result<Applied, ApplyError>
-    requires ready { (w : PlainWorld) × (t : Target) × IsReady world.old w (setting_of (listed costs.now) counts.old.group source.now) (counts_of counts.old) from.now to.now name.now amount argument t }
+    requires ready { (w : PlainWorld) × (t : Target) × IsReadyIn world.old w (listed costs.now) counts.old source.now from.now to.now name.now amount argument t }
     requires hosting { IsHosting world.old }
     requires there { is_some (contract_at world.old.funds.present to.now) ≡ true }
     requires formed { AreFormed argument }
     requires based { HasBases world.old.store.bases.present argument }
-    ensures ends { (w : PlainWorld) (t : Target) → IsReady world.old w (setting_of (listed costs.entry.now) counts.old.group source.entry.now) (counts_of counts.old) from.entry.now to.entry.now name.entry.now amount argument t → EndsAs (run (setting_of (listed costs.entry.now) counts.old.group source.entry.now) w (call_of from.entry.now amount t (val_in world.old.store.bases.present argument)) meter.old (counts_of counts.old) (transfer_effect (transaction from.entry.now (place.Contract to.entry.now) name.entry.now amount (value (val_in world.old.store.bases.present argument))) (val_in world.old.store.bases.present argument))) world.new meter.new counts.old counts.new result }
+    ensures ends { RunsContract costs.entry source.entry from.entry to.entry name.entry amount argument world.old meter.old counts.old world.new meter.new counts.new result }
     ensures hosting { IfOk result (λ _. IsHosting world.new) }
     ensures bases { IfOk result (λ _. Extends world.old.store.bases.present world.new.store.bases.present) }
     ensures contracts { IfOk result (λ _. KeepsContracts world.old world.new) }
@@ -120,12 +109,12 @@ pub(crate) fn call_contract(
     amount: u64,
     argument: Value,
 ) -> Result<Applied, ApplyError>
-    requires due { (w : PlainWorld) × (t : Target) × IsDue world.old w (setting_of (listed costs.now) counts.old.group source.now) (counts_of counts.old) from.now to.now name.now amount argument t }
+    requires due { (w : PlainWorld) × (t : Target) × IsDueIn world.old w (listed costs.now) counts.old source.now from.now to.now name.now amount argument t }
     requires payer { may_receive world.old.funds.present from.now ≡ true }
     requires hosting { IsHosting world.old }
     requires formed { AreFormed argument }
     requires based { HasBases world.old.store.bases.present argument }
-    ensures ends { (w : PlainWorld) (t : Target) (a : Argument) → IsDue world.old w (setting_of (listed costs.entry.now) counts.old.group source.entry.now) (counts_of counts.old) from.entry.now to.entry.now name.entry.now amount argument t → EndsAs (covered (setting_of (listed costs.entry.now) counts.old.group source.entry.now) w (transaction from.entry.now (place.Contract to.entry.now) name.entry.now amount a) t (val_in world.old.store.bases.present argument) meter.old (counts_of counts.old)) world.new meter.new counts.old counts.new result }
+    ensures ends { CallsContract costs.entry source.entry from.entry to.entry name.entry amount argument world.old meter.old counts.old world.new meter.new counts.new result }
     ensures hosting { IfOk result (λ _. IsHosting world.new) }
     ensures bases { IfOk result (λ _. Extends world.old.store.bases.present world.new.store.bases.present) }
     ensures contracts { IfOk result (λ _. KeepsContracts world.old world.new) }

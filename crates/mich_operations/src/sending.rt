@@ -1,22 +1,17 @@
 // Transfers that contracts issue.
 ghost use Rattle.std.specs.Prelude.{◌≡◌, is_some, true, IfOk};
-ghost use Rattle.rules_code.specs.evaluation.Operations.{transfer};
-ghost use Rattle.rules_data.specs.forms.Spelling.{IsEntrypoint, IsPlace, contract_place, place_of, spelled_address, is_implicit};
-ghost use Rattle.rules_world.specs.world.Application.{issued_transaction};
-ghost use Rattle.rules_world.specs.world.Groups.{setting_of};
-ghost use Rattle.rules_world.specs.world.Outcomes.{issued};
-ghost use Rattle.rules_world.specs.world.Transfers.{delivered};
+ghost use Rattle.rules_data.specs.forms.Spelling.{IsEntrypoint, IsPlace, spelled_address};
 ghost use Rattle.rules_world.specs.world.World.{World as PlainWorld};
 ghost use Rattle.mich_bigmap.specs.Extended.{Extends};
 ghost use Rattle.mich_bigmap.specs.Layers.{HasBases};
-ghost use Rattle.mich_bigmap.specs.Standing.{val_in};
 ghost use Rattle.mich_forms.specs.Spelled.{address_bytes, place_bytes};
 ghost use Rattle.mich_gas.specs.View.{listed};
-ghost use Rattle.mich_machine.specs.Calls.{counts_of, IsHosting};
+ghost use Rattle.mich_machine.specs.Calls.{IsHosting};
 ghost use Rattle.mich_term.specs.Layers.{AreFormed};
 ghost use Rattle.mich_world.specs.Holders.{contract_at};
 ghost use Rattle.mich_world.specs.Marks.{KeepsWorld};
-ghost use Rattle.mich_operations.specs.Going.{Begins, EndsAs, KeepsContracts, WithMemory};
+ghost use Rattle.mich_operations.specs.Going.{BeginsIn, KeepsContracts, WithMemory};
+ghost use Rattle.mich_operations.specs.Transfers.{Sends, issued_transfer};
 
 use crate::accounts::send_account;
 use crate::applied::{Applied, ApplyError};
@@ -54,12 +49,12 @@ pub(crate) fn send(
     amount: u64,
     argument: Value,
 ) -> Result<Applied, ApplyError>
-    requires next { (w : PlainWorld) × Begins world.old w (setting_of (listed costs.now) counts.old.group source.now) (issued (contract_place by) (transfer (val_in world.old.store.bases.present argument) amount (address_bytes to.now))) (counts_of counts.old) }
+    requires next { (w : PlainWorld) × BeginsIn world.old w (listed costs.now) counts.old source.now (issued_transfer world.old by argument amount to.now) }
     requires hosting { IsHosting world.old }
     requires there { is_some (contract_at world.old.funds.present by) ≡ true }
     requires formed { AreFormed argument }
     requires based { HasBases world.old.store.bases.present argument }
-    ensures ends { (w : PlainWorld) → Begins world.old w (setting_of (listed costs.entry.now) counts.old.group source.entry.now) (issued (contract_place by) (transfer (val_in world.old.store.bases.present argument) amount (address_bytes to.entry.now))) (counts_of counts.old) → EndsAs (delivered (is_implicit (place_of (address_bytes to.entry.now))) (setting_of (listed costs.entry.now) counts.old.group source.entry.now) w (issued_transaction (contract_place by) (val_in world.old.store.bases.present argument) amount (address_bytes to.entry.now)) meter.old (counts_of counts.old)) world.new meter.new counts.old counts.new result }
+    ensures ends { Sends costs.entry source.entry by to.entry amount argument world.old meter.old counts.old world.new meter.new counts.new result }
     ensures hosting { IfOk result (λ _. IsHosting world.new) }
     ensures bases { IfOk result (λ _. Extends world.old.store.bases.present world.new.store.bases.present) }
     ensures contracts { IfOk result (λ _. KeepsContracts world.old world.new) }

@@ -1,14 +1,8 @@
 // Events.
-ghost use Rattle.std.specs.Prelude.{◌≡◌, [], IfOk, OnOk, ℕ};
-ghost use Rattle.rules_data.specs.forms.Spelling.{contract_place};
-ghost use Rattle.rules_world.specs.world.Application.{told};
-ghost use Rattle.rules_world.specs.world.World.{World as PlainWorld};
+ghost use Rattle.std.specs.Prelude.{◌≡◌};
 ghost use Rattle.mich_base.specs.TypeView.{kind};
 ghost use Rattle.mich_bigmap.specs.Standing.{val_in};
-ghost use Rattle.mich_machine.specs.Calls.{counts_of};
-ghost use Rattle.mich_interpreter.specs.declared.state.Counts.{Counts};
-ghost use Rattle.mich_world.specs.Standing.{StandsFor};
-ghost use Rattle.mich_operations.specs.Going.{EndsAs};
+ghost use Rattle.mich_operations.specs.Going.{TellsEvent};
 
 use crate::applied::{Applied, ApplyError};
 use crate::printing::printed;
@@ -29,7 +23,7 @@ pub(crate) fn tell(
     ty: &Ty,
     value: &Value,
 ) -> Result<Applied, ApplyError>
-    ensures { (w : PlainWorld) (gas : ℕ) (counts : Counts) → StandsFor world.now w → EndsAs (told w (contract_place by) tag (kind ty.now) (val_in world.now.store.bases.present value.now) gas (counts_of counts)) world.now gas counts counts result }
+    ensures { TellsEvent world.now by tag (kind ty.now) (val_in world.now.store.bases.present value.now) result }
 {
     let node = type_node(alloc, ty)?;
     let literal = printed(alloc, world.store(), value)?;

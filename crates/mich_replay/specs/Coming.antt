@@ -18,6 +18,7 @@ use Rattle.mich_replay.specs.Steps.{Stands, Tells}
 use Rattle.mich_replay.specs.View.{file_fault_seen}
 use Rattle.mich_replay.specs.declared.replaying.Pause.{Pause}
 use Rattle.mich_replay.specs.declared.replaying.Pause.TheVariants as pause
+use Rattle.mich_replay.specs.declared.session.Session.{Session}
 use Rattle.mich_replay.specs.declared.steps.Event.{Event}
 use Rattle.mich_replay.specs.declared.steps.Event.TheVariants as event
 use Rattle.mich_replay.specs.declared.stop.Stop.{Stop}
@@ -51,6 +52,9 @@ pub record Came (fed : List ℕ) (last : Bool) (r : Held) (c : Option Course) (r
   pub reads : Reads fed last r receipts plain
   pub stands : Stands receipts plain c
 
+abbrev pub CameTo : List ℕ → Bool → Session → List Receipt → Type 0
+CameTo fed last s receipts = Came fed last s.reader s.course receipts
+
 -- what comes next, behind a place
 abbrev pub Happens : List ℕ → Bool → List Receipt → ℕ → Held → Option Course → Result Event Memory → Type 0
 Happens fed last receipts place r c (Ok event.Taken) = Came fed last r c receipts × (place < r.place)
@@ -60,6 +64,9 @@ Happens fed last receipts place r c (Ok event.More) =
 Happens fed last receipts place r c (Ok event.End) = Came fed true r c receipts × (last ≡ true) × IsEndAt fed r.place
 Happens fed last receipts place r c (Ok (event.Refused fault at)) = IsRefused fed last receipts (file_fault_seen fault) at
 Happens fed last receipts place r c (Err e) = Unit {0}
+
+abbrev pub HappensTo : List ℕ → Bool → List Receipt → (before now : Session) → Result Event Memory → Type 0
+HappensTo fed last receipts before now result = Happens fed last receipts before.reader.place now.reader now.course result
 
 -- ---- what was written
 
@@ -96,6 +103,17 @@ Turns fed last before now place r c (Ok None) = Told fed last before now r c × 
 Turns fed last before now place r c (Ok (Some p)) = Pauses fed last before now r c (Ok p)
 Turns fed last before now place r c (Err e) = Cut fed last before now
 
+-- the lines of the groups before it were written: what comes of any event that came is that it is told
+abbrev pub TellsEvent : Option Course → Event → (before now : Option (List ℕ)) → Result (Option Pause) Stop → Type 0
+TellsEvent c e old now result =
+    (fed : List ℕ) (last : Bool) (receipts : List Receipt) (place : ℕ) (r : Held) (before : Option (List ℕ))
+    → Happens fed last receipts place r c (Ok e) → Appends before old (text_of (group_lines 1 receipts)) → Turns fed last before now place r c result
+
+-- the lines of the groups so far were written, and then are those of all groups that stand
+abbrev pub TellsGroups : Bool → (old now : Option (List ℕ)) → (before behind : Session) → Result Pause Stop → Type 0
+TellsGroups last old now s t result = (fed : List ℕ) (before : Option (List ℕ)) → Told fed last before old s.reader s.course
+    → Pauses fed last before now t.reader t.course result
+
 -- so many bytes of the file were read, and their groups told
 pub record IsUnderway (content left before now : Option (List ℕ)) (r : Held) (c : Option Course) (size : ℕ) : Type 0 where
   pub fed : List ℕ
@@ -112,8 +130,12 @@ Closes before now ending (Err e) = AppendsFront before now (text_of (ending_line
 
 -- ---- commands
 
+-- this is the command's answer, where it is known what it reads
+abbrev pub IsAnswerIfTold : Command → (List ℕ → Option (List ℕ)) → Answer → Type 0
+IsAnswerIfTold command content answer = IsTold command content → IsAnswer command content answer
+
 -- an answer of the command has this status, and its text was written; or a front of the text of each of its answers was
 abbrev pub Comes : Command → (List ℕ → Option (List ℕ)) → Option (List ℕ) → Option (List ℕ) → Result ℕ Stop → Type 0
-Comes command content before now (Ok status) = (answer : Answer) × (IsTold command content → IsAnswer command content answer) × IsOwn command answer.status × (status ≡ answer.status)
+Comes command content before now (Ok status) = (answer : Answer) × IsAnswerIfTold command content answer × IsOwn command answer.status × (status ≡ answer.status)
     × Appends before now (text_of answer.lines)
 Comes command content before now (Err e) = (answer : Answer) → IsAnswer command content answer → AppendsFront before now (text_of answer.lines)

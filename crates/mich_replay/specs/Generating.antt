@@ -1,20 +1,24 @@
 -- Workloads that are replayed, and their groups counted.
-use Rattle.std.specs.Prelude.{◌≡◌, ◌<◌, ℕ, List, [], ◌∷◌, length, Bool, true, false, Result, Ok, Err}
+use Rattle.std.specs.Prelude.{◌≡◌, ◌<◌, ℕ, List, [], ◌∷◌, length, Bool, true, false, Result, Ok, Err, IfOk}
 use Rattle.std.specs.declared.option.Option.{Option}
 use Rattle.std.specs.Io.KnownBytes.{Appends}
 use Rattle.rules_text.specs.streams.Known.{AppendsFront}
+use Rattle.rules_files.specs.course.Course.{Course as PlainCourse}
 use Rattle.rules_files.specs.commands.Lines.{text_of}
 use Rattle.rules_files.specs.commands.Places.{IsEndAt}
-use Rattle.rules_world.specs.summary.Summary.{was_applied, has_failed, count_of, calls_in}
+use Rattle.rules_world.specs.summary.Summary.{was_applied, has_failed, count_of, calls_in, summary_line}
 use Rattle.rules_world.specs.world.Receipts.{Receipt}
+use Rattle.mich_base.specs.declared.memory.Memory.{Memory}
 use Rattle.mich_group.specs.declared.course.course.Course.{Course}
 use Rattle.mich_ops.specs.Told.{ToldReceipt}
 use Rattle.mich_ops.specs.Told as told
 use Rattle.mich_reader.specs.Held.{Held}
-use Rattle.mich_replay.specs.Coming.{Came}
+use Rattle.mich_replay.specs.Coming.{Came, Happens}
 use Rattle.mich_replay.specs.declared.generating.Counts.{Counts}
 use Rattle.mich_replay.specs.declared.generating.Counting.{Counting}
 use Rattle.mich_replay.specs.declared.generating.Counting.TheVariants as counting
+use Rattle.mich_replay.specs.declared.session.Session.{Session}
+use Rattle.mich_replay.specs.declared.steps.Event.{Event}
 use Rattle.mich_replay.specs.declared.stop.Stop.{Stop}
 
 -- what is told of a group whose one content was applied, or failed
@@ -38,12 +42,27 @@ pub record IsCounted (fed : List ℕ) (r : Held) (c : Option Course) (counts : C
   pub came : Came fed true r c receipts
   pub counted : AreCounts receipts counts
 
+-- so are all groups of a workload
+abbrev pub AllCounted : List ℕ → Session → Counts → Type 0
+AllCounted fed s counts = IsCounted fed s.reader s.course counts × IsEndAt fed s.reader.place
+
 -- how the counting goes on behind a place, or ends
 abbrev pub Counted : List ℕ → ℕ → Held → Option Course → Counting → Type 0
 Counted fed place r c (counting.On counts) = IsCounted fed r c counts × (place < r.place)
 Counted fed place r c (counting.Ended counts) = IsCounted fed r c counts × IsEndAt fed r.place
 
+-- the groups before it were counted so: what came behind a place is counted
+abbrev pub CountsEvent : Counts → Event → Result Counting Memory → Type 0
+CountsEvent counts e result =
+    (fed : List ℕ) (receipts : List Receipt) (place : ℕ) (r : Held) (c : Option Course) → AreCounts receipts counts
+    → Happens fed true receipts place r c (Ok e) → IfOk result (λ next. Counted fed place r c next)
+
 -- the line was written, with status 0; or a front of it was
 abbrev pub Summed : Option (List ℕ) → Option (List ℕ) → List ℕ → Result ℕ Stop → Type 0
 Summed before now line (Ok status) = (status ≡ 0) × Appends before now (text_of (line ∷ []))
 Summed before now line (Err e) = AppendsFront before now (text_of (line ∷ []))
+
+-- so it is with the line that sums up these groups, where they were counted so
+abbrev pub SumsUp : List Receipt → Counts → ℕ → PlainCourse → (before now : Option (List ℕ)) → Result ℕ Stop → Type 0
+SumsUp receipts counts calls p before now result =
+    AreCounts receipts counts → Summed before now (summary_line calls receipts p.world) result

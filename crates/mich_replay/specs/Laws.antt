@@ -1,7 +1,7 @@
 -- Laws of what a file comes to.
-use Rattle.std.specs.Prelude.{◌≡◌, ◌≢◌, ◌≤◌, ℕ, ◌+◌, ◌-ℤ◌, List, [], ◌∷◌, Some, None}
+use Rattle.std.specs.Prelude.{◌≡◌, ◌≢◌, ◌≤◌, ◌<◌, ℕ, ◌+◌, ◌-ℤ◌, List, [], ◌∷◌, ◌++◌, length, Some, None}
 use Rattle.std.specs.declared.option.Option.{Option}
-use Rattle.rules_text.specs.nodes.Limits.{most_mutez}
+use Rattle.rules_text.specs.nodes.Limits.{file_limit, most_mutez}
 use Rattle.rules_files.specs.commands.Places.{Placed, AreStatements, IsEndAt}
 use Rattle.rules_files.specs.statements.Statements.{Statement, form}
 use Rattle.rules_data.specs.values.Tickets.{Identity}
@@ -11,6 +11,8 @@ use Rattle.rules_world.specs.world.World.{World}
 use Rattle.rules_files.specs.commands.Replay.{Replay, State, IsReplay, going, stuck_run, run_all}
 use Rattle.rules_files.specs.commands.Answers.{Answer}
 use Rattle.rules_files.specs.commands.Commands.{Command, IsTold, IsAnswer}
+use Rattle.rules_files.specs.commands.Codec.{IsCodecAnswer}
+use Rattle.rules_text.specs.nodes.Tree.{Tree}
 use Rattle.laws_files.specs.Laws as course
 
 -- ---- answers
@@ -26,6 +28,10 @@ HasAnAnswer command = (content : List ℕ → Option (List ℕ)) → IsTold comm
 -- the groups of a file all have outcomes: accepted code is never stuck
 abbrev pub NoGroupIsStuck : Type 0
 NoGroupIsStuck = (file : List ℕ) (ss : List Placed) (to : ℕ) → AreStatements file 0 ss to → run_all (going [] None) ss ≢ stuck_run
+
+-- past the limit of a file its answer stays, whatever stands behind it
+abbrev pub KeepsAnswer : (Tree → Option Answer) → (file more : List ℕ) → Answer → Type 0
+KeepsAnswer command file more answer = file_limit < length file → IsCodecAnswer command file answer → IsCodecAnswer command (file ++ more) answer
 
 -- ---- mutez
 

@@ -3,6 +3,7 @@ use Rattle.std.specs.Prelude.{◌≡◌, ◌≤◌, ◌⊎◌, ℕ, List, [], �
 use Rattle.std.specs.declared.option.Option.{Option}
 use Rattle.std.specs.Io.KnownBytes.{Appends, Consumes}
 use Rattle.rules_files.specs.course.Course.{Course}
+use Rattle.rules_files.specs.commands.Commands.{Verb, Replaying, OnFile, command_of}
 use Rattle.rules_files.specs.commands.Lines.{group_lines, text_of}
 use Rattle.rules_files.specs.commands.Places.{Placed, IsNodeAt, AreStatements}
 use Rattle.rules_files.specs.commands.Replay.{going, run_all}
@@ -52,3 +53,13 @@ abbrev pub WritesAsItReads : (content left_before left_now before now : Option (
 WritesAsItReads content left_before left_now before now status =
     NotStarted left_before left_now before now status
     ⊎ ((taken : List ℕ) × Consumes content left_now taken × KeepsStep taken before now status)
+
+-- so it is where the file is replayed
+abbrev pub PacesVerb : Verb → (content left_before left_now before now : Option (List ℕ)) → ℕ → Type 0
+PacesVerb verb content left_before left_now before now status =
+    verb ≡ Replaying → WritesAsItReads content left_before left_now before now status
+
+-- and where words ask for that
+abbrev pub PacesWords : List (List ℕ) → (List ℕ → Option (List ℕ)) → (left_before left_now before now : Option (List ℕ)) → ℕ → Type 0
+PacesWords words content left_before left_now before now status =
+    (path : List ℕ) → command_of words ≡ OnFile Replaying path → WritesAsItReads (content path) left_before left_now before now status

@@ -1,7 +1,8 @@
 -- What taking statements leaves.
 use Rattle.std.specs.Prelude.{◌≡◌, ◌+◌, ◌<◌, ◌^◌, ℕ, List, [], ◌∷◌, ◌++◌, length, Option, Some, None, Result, Ok, Err}
 use Rattle.rules_files.specs.course.Course.{Course as PlainCourse, Step}
-use Rattle.rules_files.specs.commands.Replay.{Run, going, stopped}
+use Rattle.rules_files.specs.commands.Replay.{Run, going, stopped, taken}
+use Rattle.rules_files.specs.statements.Statements.{Statement}
 use Rattle.rules_world.specs.world.Receipts.{Receipt}
 use Rattle.mich_base.specs.declared.memory.Memory.{Memory}
 use Rattle.mich_group.specs.course.Following.{Follows, Goes, Begins}
@@ -54,3 +55,8 @@ IsTaken before place (going receipts p) c (Ok (event.Group told)) = (found : Rec
 IsTaken before place (stopped receipts f at) c (Ok (event.Refused fault here)) = (receipts ≡ before) × (f ≡ file_fault_seen fault) × (at ≡ here) × (here ≡ place)
 IsTaken before place run c (Err e) = Unit {0}
 IsTaken before place run c (Ok r) = ⊥
+
+-- so it is of the statement at a place, or of a node that is none, behind whatever receipts
+abbrev pub Takes : ℕ → Option Statement → (before now : Option Course) → Result Event Memory → Type 0
+Takes place s before now result = (receipts : List Receipt) (p : Option PlainCourse) → Stands receipts p before
+    → IsTaken receipts place (taken receipts p place s) now result

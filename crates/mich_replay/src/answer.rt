@@ -4,9 +4,9 @@ ghost use Rattle.std.specs.Io.KnownBytes.{IsAtEnd};
 ghost use Rattle.rules_text.specs.nodes.Limits.{file_limit};
 ghost use Rattle.rules_text.specs.streams.Causes.{HasCause};
 ghost use Rattle.rules_files.specs.commands.Answers.{usage_answer};
-ghost use Rattle.rules_files.specs.commands.Commands.{OnFile, NoCommand, IsVerbAnswer, IsTold, IsAnswer};
+ghost use Rattle.rules_files.specs.commands.Commands.{OnFile, NoCommand, IsVerbAnswer};
 ghost use Rattle.mich_answers.specs.View.{answer_seen, IsDoneOrRefused};
-ghost use Rattle.mich_replay.specs.Coming.{Comes};
+ghost use Rattle.mich_replay.specs.Coming.{Comes, IsAnswerIfTold};
 ghost use Rattle.mich_replay.specs.Fronts.{IsRest, read_limit};
 ghost use Rattle.mich_replay.specs.View.{whole_seen};
 
@@ -65,7 +65,7 @@ fn answer_path<F: Files>(
     files: &mut F,
 ) -> Result<Answer, Stop>
     requires { Contains (F.lent files.old) path.now }
-    ensures exact { IfOk result (λ a. IsTold (OnFile (whole_seen verb) path.now) (F.content files.old) → IsAnswer (OnFile (whole_seen verb) path.now) (F.content files.old) (answer_seen a)) }
+    ensures exact { IfOk result (λ a. IsAnswerIfTold (OnFile (whole_seen verb) path.now) (F.content files.old) (answer_seen a)) }
     ensures status { IfOk result (λ a. IsDoneOrRefused a.status) }
     ensures end { IfOk result (λ a. a.status ≡ 0 → IsAtEnd (F.left files.new)) }
     ensures no_write { IsErrOf result Stop.Write → ⊥ }

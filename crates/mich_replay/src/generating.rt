@@ -1,16 +1,13 @@
 // A workload that is made, replayed and summed up.
-ghost use Rattle.std.specs.Prelude.{◌≡◌, ◌≤◌, ◌<◌, ◌++◌, ◌∷◌, [], ◌^◌, ℕ, List, Option, length, true, Ok, IfOk, IsErrOf, if◌then◌else◌};
+ghost use Rattle.std.specs.Prelude.{◌≡◌, ◌≤◌, ◌<◌, ◌++◌, ◌∷◌, [], ◌^◌, ℕ, List, Option, length, true, IfOk, IsErrOf, if◌then◌else◌};
 ghost use Rattle.rules_files.specs.course.Course.{Course as PlainCourse};
 ghost use Rattle.rules_text.specs.streams.Causes.{HasCause};
 ghost use Rattle.rules_files.specs.commands.Commands.{Generating};
-ghost use Rattle.rules_files.specs.commands.Places.{IsEndAt};
-ghost use Rattle.rules_world.specs.summary.Summary.{summary_line};
 ghost use Rattle.rules_world.specs.world.Receipts.{Receipt};
 ghost use Rattle.mich_group.specs.course.Following.{Follows};
 ghost use Rattle.mich_ops.specs.View.{receipt};
-ghost use Rattle.mich_reader.specs.Held.{Held};
-ghost use Rattle.mich_replay.specs.Coming.{Came, Comes, Happens};
-ghost use Rattle.mich_replay.specs.Generating.{AreCounts, Counted, IsCounted, Summed, told_applied, told_failed};
+ghost use Rattle.mich_replay.specs.Coming.{CameTo, Comes};
+ghost use Rattle.mich_replay.specs.Generating.{AllCounted, AreCounts, CountsEvent, SumsUp, told_applied, told_failed};
 ghost use Rattle.mich_replay.specs.Steps.{Tells};
 
 use crate::session::Session;
@@ -97,8 +94,7 @@ fn with_group(counts: Counts, told: &GroupReceipt) -> Counts
 // Counts what came. No workload is refused; where one were, it is given up as for want of memory.
 fn count(counts: Counts, event: Event) -> Result<Counting, Memory>
     requires { (receipts : List Receipt) × AreCounts receipts counts × (length receipts < 2 ^ 32) }
-    ensures { (fed : List ℕ) (receipts : List Receipt) (place : ℕ) (r : Held) (c : Option Course) → AreCounts receipts counts
-        → Happens fed true receipts place r c (Ok event) → IfOk result (λ counting. Counted fed place r c counting) }
+    ensures { CountsEvent counts event result }
 {
     match event {
         Event::Taken => Ok(Counting::On(counts)),
@@ -111,9 +107,8 @@ fn count(counts: Counts, event: Event) -> Result<Counting, Memory>
 
 // Counts the groups of a workload to its end.
 fn count_groups(alloc: Global, session: &mut Session) -> Result<Counts, Memory>
-    requires { (fed : List ℕ) × Came fed true session.old.reader session.old.course [] }
-    ensures { (fed : List ℕ) → Came fed true session.old.reader session.old.course []
-        → IfOk result (λ counts. IsCounted fed session.new.reader session.new.course counts × IsEndAt fed session.new.reader.place) }
+    requires { (fed : List ℕ) × CameTo fed true session.old [] }
+    ensures { (fed : List ℕ) → CameTo fed true session.old [] → IfOk result (λ counts. AllCounted fed session.new counts) }
 {
     let mut counts = Counts {
         groups: 0,
@@ -139,8 +134,8 @@ fn sum_up<K: Sink>(
     out: &mut K,
 ) -> Result<u8, Stop>
     requires { (p : PlainCourse) × Follows course.now p }
-    ensures summed { (receipts : List Receipt) (p : PlainCourse) → Follows course.now p → AreCounts receipts counts
-        → Summed (K.written out.old) (K.written out.new) (summary_line calls receipts p.world) result }
+    ensures summed { (receipts : List Receipt) (p : PlainCourse) → Follows course.now p
+        → SumsUp receipts counts calls p (K.written out.old) (K.written out.new) result }
     ensures no_read { IsErrOf result Stop.Read → ⊥ }
     ensures cause { HasCause Stop.Write (K.faults out.old) (K.faults out.new) result }
 {

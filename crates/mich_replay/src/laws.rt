@@ -9,7 +9,7 @@ ghost use Rattle.rules_files.specs.commands.Scripts.{IsCheckAnswer};
 ghost use Rattle.rules_world.specs.world.Laws.{FailedGroupsMoveFees, RefusedGroupsMoveNothing};
 ghost use Rattle.rules_world.specs.world.World.{World};
 ghost use Rattle.rules_files.specs.commands.Commands.{Command, command_of};
-ghost use Rattle.mich_replay.specs.Laws.{ConservesMutez, ConservesTickets, HasAnAnswer, HasOneAnswer, NoGroupIsStuck};
+ghost use Rattle.mich_replay.specs.Laws.{ConservesMutez, ConservesTickets, HasAnAnswer, HasOneAnswer, KeepsAnswer, NoGroupIsStuck};
 
 use laws_world::groups::{failed_groups_move_fees, refused_groups_move_nothing};
 
@@ -51,8 +51,7 @@ pub fn groups_are_all_or_nothing()
 pub fn long_files_are_decided_by_their_fronts()
     ensures replay { (file more : List ℕ) (done : Replay) → file_limit < length file → IsReplay file done → IsReplay (file ++ more) done }
     ensures refused { (file : List ℕ) (done : Replay) (w : World) → file_limit < length file → IsReplay file done → done.ending ≡ State w → ⊥ }
-    ensures codec { (command : Tree → Option Answer) (file more : List ℕ) (answer : Answer) → file_limit < length file
-        → IsCodecAnswer command file answer → IsCodecAnswer command (file ++ more) answer }
+    ensures codec { (command : Tree → Option Answer) (file more : List ℕ) (answer : Answer) → KeepsAnswer command file more answer }
     ensures check { (file more : List ℕ) (answer : Answer) → file_limit < length file → IsCheckAnswer file answer → IsCheckAnswer (file ++ more) answer }
     ensures status { (command : Tree → Option Answer) (file : List ℕ) (answer : Answer) → file_limit < length file
         → IsCodecAnswer command file answer → answer.status ≡ 2 }

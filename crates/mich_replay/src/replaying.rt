@@ -1,14 +1,11 @@
 // A file that is replayed as it is read.
-ghost use Rattle.std.specs.Prelude.{◌≡◌, ◌<◌, ◌≤◌, ◌^◌, ◌-◌, ℕ, List, length, Bool, Option, Ok, Contains, IfOk, IsErrOf};
-ghost use Rattle.std.specs.Io.KnownBytes.{Appends, IsAtEnd};
+ghost use Rattle.std.specs.Prelude.{◌≡◌, ◌<◌, ◌≤◌, ◌^◌, ◌-◌, ℕ, List, length, Option, Contains, IfOk, IsErrOf};
+ghost use Rattle.std.specs.Io.KnownBytes.{IsAtEnd};
 ghost use Rattle.rules_files.specs.course.Course.{Course as PlainCourse};
 ghost use Rattle.rules_text.specs.streams.Causes.{HasCause};
 ghost use Rattle.rules_files.specs.commands.Commands.{OnFile, Replaying};
-ghost use Rattle.rules_files.specs.commands.Lines.{group_lines, text_of};
 ghost use Rattle.rules_files.specs.commands.Replay.{RefusedAt, ending_of};
-ghost use Rattle.rules_world.specs.world.Receipts.{Receipt};
-ghost use Rattle.mich_reader.specs.Held.{Held};
-ghost use Rattle.mich_replay.specs.Coming.{Closes, Comes, Grows, Happens, Pauses, Told, Turns};
+ghost use Rattle.mich_replay.specs.Coming.{Closes, Comes, Grows, TellsEvent, TellsGroups, Told};
 ghost use Rattle.mich_replay.specs.Pace.{WritesAsItReads};
 ghost use Rattle.mich_replay.specs.Steps.{FollowsIf};
 ghost use Rattle.mich_replay.specs.View.{file_fault_seen, status_in};
@@ -43,9 +40,7 @@ fn tell<K: Sink>(
     event: Event,
     out: &mut K,
 ) -> Result<Option<Pause>, Stop>
-    ensures told { (fed : List ℕ) (last : Bool) (receipts : List Receipt) (place : ℕ) (r : Held) (before : Option (List ℕ))
-        → Happens fed last receipts place r course.now (Ok event)
-        → Appends before (K.written out.old) (text_of (group_lines 1 receipts)) → Turns fed last before (K.written out.new) place r course.now result }
+    ensures told { TellsEvent course.now event (K.written out.old) (K.written out.new) result }
     ensures grows { Grows (K.written out.old) (K.written out.new) }
     ensures no_read { IsErrOf result Stop.Read → ⊥ }
     ensures cause { HasCause Stop.Write (K.faults out.old) (K.faults out.new) result }
@@ -70,8 +65,7 @@ fn tell_groups<K: Sink>(
     out: &mut K,
 ) -> Result<Pause, Stop>
     requires { (fed : List ℕ) × (before : Option (List ℕ)) × Told fed last before (K.written out.old) session.old.reader session.old.course }
-    ensures told { (fed : List ℕ) (before : Option (List ℕ)) → Told fed last before (K.written out.old) session.old.reader session.old.course
-        → Pauses fed last before (K.written out.new) session.new.reader session.new.course result }
+    ensures told { TellsGroups last (K.written out.old) (K.written out.new) session.old session.new result }
     ensures grows { Grows (K.written out.old) (K.written out.new) }
     ensures no_read { IsErrOf result Stop.Read → ⊥ }
     ensures cause { HasCause Stop.Write (K.faults out.old) (K.faults out.new) result }

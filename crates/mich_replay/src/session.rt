@@ -2,7 +2,7 @@
 ghost use Rattle.std.specs.Prelude.{◌≡◌, ◌≤◌, ◌<◌, ◌++◌, ℕ, List, [], Bool, true, false, None, IfOk, OnOk};
 ghost use Rattle.rules_world.specs.world.Receipts.{Receipt};
 ghost use Rattle.mich_reader.specs.Held.{fresh};
-ghost use Rattle.mich_replay.specs.Coming.{Came, Happens};
+ghost use Rattle.mich_replay.specs.Coming.{CameTo, HappensTo};
 
 use crate::outcome::FileFault;
 use crate::steps::{Event, take};
@@ -35,9 +35,9 @@ impl Session {
 
     /// Feeds a piece, of which none comes behind the last one.
     pub(crate) fn feed(&mut self, piece: &[u8]) -> Result<(), Memory>
-        requires { (fed : List ℕ) × (receipts : List Receipt) × Came fed false self.old.reader self.old.course receipts }
-        ensures { (fed : List ℕ) (receipts : List Receipt) (last : Bool) → Came fed false self.old.reader self.old.course receipts
-            → OnOk result (Came (fed ++ piece.now) last self.new.reader self.new.course receipts) }
+        requires { (fed : List ℕ) × (receipts : List Receipt) × CameTo fed false self.old receipts }
+        ensures { (fed : List ℕ) (receipts : List Receipt) (last : Bool) → CameTo fed false self.old receipts
+            → OnOk result (CameTo (fed ++ piece.now) last self.new receipts) }
     {
         self.reader.feed(piece)?;
         Ok(())
@@ -45,9 +45,9 @@ impl Session {
 
     /// Takes the next statement, where its `;` was fed or nothing more comes. After Memory all is given up.
     pub(crate) fn next(&mut self, alloc: Global, last: bool) -> Result<Event, Memory>
-        requires { (fed : List ℕ) × (receipts : List Receipt) × Came fed last self.old.reader self.old.course receipts }
-        ensures { (fed : List ℕ) (receipts : List Receipt) → Came fed last self.old.reader self.old.course receipts
-            → Happens fed last receipts self.old.reader.place self.new.reader self.new.course result }
+        requires { (fed : List ℕ) × (receipts : List Receipt) × CameTo fed last self.old receipts }
+        ensures { (fed : List ℕ) (receipts : List Receipt) → CameTo fed last self.old receipts
+            → HappensTo fed last receipts self.old self.new result }
     {
         match self.reader.next(last) {
             Ok(Next::Placed(placed)) => take(

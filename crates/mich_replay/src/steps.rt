@@ -3,12 +3,12 @@ ghost use Rattle.std.specs.Prelude.{◌≡◌, ◌<◌, ◌^◌, ℕ, List, Opti
 ghost use Rattle.rules_text.specs.nodes.Tree.{size};
 ghost use Rattle.rules_files.specs.course.Course.{Course as PlainCourse};
 ghost use Rattle.rules_files.specs.course.Ranges.{IsStatement};
-ghost use Rattle.rules_files.specs.commands.Replay.{step, taken};
+ghost use Rattle.rules_files.specs.commands.Replay.{step};
 ghost use Rattle.rules_files.specs.statements.Statements.{form};
 ghost use Rattle.rules_world.specs.world.Receipts.{Receipt};
 ghost use Rattle.mich_base.specs.View.{tree};
 ghost use Rattle.mich_scenario.specs.View.{said};
-ghost use Rattle.mich_replay.specs.Steps.{FollowsIf, HasRoom, IsTaken, Leads, Stands, groups_of};
+ghost use Rattle.mich_replay.specs.Steps.{FollowsIf, HasRoom, Leads, Stands, Takes, groups_of};
 
 use crate::outcome::FileFault;
 use mich_base::{Memory, Node};
@@ -65,8 +65,7 @@ fn step(
     requires stands { (receipts : List Receipt) × (p : Option PlainCourse) × Stands receipts p course.old }
     requires room { HasRoom course.old }
     requires ranges { IsStatement (said statement.now) }
-    ensures { (receipts : List Receipt) (p : Option PlainCourse) → Stands receipts p course.old
-        → IsTaken receipts place (taken receipts p place (Some (said statement.entry.now))) course.new result }
+    ensures { Takes place (Some (said statement.entry.now)) course.old course.new result }
 {
     match go_on(alloc, course, bodies, statement) {
         Ok(None) => Ok(Event::Taken),
@@ -91,8 +90,7 @@ pub(crate) fn take(
     requires stands { (receipts : List Receipt) × (p : Option PlainCourse) × Stands receipts p course.old }
     requires room { HasRoom course.old }
     requires small { size (tree node) < 2 ^ 32 }
-    ensures { (receipts : List Receipt) (p : Option PlainCourse) → Stands receipts p course.old
-        → IsTaken receipts place (taken receipts p place (form (tree node))) course.new result }
+    ensures { Takes place (form (tree node)) course.old course.new result }
 {
     match take_form(alloc, node) {
         Ok(statement) => step(alloc, course, bodies, place, &statement),

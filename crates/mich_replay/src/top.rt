@@ -1,11 +1,11 @@
 // The top call.
-ghost use Rattle.std.specs.Prelude.{◌≡◌, ◌≤◌, ◌<◌, ℕ, List, drop, Contains, IfOk, IsErrOf, IsSome};
+ghost use Rattle.std.specs.Prelude.{◌≡◌, ◌≤◌, ◌<◌, drop, Contains, IfOk, IsErrOf, IsSome};
 ghost use Rattle.std.specs.Io.KnownBytes.{IsAtEnd};
 ghost use Rattle.rules_text.specs.streams.Causes.{HasCause};
-ghost use Rattle.rules_files.specs.commands.Commands.{OnFile, Replaying, command_of, file_of};
+ghost use Rattle.rules_files.specs.commands.Commands.{OnFile, command_of, file_of};
 ghost use Rattle.rules_files.specs.commands.Promise.{Meets};
 ghost use Rattle.mich_replay.specs.Coming.{Comes};
-ghost use Rattle.mich_replay.specs.Pace.{WritesAsItReads};
+ghost use Rattle.mich_replay.specs.Pace.{PacesVerb, PacesWords};
 ghost use Rattle.mich_replay.specs.View.{status_in, verb_seen};
 
 use crate::answer::{answer_whole, usage};
@@ -27,8 +27,7 @@ fn answer_on_file<F: Files, K: Sink>(
 ) -> Result<u8, Stop>
     requires { Contains (F.lent files.old) path.now }
     ensures comes { Comes (OnFile (verb_seen verb) path.now) (F.content files.old) (K.written out.old) (K.written out.new) result }
-    ensures pace { verb_seen verb ≡ Replaying
-        → WritesAsItReads (F.content files.old path.now) (F.left files.old) (F.left files.new)
+    ensures pace { PacesVerb (verb_seen verb) (F.content files.old path.now) (F.left files.old) (F.left files.new)
         (K.written out.old) (K.written out.new) (status_in result) }
     ensures end { IfOk result (λ status. status ≡ 0 → IsAtEnd (F.left files.new)) }
     ensures reads { HasCause Stop.Read (F.faults files.old) (F.faults files.new) result }
@@ -49,8 +48,7 @@ fn answer_words<F: Files, K: Sink>(
 ) -> Result<u8, Stop>
     requires { F.lent files.old ≡ drop 1 words.now }
     ensures comes { Comes (command_of words.now) (F.content files.old) (K.written out.old) (K.written out.new) result }
-    ensures pace { (path : List ℕ) → command_of words.now ≡ OnFile Replaying path
-        → WritesAsItReads (F.content files.old path) (F.left files.old) (F.left files.new)
+    ensures pace { PacesWords words.now (F.content files.old) (F.left files.old) (F.left files.new)
         (K.written out.old) (K.written out.new) (status_in result) }
     ensures end { IfOk result (λ status. status ≡ 0 → IsSome (file_of (command_of words.now)) → IsAtEnd (F.left files.new)) }
     ensures file { IsErrOf result Stop.Read → IsSome (file_of (command_of words.now)) }
@@ -74,8 +72,7 @@ pub fn mich<F: Files, K: Sink>(alloc: Global, words: &Texts, files: &mut F, out:
     requires { F.lent files.old ≡ drop 1 words.now }
     ensures meets { Meets words.now (F.content files.old) (F.faults files.old) (F.faults files.new) (K.faults out.old) (K.faults out.new)
         (F.left files.new) (K.written out.old) (K.written out.new) result }
-    ensures pace { (path : List ℕ) → command_of words.now ≡ OnFile Replaying path
-        → WritesAsItReads (F.content files.old path) (F.left files.old) (F.left files.new) (K.written out.old) (K.written out.new) result }
+    ensures pace { PacesWords words.now (F.content files.old) (F.left files.old) (F.left files.new) (K.written out.old) (K.written out.new) result }
 {
     match answer_words(alloc, words, files, out) {
         Ok(status) => status,

@@ -1,5 +1,5 @@
 -- Tickets in the order in which they are printed, with their amounts.
-use Rattle.std.specs.Prelude.{ℕ, ℤ, pos, int_lt, Bool, false, ◌&&◌, if◌then◌else◌, Option, Some, None, List, [], ◌∷◌, unwrap_or}
+use Rattle.std.specs.Prelude.{◌≡◌, ℕ, ℤ, pos, int_lt, Bool, false, ◌&&◌, if◌then◌else◌, Option, Some, None, List, [], ◌∷◌, unwrap_or}
 use Rattle.std.specs.declared.cmp.Ordering.{Ordering}
 use Rattle.std.specs.Ordering.{nat_cmp, is_eq}
 use Rattle.std.specs.Cmp.Lexicographic.{slice_cmp}
@@ -15,7 +15,7 @@ use Rattle.mich_term.specs.TicketView.{identity}
 use Rattle.mich_term.specs.declared.ticket.TicketId.{TicketId}
 use Rattle.mich_term.specs.contracts.ticket.TicketId as ticket_id
 use Rattle.mich_tickets.specs.Lines.{Lines}
-use Rattle.mich_tickets.specs.Owned.{amount_at}
+use Rattle.mich_tickets.specs.Owned.{Owned, amount_at}
 use Rattle.mich_tickets.specs.declared.line.Line.{Line}
 
 abbrev pub by_print : TicketId → TicketId → Ordering
@@ -64,6 +64,16 @@ held_in ps who j = amount_in j (amounts_of who ps)
 -- a positive amount of a ticket stands for what was there before
 abbrev pub written : Identity → TicketId → ℤ → ℤ → ℤ
 written j id n before = if is_of j id && int_lt (pos 0) n then n else before
+
+-- so much is written of what an account holds of a ticket
+abbrev pub IsWritten : List ℕ → TicketId → ℤ → (before now : Purses) → Type 0
+IsWritten who id n before now = (o : List ℕ) (j : Identity)
+    → held_in now o j ≡ (if is_at (slice_cmp nat_cmp o) who then written j id n (held_in before o j) else held_in before o j)
+
+-- and of all accounts among the owners of a ticket
+abbrev pub AreWritten : TicketId → Owned → (before now : Purses) → Type 0
+AreWritten id owners before now = (o : List ℕ) (j : Identity)
+    → held_in now o j ≡ written j id (amount_at (implicit_place o) owners) (held_in before o j)
 
 -- an amount of each line, in turn
 abbrev pub settled : (Line → ℤ) → Identity → Lines → ℤ → ℤ

@@ -1,5 +1,7 @@
 -- Sums over tickets.
-use Rattle.std.specs.Prelude.{◌≡◌, ℤ, pos, ◌+ℤ◌, ◌-ℤ◌, List, [], ◌∷◌}
+use Rattle.std.specs.Prelude.{◌≡◌, ℕ, ℤ, pos, ◌+ℤ◌, ◌-ℤ◌, List, [], ◌∷◌, codes}
+use Rattle.rules_text.specs.nodes.Tree.{Tree, int}
+use Rattle.rules_world.specs.lines.Nodes.{number, over}
 use Rattle.rules_data.specs.values.Tickets.{Identity}
 use Rattle.mich_tickets.specs.Books.{Books}
 use Rattle.mich_tickets.specs.Sums.{minted_of, burnt_of}
@@ -15,3 +17,8 @@ pub record AreSums (b : Books) (es : List (Identity × ℤ)) (s : Sums) : Type 0
   pub minted : s.minted ≡ over_entries (minted_of b) es
   pub burnt : s.burnt ≡ over_entries (burnt_of b) es
   pub held : s.held ≡ over_entries (λ j. minted_of b j -ℤ burnt_of b j) es
+
+-- the summary of a workload with these sums
+abbrev pub summary_with : (calls applied failed supply : ℕ) → Sums → Tree
+summary_with calls applied failed supply s =
+    over (codes "Summary") (number calls ∷ number applied ∷ number failed ∷ number supply ∷ int s.minted ∷ int s.burnt ∷ int s.held ∷ [])

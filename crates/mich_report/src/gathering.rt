@@ -3,12 +3,9 @@ ghost use Rattle.std.specs.BTreeMap.{is_at};
 ghost use Rattle.std.specs.Cmp.Lexicographic.{slice_cmp};
 ghost use Rattle.std.specs.Map.{lookup};
 ghost use Rattle.std.specs.Ordering.{nat_cmp};
-ghost use Rattle.std.specs.Prelude.{◌≡◌, ℕ, List, IfOk, if◌then◌else◌, is_some};
-ghost use Rattle.rules_data.specs.forms.Spelling.{implicit_place};
-ghost use Rattle.rules_data.specs.values.Tickets.{Identity};
-ghost use Rattle.mich_tickets.specs.Owned.{amount_at};
+ghost use Rattle.std.specs.Prelude.{◌≡◌, IfOk, is_some};
 ghost use Rattle.mich_base.specs.undo.Undone.{changed_at};
-ghost use Rattle.mich_report.specs.Amounts.{held_in, with_amount, written};
+ghost use Rattle.mich_report.specs.Amounts.{AreWritten, IsWritten, with_amount};
 ghost use Rattle.mich_report.specs.State.{Gathers, Mints};
 
 use crate::amounts::Amounts;
@@ -50,7 +47,7 @@ fn add_held(
     id: &TicketId,
     amount: i128,
 ) -> Result<(), Memory>
-    ensures { IfOk result (λ _. (o : List ℕ) (j : Identity) → held_in purses.new.entries o j ≡ (if is_at (slice_cmp nat_cmp o) who then written j id.now amount (held_in purses.old.entries o j) else held_in purses.old.entries o j)) }
+    ensures { IfOk result (λ _. IsWritten who id.now amount purses.old.entries purses.new.entries) }
 {
     if write_held(alloc, purses, &who, id, amount)? {
         return Ok(());
@@ -68,7 +65,7 @@ fn add_owners(
     id: &TicketId,
     held: &Holdings,
 ) -> Result<(), Memory>
-    ensures { IfOk result (λ _. (o : List ℕ) (j : Identity) → held_in purses.new.entries o j ≡ written j id.now (amount_at (implicit_place o) held.now) (held_in purses.old.entries o j)) }
+    ensures { IfOk result (λ _. AreWritten id.now held.now purses.old.entries purses.new.entries) }
 {
     let owners = held.owners();
     let _count = owners.len();

@@ -2,19 +2,18 @@
 ghost use Rattle.std.specs.List.{AllByRecursion, flat_map};
 ghost use Rattle.std.specs.List.Sorted.{IsStrictlySortedBy};
 ghost use Rattle.std.specs.Map.{keys_of};
-ghost use Rattle.std.specs.Prelude.{◌≡◌, ◌<ℤ◌, ◌≤ℤ◌, ℤ, pos, List, ◌∷◌, [], ◌++◌, IfOk, codes, map};
-ghost use Rattle.rules_world.specs.lines.Nodes.{account_node, contract_node, held_node, line, number, over, state_nodes};
+ghost use Rattle.std.specs.Prelude.{◌≡◌, ◌<ℤ◌, ◌≤ℤ◌, ℤ, pos, List, ◌++◌, IfOk, map};
+ghost use Rattle.rules_world.specs.lines.Nodes.{contract_node, held_node, line, state_nodes};
 ghost use Rattle.rules_data.specs.values.Canonical.{canonical};
 ghost use Rattle.rules_data.specs.values.Tickets.{Identity};
 ghost use Rattle.rules_world.specs.world.World.{World as PlainWorld};
-ghost use Rattle.laws_world.specs.lines.Laws.{AreInOrder, amount_told};
+ghost use Rattle.laws_world.specs.lines.Laws.{AreInOrder};
 ghost use Rattle.mich_base.specs.View.{tree};
 ghost use Rattle.mich_bigmap.specs.Standing.{val_in};
 ghost use Rattle.mich_term.specs.TicketView.{identity};
-ghost use Rattle.mich_world.specs.Holders.{total};
 ghost use Rattle.mich_world.specs.Standing.{plain};
-ghost use Rattle.mich_report.specs.Amounts.{by_print, held_in, seen};
-ghost use Rattle.mich_report.specs.State.{AreTotals, Gathers, IsAtRest, ticket_of, totals_node};
+ghost use Rattle.mich_report.specs.Amounts.{by_print, seen};
+ghost use Rattle.mich_report.specs.State.{AreTotals, GathersOf, Holds, IsAtRest, account_lines, line_of, sum_lines, ticket_of, totals_node};
 
 use crate::amounts::Amounts;
 use crate::gathering::{Purses, all_minted, held_by_accounts};
@@ -32,7 +31,7 @@ use std::alloc::Global;
 
 // What an account holds.
 fn purse_nodes(alloc: Global, purses: &Purses, who: &KeyHash) -> Result<Nodes, Memory>
-    ensures { (holdings : List (Identity × ℤ)) → AreInOrder holdings → ((j : Identity) → held_in purses.now.entries who.now j ≡ amount_told j holdings) → IfOk result (λ ns. map tree ns ≡ map held_node holdings) }
+    ensures { (holdings : List (Identity × ℤ)) → AreInOrder holdings → Holds purses.now.entries who.now holdings → IfOk result (λ ns. map tree ns ≡ map held_node holdings) }
 {
     match purses.get(who) {
         Some(purse) => purse.held_nodes(alloc),
@@ -42,7 +41,7 @@ fn purse_nodes(alloc: Global, purses: &Purses, who: &KeyHash) -> Result<Nodes, M
 
 // An account with its balance.
 fn account_line(alloc: Global, who: &KeyHash, balance: u64, purses: &Purses) -> Result<Text, Memory>
-    ensures { (holdings : List (Identity × ℤ)) → AreInOrder holdings → ((j : Identity) → held_in purses.now.entries who.now j ≡ amount_told j holdings) → IfOk result (λ t. t ≡ line (account_node (who.now, record { balance = balance; holdings = holdings }))) }
+    ensures { (holdings : List (Identity × ℤ)) → AreInOrder holdings → Holds purses.now.entries who.now holdings → IfOk result (λ t. t ≡ line_of who.now balance holdings) }
 {
     let mut fields = Nodes::new(alloc);
     fields.push(bytes_node(alloc, who.bytes().as_slice())?)?;
@@ -60,7 +59,7 @@ pub(crate) fn add_accounts(
     purses: &Purses,
     lines: &mut Texts,
 ) -> Result<(), Memory>
-    ensures { (w : PlainWorld) → IsAtRest world.now w → Gathers world.now.ledger.books.present.lines purses.now.entries → IfOk result (λ _. lines.new ≡ lines.old ++ map line (map account_node w.accounts)) }
+    ensures { (w : PlainWorld) → IsAtRest world.now w → GathersOf world.now purses.now.entries → IfOk result (λ _. lines.new ≡ lines.old ++ account_lines w) }
 {
     let keys = world.account_keys(alloc)?;
     'accounts: for who in keys.as_slice() {
@@ -145,7 +144,7 @@ fn add_tickets(
 
 /// The fees that were taken, and all mutez.
 pub(crate) fn add_sums(alloc: Global, world: &World, lines: &mut Texts) -> Result<(), Memory>
-    ensures { IfOk result (λ _. lines.new ≡ lines.old ++ map line (over (codes "Fees") (number world.now.funds.present.fees ∷ []) ∷ over (codes "Supply") (number (total world.now.funds.present) ∷ []) ∷ [])) }
+    ensures { IfOk result (λ _. lines.new ≡ lines.old ++ sum_lines world.now.funds.present) }
 {
     let fees = over_one(alloc, b"Fees", number_node(world.fees()))?;
     lines.push(node_line(alloc, &fees)?)?;

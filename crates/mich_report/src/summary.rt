@@ -2,15 +2,14 @@
 ghost use Rattle.std.specs.List.{AllByRecursion};
 ghost use Rattle.std.specs.List.Sorted.{IsStrictlySortedBy};
 ghost use Rattle.std.specs.Map.{keys_of};
-ghost use Rattle.std.specs.Prelude.{◌≡◌, ◌<ℤ◌, ◌≤ℤ◌, ◌+ℤ◌, ◌-ℤ◌, pos, [], ◌∷◌, IfOk, codes, map};
-ghost use Rattle.rules_text.specs.nodes.Tree.{int};
-ghost use Rattle.rules_world.specs.lines.Nodes.{line, number, over};
+ghost use Rattle.std.specs.Prelude.{◌≡◌, ◌<ℤ◌, ◌≤ℤ◌, ◌+ℤ◌, ◌-ℤ◌, pos, IfOk, map};
+ghost use Rattle.rules_world.specs.lines.Nodes.{line};
 ghost use Rattle.rules_world.specs.summary.Summary.{summary_node};
 ghost use Rattle.rules_world.specs.world.World.{World as PlainWorld};
 ghost use Rattle.mich_base.specs.View.{tree};
 ghost use Rattle.mich_report.specs.Amounts.{by_print, seen};
 ghost use Rattle.mich_report.specs.State.{AreTotals, IsAtRest};
-ghost use Rattle.mich_report.specs.Summed.{AreSums};
+ghost use Rattle.mich_report.specs.Summed.{AreSums, summary_with};
 
 use crate::amounts::Amounts;
 use crate::gathering::all_minted;
@@ -96,7 +95,7 @@ fn summary_node(
     supply: u64,
     sums: Sums,
 ) -> Result<Node, Memory>
-    ensures { IfOk result (λ n. tree n ≡ over (codes "Summary") (number calls ∷ number applied ∷ number failed ∷ number supply ∷ int sums.minted ∷ int sums.burnt ∷ int sums.held ∷ [])) }
+    ensures { IfOk result (λ n. tree n ≡ summary_with calls applied failed supply sums) }
 {
     let mut fields = Nodes::new(alloc);
     fields.push(number_node(calls))?;

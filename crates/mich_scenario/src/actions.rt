@@ -4,7 +4,7 @@ ghost use Rattle.rules_text.specs.nodes.Tree.{Tree};
 ghost use Rattle.rules_files.specs.statements.Statements.{content_by, nodes_of};
 ghost use Rattle.mich_base.specs.View.{tree, trees};
 ghost use Rattle.mich_ops.specs.View.{content};
-ghost use Rattle.mich_scenario.specs.Fronts.{called, given, originated, IsGift};
+ghost use Rattle.mich_scenario.specs.Fronts.{call_with, called, gift_with, given, originated, IsGift};
 
 use crate::counted::{eight, five};
 use crate::fields::{contract_place, entrypoint, gas, number, place, ticket_amount};
@@ -82,7 +82,7 @@ fn originated(origin: Origin, script: Node, storage: Node) -> Content
 
 // fee gas amount destination "entrypoint"
 fn order_of(fee: &Node, limit: &Node, amount: &Node, to: &Node, entry: &Node) -> Option<Order>
-    ensures { (argument : Tree) → option_map (called argument) result ≡ content_by (codes "Call") (tree fee.now ∷ tree limit.now ∷ tree amount.now ∷ tree to.now ∷ tree entry.now ∷ argument ∷ []) }
+    ensures { (argument : Tree) → option_map (called argument) result ≡ call_with fee.now limit.now amount.now to.now entry.now argument }
 {
     let fee = number(fee, MOST_MUTEZ)?;
     let gas = gas(limit)?;
@@ -149,7 +149,7 @@ fn gift_of(
     to: &Node,
     entry: &Node,
 ) -> Option<Gift>
-    ensures { (kind content : Tree) → option_map (given kind content) result ≡ content_by (codes "Give") (tree fee.now ∷ tree limit.now ∷ tree issuer.now ∷ kind ∷ content ∷ tree amount.now ∷ tree to.now ∷ tree entry.now ∷ []) }
+    ensures { (kind content : Tree) → option_map (given kind content) result ≡ gift_with fee.now limit.now issuer.now amount.now to.now entry.now kind content }
 {
     let fee = number(fee, MOST_MUTEZ)?;
     let gas = gas(limit)?;

@@ -1,5 +1,5 @@
 -- The stacks and failures that those of the code stand for.
-use Rattle.std.specs.Prelude.{List, [], ◌∷◌, map, reverse}
+use Rattle.std.specs.Prelude.{◌≡◌, List, [], ◌∷◌, map, reverse}
 use Rattle.rules_data.specs.values.Val.{Val, Pairs}
 use Rattle.rules_code.specs.steps.Failure.{Failure}
 use Rattle.rules_code.specs.steps.Failure as f
@@ -30,6 +30,10 @@ failure IntegerLimit = f.integer_limit
 failure MutezOverflow = f.mutez_overflow
 failure ShiftLimit = f.shift_limit
 failure SizeLimit = f.size_limit
+
+-- three values are on top, the first of them above the others, and these are those below
+abbrev pub AreThreeOnTop : Sight → List Value → Value → Value → Value → List Value → Type 0
+AreThreeOnTop big vs first second third rest = values big vs ≡ seen big first ∷ seen big second ∷ seen big third ∷ values big rest
 
 -- fewer than two values
 abbrev pub IsBelowTwo : List Val → Type 0

@@ -1,7 +1,7 @@
 // Stacks of values, whose last element is on top.
 ghost use Rattle.std.specs.Prelude.{◌≡◌, [], ◌∷◌, ◌<◌, ◌≤◌, length, drop, insert, remove, slice_get, option_map, Some, IfOk, MatchOption};
 ghost use Rattle.rules_code.specs.steps.Step.{optional};
-ghost use Rattle.mich_stack.specs.Views.{Sight, seen, values, IsBelowTwo, IsBelowThree};
+ghost use Rattle.mich_stack.specs.Views.{Sight, seen, values, AreThreeOnTop, IsBelowTwo, IsBelowThree};
 
 use mich_base::{Link, Memory, Rows};
 use mich_term::Value;
@@ -111,7 +111,7 @@ pub fn optional_value(alloc: Global, value: Option<Value>) -> Result<Value, Memo
 
 /// The three values on top, the first of which is on top, and those below them. None where there are fewer.
 pub fn three_on_top(stack: &[Value]) -> Option<(&Value, &Value, &Value, &[Value])>
-    ensures { (big : Sight) → MatchOption result (IsBelowThree (values big stack.now)) (λ p. values big stack.now ≡ seen big p.0.now ∷ seen big p.1.now ∷ seen big p.2.now ∷ values big p.3.now) }
+    ensures { (big : Sight) → MatchOption result (IsBelowThree (values big stack.now)) (λ p. AreThreeOnTop big stack.now p.0.now p.1.now p.2.now p.3.now) }
 {
     let (first, second, below) = two_on_top(stack)?;
     let (third, rest) = split_top(below)?;

@@ -1,17 +1,26 @@
 -- How instructions that may change what a ledger tells end.
-use Rattle.std.specs.Prelude.{◌≡◌, List, [], ◌∷◌, Option, Some, None, option_map, Result, Ok, Err}
+use Rattle.std.specs.Prelude.{◌≡◌, ℤ, unsigned_abs, List, [], ◌∷◌, Option, Some, None, option_map, Result, Ok, Err}
 use Rattle.rules_data.specs.values.Val.{Val}
+use Rattle.rules_code.specs.instructions.Straight.{TicketRow}
 use Rattle.rules_code.specs.steps.Changes.{Change, burnt}
 use Rattle.rules_code.specs.steps.Step.{Step, done, fails, wrong, optional}
-use Rattle.rules_code.specs.steps.TicketSteps.{as_value}
+use Rattle.rules_code.specs.steps.TicketSteps.{as_value, ticket_step, ticket_step_of}
+use Rattle.mich_base.specs.TypeView.{kind}
+use Rattle.mich_forms.specs.Spelled.{place_bytes}
 use Rattle.mich_term.specs.TicketView.{held}
+use Rattle.mich_term.specs.View.{datum}
 use Rattle.mich_term.specs.declared.ticket.Ticket.{Ticket}
-use Rattle.mich_tickets.specs.Books.{State}
+use Rattle.mich_term.specs.declared.ticket.TicketId.{TicketId}
+use Rattle.mich_tickets.specs.Books.{Books, State}
 use Rattle.mich_tickets.specs.Effects.{Tells}
+use Rattle.mich_tickets.specs.Sums.{minted_of}
 use Rattle.mich_term.specs.declared.value.Value.{Value}
 use Rattle.mich_stack.specs.declared.error.StepError.{StepError}
 use Rattle.mich_stack.specs.declared.error.StepError.TheVariants.{Failed, Memory}
 use Rattle.mich_stack.specs.Views.{Sight, values, failure}
+use Rattle.mich_step.specs.Shown.{ShowsTickets}
+use Rattle.mich_step.specs.Views.{environment}
+use Rattle.mich_step.specs.declared.environment.Env.{Env}
 
 -- the tickets that an instruction makes and discards
 abbrev pub changes_of : Step → List Change
@@ -28,6 +37,22 @@ IsDone s V (Err Memory) = Unit {0}
 -- it ends so, however big maps are seen
 abbrev pub Steps : (List Val → Step) → List Value → List Value → Result (Unit {0}) StepError → Type 0
 Steps step old new r = (big : Sight) → IsDone (step (values big old)) (values big new) r
+
+-- a ledger tells what it makes and discards, however big maps are seen
+abbrev pub TellsStep : (List Val → Step) → List Value → State → State → Type 0
+TellsStep step vs old new = (big : Sight) → Tells (changes_of (step (values big vs))) old new
+
+-- the same wherever a sight shows the tickets in big maps
+abbrev pub TellsShown : (List Val → Step) → List Value → State → State → Type 0
+TellsShown step vs old new = (big : Sight) → ShowsTickets big vs → Tells (changes_of (step (values big vs))) old new
+
+-- the rule of an instruction on tickets, where and for whom the code runs, and what was ever minted
+abbrev pub ticket_rule : Env → Books → TicketRow → List Val → Step
+ticket_rule e b row = ticket_step (environment e) (minted_of b) row
+
+-- the rule by which so many tickets are minted, where so many ever were
+abbrev pub mint_rule : TicketId → ℤ → Books → List Val → Step
+mint_rule id n b V = ticket_step_of (place_bytes id.issuer) (minted_of b) (kind id.ty) (datum id.content) (unsigned_abs n) V
 
 -- tickets are minted, or none; or too many would be
 abbrev pub IsMinted : Step → List Val → State → State → Result (Option Ticket) StepError → Type 0

@@ -7,14 +7,13 @@ ghost use Rattle.rules_code.specs.steps.Stack.{pair_step, stack_step};
 ghost use Rattle.mich_overload.specs.View.{collection_row, pair_row, stack_row};
 ghost use Rattle.mich_overload.specs.Steps.{is_on_big_map};
 ghost use Rattle.mich_term.specs.TicketView.{held};
-ghost use Rattle.mich_stack.specs.Views.{Sight, values, plain};
+ghost use Rattle.mich_stack.specs.Views.{plain};
 ghost use Rattle.mich_stack.specs.Ends.{Fits, gone};
 ghost use Rattle.mich_step.specs.collections.Keys.{SuitsCollections};
 ghost use Rattle.mich_tickets.specs.Effects.{Tells};
 ghost use Rattle.mich_tickets.specs.Limits.{IsReady};
 ghost use Rattle.mich_step.specs.Ends.{SuitsStack};
-ghost use Rattle.mich_step.specs.Shown.{ShowsTickets};
-ghost use Rattle.mich_step.specs.Tells.{changes_of, Steps};
+ghost use Rattle.mich_step.specs.Tells.{Steps, TellsShown};
 
 use crate::collections::collection_step;
 use crate::order::stack_step;
@@ -60,7 +59,7 @@ pub(crate) fn order(
     requires suits { SuitsStack (stack_row row.now) (plain stack.old) }
     requires ready { IsReady ledger.old.books.present (gone (stack_step (stack_row row.now) (plain stack.old))) }
     ensures ends { Steps (stack_step (stack_row row.now)) stack.old stack.new result }
-    ensures tells { IfOk result (λ _. (big : Sight) → ShowsTickets big stack.old → Tells (changes_of (stack_step (stack_row row.now) (values big stack.old))) ledger.old ledger.new) }
+    ensures tells { IfOk result (λ _. TellsShown (stack_step (stack_row row.now)) stack.old ledger.old ledger.new) }
     ensures keeps { KeepsBooks ledger.old.books ledger.new.books }
 {
     let mut told = collector(alloc);
@@ -83,7 +82,7 @@ pub(crate) fn pairs(
     requires fits { Fits (pair_step (pair_row row.now)) stack.old }
     requires ready { IsReady ledger.old.books.present (gone (pair_step (pair_row row.now) (plain stack.old))) }
     ensures ends { Steps (pair_step (pair_row row.now)) stack.old stack.new result }
-    ensures tells { IfOk result (λ _. (big : Sight) → ShowsTickets big stack.old → Tells (changes_of (pair_step (pair_row row.now) (values big stack.old))) ledger.old ledger.new) }
+    ensures tells { IfOk result (λ _. TellsShown (pair_step (pair_row row.now)) stack.old ledger.old ledger.new) }
     ensures keeps { KeepsBooks ledger.old.books ledger.new.books }
 {
     let mut told = collector(alloc);
@@ -108,7 +107,7 @@ pub(crate) fn collections(
     requires suits { SuitsCollections (collection_row row.now) (plain stack.old) }
     requires ready { IsReady ledger.old.books.present (gone (collection_step (collection_row row.now) (plain stack.old))) }
     ensures ends { Steps (collection_step (collection_row row.now)) stack.old stack.new result }
-    ensures tells { IfOk result (λ _. (big : Sight) → ShowsTickets big stack.old → Tells (changes_of (collection_step (collection_row row.now) (values big stack.old))) ledger.old ledger.new) }
+    ensures tells { IfOk result (λ _. TellsShown (collection_step (collection_row row.now)) stack.old ledger.old ledger.new) }
     ensures keeps { KeepsBooks ledger.old.books ledger.new.books }
 {
     let mut told = collector(alloc);

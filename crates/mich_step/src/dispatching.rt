@@ -4,14 +4,12 @@ ghost use Rattle.mich_base.specs.undo.History.{Keeps as KeepsBooks};
 ghost use Rattle.rules_data.specs.values.Tickets.{Identity, tickets};
 ghost use Rattle.mich_overload.specs.Steps.{in_step};
 ghost use Rattle.mich_overload.specs.View.{straight};
-ghost use Rattle.mich_stack.specs.Views.{Sight, values, plain};
+ghost use Rattle.mich_stack.specs.Views.{plain};
 ghost use Rattle.mich_stack.specs.Ends.{Fits, Keeps};
-ghost use Rattle.mich_tickets.specs.Effects.{Tells};
 ghost use Rattle.mich_tickets.specs.Limits.{IsReady};
 ghost use Rattle.mich_tickets.specs.Sums.{minted_of};
 ghost use Rattle.mich_step.specs.Rule.{IsQuiet, Suits, rule};
-ghost use Rattle.mich_step.specs.Shown.{ShowsTickets};
-ghost use Rattle.mich_step.specs.Tells.{changes_of, Steps};
+ghost use Rattle.mich_step.specs.Tells.{Steps, TellsShown};
 ghost use Rattle.mich_step.specs.Views.{environment};
 
 use crate::burning::{collections, order, pairs};
@@ -65,7 +63,7 @@ pub fn step(
     requires suits { Suits (straight instr.now) (plain stack.old) }
     requires ready { IsReady ledger.old.books.present (flat_map tickets (plain stack.old)) }
     ensures ends { Steps (rule (environment env.entry.now) (minted_of ledger.old.books.present) (straight instr.now)) stack.old stack.new result }
-    ensures tells { IfOk result (λ _. (big : Sight) → ShowsTickets big stack.old → Tells (changes_of (rule (environment env.entry.now) (minted_of ledger.old.books.present) (straight instr.now) (values big stack.old))) ledger.old ledger.new) }
+    ensures tells { IfOk result (λ _. TellsShown (rule (environment env.entry.now) (minted_of ledger.old.books.present) (straight instr.now)) stack.old ledger.old ledger.new) }
     ensures keeps { KeepsBooks ledger.old.books ledger.new.books }
 {
     match instr {

@@ -1,12 +1,12 @@
 // Tickets.
-ghost use Rattle.std.specs.Prelude.{◌≡◌, ℤ, pos, ◌+ℤ◌, ◌≤ℤ◌, ◌∷◌, List, IfOk, option_map, unsigned_abs};
+ghost use Rattle.std.specs.Prelude.{◌≡◌, ℤ, pos, ◌+ℤ◌, ◌≤ℤ◌, ◌∷◌, List, IfOk, option_map};
 ghost use Rattle.mich_base.specs.undo.History.{Keeps as KeepsBooks};
 ghost use Rattle.rules_data.specs.values.Val.{Val, number, bytes, both};
 ghost use Rattle.rules_data.specs.values.Tickets.{Identity};
 ghost use Rattle.rules_code.specs.steps.Environment.{Environment};
 ghost use Rattle.rules_code.specs.instructions.Straight as i;
 ghost use Rattle.rules_code.specs.steps.Step.{optional};
-ghost use Rattle.rules_code.specs.steps.TicketSteps.{as_value, ticket_step, ticket_step_of};
+ghost use Rattle.rules_code.specs.steps.TicketSteps.{as_value, ticket_step};
 ghost use Rattle.mich_base.specs.TypeView.{kind};
 ghost use Rattle.mich_forms.specs.Spelled.{place_bytes};
 ghost use Rattle.mich_overload.specs.View.{ticket_row};
@@ -15,11 +15,8 @@ ghost use Rattle.mich_term.specs.View.{datum};
 ghost use Rattle.mich_stack.specs.Views.{Sight, seen, values, plain};
 ghost use Rattle.mich_stack.specs.Ends.{Fits, Keeps};
 ghost use Rattle.mich_stack.specs.Keys.{IsKeyOnTop};
-ghost use Rattle.mich_tickets.specs.Effects.{Tells};
 ghost use Rattle.mich_tickets.specs.Limits.{IsReady};
-ghost use Rattle.mich_tickets.specs.Sums.{minted_of};
-ghost use Rattle.mich_step.specs.Views.{environment};
-ghost use Rattle.mich_step.specs.Tells.{changes_of, Steps, IsMinted};
+ghost use Rattle.mich_step.specs.Tells.{Steps, TellsStep, IsMinted, mint_rule, ticket_rule};
 ghost use Rattle.mich_step.specs.Parts.{IsNumber, IsTicket, IsAmountsOnTop, IsTicketsOnTop};
 ghost use Rattle.mich_step.specs.Rule.{SuitsTickets, ticket_stake};
 
@@ -56,7 +53,7 @@ fn mint_tickets(
     n: i128,
 ) -> Result<Option<Ticket>, StepError>
     requires { pos 0 ≤ℤ n }
-    ensures minted { (V : List Val) → IsMinted (ticket_step_of (place_bytes id.issuer) (minted_of ledger.old.books.present) (kind id.ty) (datum id.content) (unsigned_abs n) V) V ledger.old ledger.new result }
+    ensures minted { (V : List Val) → IsMinted (mint_rule id n ledger.old.books.present V) V ledger.old ledger.new result }
     ensures keeps { KeepsBooks ledger.old.books ledger.new.books }
 {
     if n == 0 {
@@ -78,10 +75,10 @@ fn mint(
     stack: &mut Rows<Value>,
     ledger: &mut Ledger,
 ) -> Result<(), StepError>
-    requires fits { Fits (ticket_step (environment env.now) (minted_of ledger.old.books.present) (i.ticket (kind ty.now))) stack.old }
+    requires fits { Fits (ticket_rule env.now ledger.old.books.present (i.ticket (kind ty.now))) stack.old }
     requires suits { IsKeyOnTop (plain stack.old) }
-    ensures ends { Steps (ticket_step (environment env.entry.now) (minted_of ledger.old.books.present) (i.ticket (kind ty.now))) stack.old stack.new result }
-    ensures tells { IfOk result (λ _. (big : Sight) → Tells (changes_of (ticket_step (environment env.entry.now) (minted_of ledger.old.books.present) (i.ticket (kind ty.now)) (values big stack.old))) ledger.old ledger.new) }
+    ensures ends { Steps (ticket_rule env.entry.now ledger.old.books.present (i.ticket (kind ty.now))) stack.old stack.new result }
+    ensures tells { IfOk result (λ _. TellsStep (ticket_rule env.entry.now ledger.old.books.present (i.ticket (kind ty.now))) stack.old ledger.old ledger.new) }
     ensures keeps { KeepsBooks ledger.old.books ledger.new.books }
 {
     let content = take_key(alloc, stack)?;
@@ -178,7 +175,7 @@ fn split_ticket(
     requires fits { (e : Environment) × (total : Identity → ℤ) × Fits (ticket_step e total i.split_ticket) stack.old }
     requires ready { IsReady ledger.old.books.present (ticket_stake i.split_ticket (plain stack.old)) }
     ensures ends { (e : Environment) (total : Identity → ℤ) → Steps (ticket_step e total i.split_ticket) stack.old stack.new result }
-    ensures tells { IfOk result (λ _. (e : Environment) (total : Identity → ℤ) (big : Sight) → Tells (changes_of (ticket_step e total i.split_ticket (values big stack.old))) ledger.old ledger.new) }
+    ensures tells { IfOk result (λ _. (e : Environment) (total : Identity → ℤ) → TellsStep (ticket_step e total i.split_ticket) stack.old ledger.old ledger.new) }
     ensures keeps { KeepsBooks ledger.old.books ledger.new.books }
 {
     let Some(top) = pop(stack) else {
@@ -225,7 +222,7 @@ fn join_tickets(
     requires suits { SuitsTickets i.join_tickets (plain stack.old) }
     requires ready { IsReady ledger.old.books.present (ticket_stake i.join_tickets (plain stack.old)) }
     ensures ends { (e : Environment) (total : Identity → ℤ) → Steps (ticket_step e total i.join_tickets) stack.old stack.new result }
-    ensures tells { IfOk result (λ _. (e : Environment) (total : Identity → ℤ) (big : Sight) → Tells (changes_of (ticket_step e total i.join_tickets (values big stack.old))) ledger.old ledger.new) }
+    ensures tells { IfOk result (λ _. (e : Environment) (total : Identity → ℤ) → TellsStep (ticket_step e total i.join_tickets) stack.old ledger.old ledger.new) }
     ensures keeps { KeepsBooks ledger.old.books ledger.new.books }
 {
     let (first, second) = take_tickets(stack)?;
@@ -245,11 +242,11 @@ pub(crate) fn ticket_step(
     stack: &mut Rows<Value>,
     ledger: &mut Ledger,
 ) -> Result<(), StepError>
-    requires fits { Fits (ticket_step (environment env.now) (minted_of ledger.old.books.present) (ticket_row row.now)) stack.old }
+    requires fits { Fits (ticket_rule env.now ledger.old.books.present (ticket_row row.now)) stack.old }
     requires suits { SuitsTickets (ticket_row row.now) (plain stack.old) }
     requires ready { IsReady ledger.old.books.present (ticket_stake (ticket_row row.now) (plain stack.old)) }
-    ensures ends { Steps (ticket_step (environment env.entry.now) (minted_of ledger.old.books.present) (ticket_row row.now)) stack.old stack.new result }
-    ensures tells { IfOk result (λ _. (big : Sight) → Tells (changes_of (ticket_step (environment env.entry.now) (minted_of ledger.old.books.present) (ticket_row row.now) (values big stack.old))) ledger.old ledger.new) }
+    ensures ends { Steps (ticket_rule env.entry.now ledger.old.books.present (ticket_row row.now)) stack.old stack.new result }
+    ensures tells { IfOk result (λ _. TellsStep (ticket_rule env.entry.now ledger.old.books.present (ticket_row row.now)) stack.old ledger.old ledger.new) }
     ensures keeps { KeepsBooks ledger.old.books ledger.new.books }
 {
     match row {

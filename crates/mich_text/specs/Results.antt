@@ -1,5 +1,5 @@
 -- What the reader's functions return.
-use Rattle.std.specs.Prelude.{◌≡◌, ℕ, ◌+◌, ◌≤◌, ◌<◌, List, [], length, drop, Bool, true, false, nat_eq, Option, Some, None, Result, Ok, Err, if◌then◌else◌}
+use Rattle.std.specs.Prelude.{◌≡◌, ℕ, ◌+◌, ◌-◌, ◌≤◌, ◌<◌, List, [], length, drop, Bool, true, false, nat_eq, Option, Some, None, Result, Ok, Err, if◌then◌else◌}
 use Rattle.rules_text.specs.nodes.Limits.{depth_limit}
 use Rattle.rules_text.specs.nodes.Tree.{size}
 use Rattle.rules_text.specs.text.Token.{Token}
@@ -82,6 +82,14 @@ IsLimitedRead before text (Err (errors.Flaw f)) = within.IsFault before text f.k
 -- what a text is, told by its front up to the first byte past a limit, whatever else the text is
 abbrev pub FrontTells : List ℕ → ℕ → Bool → Result (Option Found) LexError → Type 0
 FrontTells front behind ends_file r = (before : ℕ) (text : List ℕ) → IsUpTo before text front behind ends_file → IsLimitedRead before text r
+
+-- whichever limit that is, a fault
+abbrev pub FrontTellsFault : List ℕ → ℕ → LexError → Type 0
+FrontTellsFault front behind e = (ends_file : Bool) → FrontTells front behind ends_file (Err e)
+
+-- so many last bytes of a text
+abbrev pub last_bytes : ℕ → List ℕ → List ℕ
+last_bytes left text = drop (length text - left) text
 
 -- What the text of a file is from a place on, where a statement begins.
 abbrev pub IsText : List ℕ → ℕ → Result (Option Placed) TextError → Type 0

@@ -1,11 +1,11 @@
 //! Reading one statement, within the limits of a statement and of a file.
-ghost use Rattle.std.specs.Prelude.{◌≡◌, ℕ, ◌+◌, ◌-◌, ◌^◌, ◌<◌, ◌≤◌, Bool, List, length, take, drop, true, false, MatchBool, Ok, Some, Err};
+ghost use Rattle.std.specs.Prelude.{◌≡◌, ℕ, ◌+◌, ◌-◌, ◌^◌, ◌<◌, ◌≤◌, List, length, take, true, false, MatchBool, Ok, Some, Err};
 ghost use Rattle.rules_text.specs.text.Text.{IsLimit, IsStatementLimit, IsFileLimit};
 ghost use Rattle.rules_text.specs.declared.text.TextKind.{TextKind};
 ghost use Rattle.mich_text.specs.Plain.{IsFaultWithoutLimits};
 ghost use Rattle.mich_text.specs.Shown.{IsOpenBytes};
 ghost use Rattle.mich_text.specs.Limited.{IsOnly};
-ghost use Rattle.mich_text.specs.Results.{IsRead, IsWithinText, IsLimitedRead, FrontTells, IsText, IsWithinBytes};
+ghost use Rattle.mich_text.specs.Results.{IsRead, IsWithinText, IsLimitedRead, FrontTells, FrontTellsFault, IsText, IsWithinBytes, last_bytes};
 ghost use Rattle.mich_text.specs.Parts.{IsAloneRead, IsPart};
 
 use super::fault::{Flaw, LexError, TextError};
@@ -73,7 +73,7 @@ fn open_bytes(alloc: Global, front: &[u8], left: usize, behind: usize) -> LexErr
     requires long { 1 < left }
     requires within { left ≤ length front.now }
     requires fits { length front.now + behind < 2 ^ 64 }
-    ensures { IsFaultWithoutLimits front.now TextKind.BadBytes left → IsOpenBytes (drop (length front.now - left) front.now) TextKind.BadBytes → (ends_file : Bool) → FrontTells front.now behind ends_file (Err result) }
+    ensures { IsFaultWithoutLimits front.now TextKind.BadBytes left → IsOpenBytes (last_bytes left front.now) TextKind.BadBytes → FrontTellsFault front.now behind result }
 {
     match statement_within(alloc, &front[..front.len() - 1]) {
         Ok(_) => too_long(behind),
@@ -96,7 +96,7 @@ fn fault_of(alloc: Global, front: &[u8], flaw: Flaw, behind: usize) -> LexError
     requires within { flaw.left ≤ length front.now }
     requires fits { length front.now + behind < 2 ^ 64 }
     requires room { behind + 1 < 2 ^ 64 }
-    ensures { IsFaultWithoutLimits front.now flaw.kind flaw.left → (ends_file : Bool) → FrontTells front.now behind ends_file (Err result) }
+    ensures { IsFaultWithoutLimits front.now flaw.kind flaw.left → FrontTellsFault front.now behind result }
 {
     if flaw.left <= 1 {
         return too_long(behind);

@@ -49,10 +49,18 @@ abbrev pub may_receive : Holders → Place → Bool
 may_receive h (place.Implicit who) = true
 may_receive h (place.Contract hash) = is_some (contract_at h hash)
 
+-- the balance of a contract, or 0 where there is none
+abbrev pub balance_in : Option Contract → ℕ
+balance_in o = unwrap_or (option_map (λ c. c.balance) o) 0
+
 -- ---- all mutez
 
+-- the balances of contracts, added up
+abbrev pub all_balances : List (List ℕ × Contract) → ℕ
+all_balances cs = sum_by (λ c. c.balance) (values_of cs)
+
 abbrev pub total : Holders → ℕ
-total h = sum_by (λ n. n) (values_of h.accounts) + sum_by (λ c. c.balance) (values_of h.contracts) + h.fees
+total h = sum_by (λ n. n) (values_of h.accounts) + all_balances h.contracts + h.fees
 
 -- no more is there than was granted, and that is no more than an amount may be
 pub record IsSound (h : Holders) : Type 0 where

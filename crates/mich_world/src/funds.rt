@@ -1,7 +1,7 @@
 // Accounts and contracts, fees and grants, with a journal by which writes are taken back.
 ghost use Rattle.std.specs.Prelude.{◌≡◌, ◌+◌, ◌-◌, ◌≤◌, true, is_some, option_map, unwrap_or, IfOk, OnErr};
 ghost use Rattle.mich_base.specs.undo.History.{height_of, grown, stepped_back, rewound, kept};
-ghost use Rattle.mich_world.specs.Holders.{IsSound, account_at, contract_at, balance_at, balance_or_none, total, with_account, with_contract, rebalanced, restored, with_change, with_fees, with_granted};
+ghost use Rattle.mich_world.specs.Holders.{IsSound, account_at, contract_at, balance_at, balance_in, balance_or_none, total, with_account, with_contract, rebalanced, restored, with_change, with_fees, with_granted};
 ghost use Rattle.mich_world.specs.Journal.{no_history};
 
 use crate::contract::Contract;
@@ -186,9 +186,9 @@ impl Funds {
     // Writes the balance of a contract that is there.
     pub(crate) fn write_balance(&mut self, hash: &[u8; 20], mutez: u64) -> Result<(), Memory>
         requires there { is_some (contract_at self.old.present hash.now) ≡ true }
-        requires within { total self.old.present + mutez ≤ self.old.present.granted + unwrap_or (option_map (λ c. c.balance) (contract_at self.old.present hash.now)) 0 }
+        requires within { total self.old.present + mutez ≤ self.old.present.granted + balance_in (contract_at self.old.present hash.now) }
         ensures new { IfOk result (λ _. self.new ≡ grown self.old (with_change (rebalanced mutez) self.old.present hash.now)) }
-        ensures total { IfOk result (λ _. total self.new.present + unwrap_or (option_map (λ c. c.balance) (contract_at self.old.present hash.now)) 0 ≡ total self.old.present + mutez) }
+        ensures total { IfOk result (λ _. total self.new.present + balance_in (contract_at self.old.present hash.now) ≡ total self.old.present + mutez) }
         ensures unchanged { OnErr result (self.new ≡ self.old) }
     {
         self.journal.reserve(1)?;
@@ -232,9 +232,9 @@ impl Funds {
         hash: [u8; 20],
         contract: Contract,
     ) -> Result<(), Memory>
-        requires { total self.old.present + contract.balance ≤ self.old.present.granted + unwrap_or (option_map (λ c. c.balance) (contract_at self.old.present hash)) 0 }
+        requires { total self.old.present + contract.balance ≤ self.old.present.granted + balance_in (contract_at self.old.present hash) }
         ensures new { IfOk result (λ _. self.new ≡ grown self.old (with_contract self.old.present hash contract)) }
-        ensures total { IfOk result (λ _. total self.new.present + unwrap_or (option_map (λ c. c.balance) (contract_at self.old.present hash)) 0 ≡ total self.old.present + contract.balance) }
+        ensures total { IfOk result (λ _. total self.new.present + balance_in (contract_at self.old.present hash) ≡ total self.old.present + contract.balance) }
         ensures unchanged { OnErr result (self.new ≡ self.old) }
     {
         self.journal.reserve(1)?;
@@ -296,7 +296,7 @@ impl Funds {
 
 // The balance of a contract, or 0 where there is none.
 fn balance_of(contract: &Option<Contract>) -> u64
-    ensures { result ≡ unwrap_or (option_map (λ c. c.balance) contract.now) 0 }
+    ensures { result ≡ balance_in contract.now }
 {
     match contract {
         Some(contract) => contract.balance,

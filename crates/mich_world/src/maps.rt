@@ -4,7 +4,7 @@ ghost use Rattle.std.specs.BTreeMap.{is_at, insert_entry};
 ghost use Rattle.std.specs.List.{sum_by};
 ghost use Rattle.std.specs.Map.{lookup, values_of};
 ghost use Rattle.mich_base.specs.undo.Undone.{undone, changed_at};
-ghost use Rattle.mich_world.specs.Holders.{by_bytes, rebalanced, restored};
+ghost use Rattle.mich_world.specs.Holders.{all_balances, balance_in, by_bytes, rebalanced, restored};
 ghost use Rattle.mich_world.specs.Before.{accounts_before};
 
 use crate::contract::Contract;
@@ -30,7 +30,7 @@ pub(crate) fn account(accounts: &Accounts, who: &KeyHash) -> Option<u64>
 // The balance of a contract. None where it isn't there.
 pub(crate) fn contract_balance(contracts: &Contracts, hash: &[u8; 20]) -> Option<u64>
     ensures value { result ≡ option_map (λ c. c.balance) (lookup (is_at (by_bytes hash.now)) contracts.now.entries) }
-    ensures within { unwrap_or result 0 ≤ sum_by (λ c. c.balance) (values_of contracts.now.entries) }
+    ensures within { unwrap_or result 0 ≤ all_balances contracts.now.entries }
 {
     match contracts.get(hash) {
         Some(contract) => Some(contract.balance),
@@ -75,8 +75,8 @@ pub(crate) fn put_contract(
     ensures new { IfOk result (λ _. contracts.new.entries ≡ insert_entry by_bytes contracts.old.entries hash contract) }
     ensures old { IfOk result (λ old. old ≡ lookup (is_at (by_bytes hash)) contracts.old.entries) }
     ensures back { IfOk result (λ old. undone by_bytes contracts.new.entries hash old ≡ contracts.old.entries) }
-    ensures sum { IfOk result (λ old. sum_by (λ c. c.balance) (values_of contracts.new.entries) + unwrap_or (option_map (λ c. c.balance) old) 0 ≡ sum_by (λ c. c.balance) (values_of contracts.old.entries) + contract.balance) }
-    ensures within { IfOk result (λ old. unwrap_or (option_map (λ c. c.balance) old) 0 ≤ sum_by (λ c. c.balance) (values_of contracts.old.entries)) }
+    ensures sum { IfOk result (λ old. all_balances contracts.new.entries + balance_in old ≡ all_balances contracts.old.entries + contract.balance) }
+    ensures within { IfOk result (λ old. balance_in old ≤ all_balances contracts.old.entries) }
     ensures unchanged { OnErr result (contracts.new.entries ≡ contracts.old.entries) }
 {
     let old = put(contracts, hash, contract)?;
@@ -88,8 +88,8 @@ pub(crate) fn swap_balance(contracts: &mut Contracts, hash: &[u8; 20], mutez: u6
     ensures new { contracts.new.entries ≡ changed_at (is_at (by_bytes hash.now)) contracts.old.entries (rebalanced mutez) }
     ensures back { IfSome result (λ old. changed_at (is_at (by_bytes hash.now)) contracts.new.entries (rebalanced old) ≡ contracts.old.entries) }
     ensures old { result ≡ option_map (λ c. c.balance) (lookup (is_at (by_bytes hash.now)) contracts.old.entries) }
-    ensures sum { IfSome result (λ old. sum_by (λ c. c.balance) (values_of contracts.new.entries) + old ≡ sum_by (λ c. c.balance) (values_of contracts.old.entries) + mutez) }
-    ensures within { IfSome result (λ old. old ≤ sum_by (λ c. c.balance) (values_of contracts.old.entries)) }
+    ensures sum { IfSome result (λ old. all_balances contracts.new.entries + old ≡ all_balances contracts.old.entries + mutez) }
+    ensures within { IfSome result (λ old. old ≤ all_balances contracts.old.entries) }
 {
     match contracts.get_mut(hash) {
         Some(contract) => {
@@ -110,7 +110,7 @@ pub(crate) fn swap_storage(
     ensures new { contracts.new.entries ≡ changed_at (is_at (by_bytes hash.now)) contracts.old.entries (restored storage) }
     ensures back { IfSome result (λ old. changed_at (is_at (by_bytes hash.now)) contracts.new.entries (restored old) ≡ contracts.old.entries) }
     ensures there { is_some result ≡ is_some (lookup (is_at (by_bytes hash.now)) contracts.old.entries) }
-    ensures sum { sum_by (λ c. c.balance) (values_of contracts.new.entries) ≡ sum_by (λ c. c.balance) (values_of contracts.old.entries) }
+    ensures sum { all_balances contracts.new.entries ≡ all_balances contracts.old.entries }
 {
     match contracts.get_mut(hash) {
         Some(contract) => {

@@ -2,8 +2,7 @@
 ghost use Rattle.std.specs.Prelude.{◌≡◌, true, false, [], List, option_map, is_some, OnOk, IfOk, IfSome};
 ghost use Rattle.rules_data.specs.values.Val.{no_pair};
 ghost use Rattle.rules_data.specs.values.Tickets.{tickets};
-ghost use Rattle.rules_data.specs.values.Tables.{value_at, with_value, without_key};
-ghost use Rattle.rules_code.specs.steps.Collections.{map_with};
+ghost use Rattle.rules_data.specs.values.Tables.{value_at, without_key};
 ghost use Rattle.mich_bigmap.specs.Bases.{Bases};
 ghost use Rattle.mich_step.specs.Shown.{ShowsTickets};
 ghost use Rattle.mich_term.specs.View.{datum};
@@ -11,7 +10,7 @@ ghost use Rattle.mich_term.specs.ValueView.{val};
 ghost use Rattle.mich_term.specs.declared.value.Value.{Value};
 ghost use Rattle.mich_term.specs.declared.value.BigMap.{out-BigMap};
 ghost use Rattle.mich_store_steps.specs.seen.Sights.{is_plain, sight};
-ghost use Rattle.mich_store_steps.specs.big_maps.Given.{entries_seen, seen_in};
+ghost use Rattle.mich_store_steps.specs.big_maps.Given.{entries_changed, entries_seen, entries_with, seen_in};
 ghost use Rattle.mich_store_steps.specs.big_maps.Operands.{AreEntries, holds};
 
 use crate::big_maps::holding::holds;
@@ -82,7 +81,7 @@ fn put(
     requires plain { is_plain (seen_in store.now.bases.present value) ≡ true }
     requires shows { (vs : List Value) → ShowsTickets (sight store.now.bases.present) vs }
     ensures old { IfOk result (λ old. option_map (seen_in store.now.bases.present) old ≡ value_at (datum key) (entries_seen store.now.bases.present big.old)) }
-    ensures new { OnOk result (entries_seen store.now.bases.present big.new ≡ with_value (datum key) (seen_in store.now.bases.present value) (entries_seen store.now.bases.present big.old)) }
+    ensures new { OnOk result (entries_seen store.now.bases.present big.new ≡ entries_with store.now.bases.present key value big.old) }
 {
     unbar(alloc, store, big, &value)?;
     let old = write(alloc, store, big, key, value)?;
@@ -117,7 +116,7 @@ pub(crate) fn exchanged(
     requires shows { (vs : List Value) → ShowsTickets (sight store.now.bases.present) vs }
     requires plain { IfSome new (λ v. is_plain (seen_in store.now.bases.present v) ≡ true) }
     ensures old { IfOk result (λ old. option_map (seen_in store.now.bases.present) old ≡ value_at (datum key) (entries_seen store.now.bases.present big.old)) }
-    ensures new { OnOk result (entries_seen store.now.bases.present big.new ≡ map_with (datum key) (option_map (seen_in store.now.bases.present) new) (entries_seen store.now.bases.present big.old)) }
+    ensures new { OnOk result (entries_seen store.now.bases.present big.new ≡ entries_changed store.now.bases.present key new big.old) }
 {
     match new {
         Some(value) => put(alloc, store, big, key, value),

@@ -1,5 +1,5 @@
 // Rows on big maps.
-ghost use Rattle.std.specs.Prelude.{◌≡◌, List, true, option_map, IfOk};
+ghost use Rattle.std.specs.Prelude.{◌≡◌, List, true, IfOk};
 ghost use Rattle.rules_code.specs.instructions.Straight as i;
 ghost use Rattle.mich_base.specs.TypeView.{kind};
 ghost use Rattle.mich_bigmap.specs.Bases.{Bases};
@@ -10,7 +10,7 @@ ghost use Rattle.mich_stack.specs.Keys.{IsKeyOnTop};
 ghost use Rattle.mich_step.specs.Shown.{ShowsTickets};
 ghost use Rattle.mich_term.specs.declared.value.Value.{Value};
 ghost use Rattle.mich_store_steps.specs.seen.Sights.{sight};
-ghost use Rattle.mich_store_steps.specs.big_maps.Given.{HandsOut, IsExchange, seen_in, values_in};
+ghost use Rattle.mich_store_steps.specs.big_maps.Given.{Exchanges, HandsOut, values_in};
 ghost use Rattle.mich_store_steps.specs.big_maps.Operands.{IsBigMapSecond, IsBigMapThird, HasBigMap, HasKey};
 
 use crate::big_maps::entries::{exchanged, found, is_there, no_entries};
@@ -70,7 +70,7 @@ fn exchange(alloc: Global, stack: &mut Rows<Value>, store: &Store) -> Result<Opt
     requires key { IsKeyOnTop (plain stack.old) }
     requires big_map { IsBigMapThird (values_in store.now.bases.present stack.old) }
     requires shows { (vs : List Value) → ShowsTickets (sight store.now.bases.present) vs }
-    ensures { IfOk result (λ old. IsExchange (values_in store.now.bases.present stack.old) (option_map (seen_in store.now.bases.present) old) (values_in store.now.bases.present stack.new)) }
+    ensures { IfOk result (λ old. Exchanges store.now.bases.present stack.old old stack.new) }
 {
     let key = take_key(alloc, stack)?;
     let new = take_option(stack)?;

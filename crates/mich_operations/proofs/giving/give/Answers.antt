@@ -18,7 +18,7 @@ pub spelled_id-requires : goal.spelled_id-requires
 spelled_id-requires c =
     let n = c.requires.next in
     let s = setting_of (listed c.args.costs.now) c.args.counts.now.group c.args.source.now in
-    small c.args.world.now n.0 s (place_bytes c.args.issuer.now) (tree c.args.ty.now) (tree c.args.literal.now) c.args.amount c.args.to.now c.args.entry.now (counts_of c.args.counts.now) n.1
+    small c.args.world.now n.0 s (place_bytes c.args.issuer.now) (tree c.args.ty.now) (tree c.args.node.now) c.args.amount c.args.to.now c.args.name.now (counts_of c.args.counts.now) n.1
 
 pub give_account-requires : goal.give_account-requires
 give_account-requires c =
@@ -27,7 +27,7 @@ give_account-requires c =
     let who = c.in-Implicit.who in (
       n.0,
       rw (to_z-of_z w128 c.args.amount c.ranges.amount)
-          (given_to c.args.world.now n.0 s (place_bytes c.args.issuer.now) (tree c.args.ty.now) (tree c.args.literal.now) c.args.amount c.args.to.now c.args.entry.now (counts_of c.args.counts.now) n.1
+          (given_to c.args.world.now n.0 s (place_bytes c.args.issuer.now) (tree c.args.ty.now) (tree c.args.node.now) c.args.amount c.args.to.now c.args.name.now (counts_of c.args.counts.now) n.1
           c.in-Some.id (c.in_ok-id.ensures c.args.amount ∙ ap (λ (o : Option TicketId). option_map (λ id. tickets_of id c.args.amount) o) c.in-Some.is) (place.Implicit who) c.in-Implicit.is),
     )
 
@@ -37,7 +37,7 @@ give_contract-requires-clause-due c =
     let s = setting_of (listed c.args.costs.now) c.args.counts.now.group c.args.source.now in (
       n.0,
       rw (to_z-of_z w128 c.args.amount c.ranges.amount)
-          (handed_over c.args.world.now n.0 s (place_bytes c.args.issuer.now) (tree c.args.ty.now) (tree c.args.literal.now) c.args.amount c.args.to.now c.args.entry.now (counts_of c.args.counts.now) n.1
+          (handed_over c.args.world.now n.0 s (place_bytes c.args.issuer.now) (tree c.args.ty.now) (tree c.args.node.now) c.args.amount c.args.to.now c.args.name.now (counts_of c.args.counts.now) n.1
           c.in-Some.id (c.in_ok-id.ensures c.args.amount ∙ ap (λ (o : Option TicketId). option_map (λ id. tickets_of id c.args.amount) o) c.in-Some.is) c.in-Contract.hash c.in-Contract.is),
     )
 
@@ -49,10 +49,10 @@ returns-in-Implicit-clause-ends c = λ w b.
     let s = setting_of (listed c.args.costs.now) c.args.counts.now.group c.args.source.now in
     let v = c.args.world.now in
     let is = c.in_ok-id.ensures c.args.amount ∙ ap (λ (o : Option TicketId). option_map (λ id. tickets_of id c.args.amount) o) c.in-Some.is in
-    ends_account v w s (place_bytes c.args.issuer.now) (tree c.args.ty.now) (tree c.args.literal.now) c.args.amount c.args.to.now c.args.entry.now (counts_of c.args.counts.now) b
+    ends_account v w s (place_bytes c.args.issuer.now) (tree c.args.ty.now) (tree c.args.node.now) c.args.amount c.args.to.now c.args.name.now (counts_of c.args.counts.now) b
     c.in-Some.id is c.in-Implicit.who c.in-Implicit.is c.args.meter.now c.args.counts.now c.give_account.new.world c.give_account.result
     ((rw (to_z-of_z w128 c.args.amount c.ranges.amount) at (c.give_account.ensures.ends w (listed c.args.costs.now) c.args.counts.now.group c.args.meter.now c.args.counts.now))
-    (given_to v w s (place_bytes c.args.issuer.now) (tree c.args.ty.now) (tree c.args.literal.now) c.args.amount c.args.to.now c.args.entry.now (counts_of c.args.counts.now) b
+    (given_to v w s (place_bytes c.args.issuer.now) (tree c.args.ty.now) (tree c.args.node.now) c.args.amount c.args.to.now c.args.name.now (counts_of c.args.counts.now) b
     c.in-Some.id is (place.Implicit c.in-Implicit.who) c.in-Implicit.is))
 
 pub returns-clause-ends : goal.returns-clause-ends
@@ -60,8 +60,8 @@ returns-clause-ends c = λ w b.
     let s = setting_of (listed c.args.costs.now) c.args.counts.now.group c.args.source.now in
     let v = c.args.world.now in
     let is = c.in_ok-id.ensures c.args.amount ∙ ap (λ (o : Option TicketId). option_map (λ id. tickets_of id c.args.amount) o) c.in-Some.is in
-    ends_contract v w s (place_bytes c.args.issuer.now) (tree c.args.ty.now) (tree c.args.literal.now) c.args.amount c.args.to.now c.args.entry.now (counts_of c.args.counts.now) b
+    ends_contract v w s (place_bytes c.args.issuer.now) (tree c.args.ty.now) (tree c.args.node.now) c.args.amount c.args.to.now c.args.name.now (counts_of c.args.counts.now) b
     c.in-Some.id is c.in-Contract.hash c.in-Contract.is c.args.meter.now c.give_contract.new.meter c.args.counts.now c.give_contract.new.counts c.give_contract.new.world c.give_contract.result
     ((rw (to_z-of_z w128 c.args.amount c.ranges.amount) at (c.give_contract.ensures.ends w))
-    (handed_over v w s (place_bytes c.args.issuer.now) (tree c.args.ty.now) (tree c.args.literal.now) c.args.amount c.args.to.now c.args.entry.now (counts_of c.args.counts.now) b
+    (handed_over v w s (place_bytes c.args.issuer.now) (tree c.args.ty.now) (tree c.args.node.now) c.args.amount c.args.to.now c.args.name.now (counts_of c.args.counts.now) b
     c.in-Some.id is c.in-Contract.hash c.in-Contract.is))
