@@ -115,7 +115,8 @@ fn list_node(alloc: Global, values: &Chain<Value>) -> Result<Node, Memory>
         nodes.push(value_node(alloc, value)?)?;
     }
     let rows = Rows::from_vec(nodes.into_vec());
-    Ok(sequence(Nodes::from_rows(rows)?))
+    let written = Nodes::from_rows(rows)?;
+    Ok(sequence(written))
 }
 
 #[tactic(auto, using(crate::proofs::Written::elements_written))]

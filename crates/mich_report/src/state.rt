@@ -181,5 +181,6 @@ pub fn state_text(alloc: Global, world: &World) -> Result<Text, Memory>
     for line in lines.as_slice() {
         text.extend_from_slice(line.as_slice())?;
     }
-    Ok(Text::from_vec(text)?)
+    let written = Text::from_vec(text)?;
+    Ok(written)
 }
