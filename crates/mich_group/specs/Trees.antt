@@ -96,7 +96,7 @@ Steps costs source v waiting gas counts z left now ss before after r =
     (start w : PlainWorld) (contents : ℕ) →
     Goes start (setting_in costs counts source) contents v w (all_sent v.store.bases.present waiting) (counts_of counts) →
     StepsTo (setting_in costs counts source) w (all_sent v.store.bases.present waiting) gas (counts_of counts)
-      z left (counts_of now) ss before after r
+    z left (counts_of now) ss before after r
 
 -- no operation waits, before or after, and nothing is changed
 abbrev pub NoneWaits : List Sent → World → ℕ → Counts → List Done → List Sent → World → ℕ → Counts → List Done → Type 0
@@ -142,9 +142,9 @@ WalksOn costs source all v waiting gas counts before z left now after r =
     (start w : PlainWorld) (contents : ℕ) →
     Goes start (setting_in costs counts source) contents v w (all_sent v.store.bases.present waiting) (counts_of counts) →
     WalksAs
-      (behind_all (map effect before) 1
-        (rules.tree_within (all - 1) (setting_in costs counts source) w (all_sent v.store.bases.present waiting) gas (counts_of counts)))
-      z left counts now after r
+    (behind_all (map effect before) 1
+    (rules.tree_within (all - 1) (setting_in costs counts source) w (all_sent v.store.bases.present waiting) gas (counts_of counts)))
+    z left counts now after r
 
 -- what holds where memory sufficed
 abbrev pub WithMemory : {U : Type 0} → Result U TreeError → Type 0 → Type 0

@@ -1,2 +1,3 @@
 pub use Rattle.rules_text.specs.streams.Causes
 pub use Rattle.rules_text.specs.streams.Known
+pub mod Opened

@@ -70,9 +70,11 @@ fn group_node(alloc: Global, number: u64, found: &GroupReceipt) -> Result<Node, 
 }
 
 /// The line of the group of a number: why it was refused, or the status of each content, with the gas that it used and its
-/// effects (Octez "Operations", receipts). Memory where there is no room for it.
+/// effects (Octez "Operations", receipts). It is the rules' line of each receipt of theirs of which this one tells all.
+/// Memory where there is no room for it.
 pub fn receipt_text(alloc: Global, number: u64, r: &GroupReceipt) -> Result<Text, Memory>
-    ensures { IfOk result (λ written. (found : Receipt) → told_receipt found ≡ receipt r.now → written ≡ line (group_node number found)) }
+    ensures exact { IfOk result (λ written. written ≡ line (told_group_node number (receipt r.now))) }
+    ensures found { IfOk result (λ written. (found : Receipt) → told_receipt found ≡ receipt r.now → written ≡ line (group_node number found)) }
 {
     let node = group_node(alloc, number, r)?;
     let written = node_line(alloc, &node)?;

@@ -1,12 +1,9 @@
-//! Tests of types, of the rows of typing and of checked scripts, by public calls.
+//! Tests of types, of the rows of typing, and of bodies and literals, by public calls.
 #![tactic(auto)]
 
 pub mod cache;
-pub mod control;
-pub mod instr;
 pub mod overload;
 pub mod scripts;
-pub mod sections;
 #[cfg(test)]
 mod short_types;
 pub mod stackrules;

@@ -1,5 +1,3 @@
-//! Tests of whole scripts, of `mich_check`.
+//! Tests of bodies and literals, of `mich_check`.
 #[cfg(test)]
 mod tests;
-#[cfg(test)]
-mod worked;

@@ -1,3 +1,0 @@
-//! Tests of `mich_control`, by its public calls.
-#[cfg(test)]
-mod tests;

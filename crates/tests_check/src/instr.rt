@@ -1,3 +1,0 @@
-//! Tests of `mich_instr`, by its public calls.
-#[cfg(test)]
-mod tests;

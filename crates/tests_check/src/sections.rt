@@ -1,3 +1,0 @@
-//! Tests of the sections of scripts, of `mich_check`.
-#[cfg(test)]
-mod tests;
