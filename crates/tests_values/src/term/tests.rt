@@ -2,7 +2,7 @@
 ghost use Rattle.std.specs.Prelude.{◌≡◌, [], map};
 ghost use Rattle.mich_term.specs.TicketView.{held};
 
-use mich_base::{Bytes, Link, Memory, Node, Rows, Shared, Text, Ty};
+use mich_base::{Bytes, Link, Memory, Node, Nodes, Rows, Shared, Text, Ty};
 use mich_forms::Place;
 use mich_term::{
     BigMap, Burner, Chain, Datum, Elements, Table, Ticket, TicketId, Value, abandon, compare,
@@ -269,7 +269,7 @@ fn list(alloc: Global) -> Result<Value, Memory> {
 }
 
 fn lambda(alloc: Global) -> Result<Value, Memory> {
-    let body = Node::Seq(Rows::new(alloc));
+    let body = Node::Seq(Nodes::new(alloc));
     Ok(Value::Lambda(Shared::new(alloc, body)?, true))
 }
 

@@ -5,7 +5,7 @@ ghost use Rattle.mich_tickets.specs.Sums.{held_of};
 ghost use Rattle.mich_world.specs.Marks.{KeepsWorld};
 
 use crate::support::{Recorder, empty};
-use mich_base::{Link, Memory, Node, Rows, Shared, Ty};
+use mich_base::{Link, Memory, Node, Nodes, Rows, Shared, Ty};
 use mich_bigmap::{release, settle};
 use mich_forms::{ChainId, KeyHash, Place};
 use mich_instr::Script;
@@ -46,7 +46,7 @@ fn script(alloc: Global) -> Result<Shared<Script>, Memory> {
     Shared::new(
         alloc,
         Script {
-            node: Node::Seq(Rows::new(alloc)),
+            node: Node::Seq(Nodes::new(alloc)),
             parameter: Parameter {
                 ty: Ty::Unit,
                 entries: Rows::new(alloc),
