@@ -3,7 +3,7 @@ use Rattle.std.specs.Prelude.{◌≡◌, ◌+◌, ◌<◌, ◌≤◌, ◌^◌, �
 use Rattle.rules_text.specs.nodes.Tree.{Tree, size}
 use Rattle.rules_files.specs.course.Course.{Course, Step, goes_on, stops, stuck_step, first_step, step_behind}
 use Rattle.rules_files.specs.course.Ranges.{IsStatement}
-use Rattle.rules_files.specs.statements.Statements.{Statement, Chain, Costs, Account, Block, Group, form}
+use Rattle.rules_files.specs.statements.Statements.{Statement, Chain, Profile, Costs, Account, Block, Group, form}
 use Rattle.rules_world.specs.world.Good.{IsNewGroup}
 use Rattle.laws_code.specs.evaluation.Laws.{IsCharged}
 use Rattle.laws_world.specs.runs.Worlds.{IsWhole}
@@ -23,6 +23,7 @@ pub record IsGoodCourse (c : Course) : Type 0 where
 abbrev pub granted_by : Statement → ℕ
 granted_by (Account who mutez) = mutez
 granted_by (Chain id level moment) = 0
+granted_by (Profile rate) = 0
 granted_by (Costs table) = 0
 granted_by (Block level moment) = 0
 granted_by (Group source contents) = 0
