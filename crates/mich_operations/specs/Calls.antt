@@ -1,5 +1,6 @@
 -- Mutez that go to a contract, which is called with them (Octez "Operations", transactions).
 use Rattle.std.specs.Prelude.{◌≡◌, ◌≤◌, ℕ, nat_le, true, is_some, List, Result, Ok, Err}
+use Rattle.rules_code.specs.steps.Changes.{Change}
 use Rattle.rules_text.specs.nodes.Tree.{Tree}
 use Rattle.rules_data.specs.forms.Spelling.{contract_place, is_place}
 use Rattle.rules_code.specs.instructions.Arguments.{fault}
@@ -9,8 +10,9 @@ use Rattle.rules_world.specs.world.Arguments.{literal_in}
 use Rattle.rules_world.specs.world.Balances.{balance_or_none, moved}
 use Rattle.rules_world.specs.world.Forms.{IsWorld}
 use Rattle.rules_world.specs.world.Outcomes.{Setting, Counts, Outcome}
+use Rattle.rules_world.specs.world.Receipts.{Effect}
 use Rattle.rules_world.specs.world.RunLaws.{IsCall}
-use Rattle.rules_world.specs.world.Runs.{Call, environment_of}
+use Rattle.rules_world.specs.world.Runs.{Call, environment_of, run_in, with_effect}
 use Rattle.rules_world.specs.world.Targets.{Target, met, missing, search}
 use Rattle.rules_world.specs.world.Transfers.{Transaction, if_covered}
 use Rattle.rules_world.specs.world.World.{World as PlainWorld}
@@ -38,6 +40,10 @@ ReadAs w hash name t (Err Memory) = Unit {0}
 -- a place calls an entrypoint, which has the mutez already
 abbrev pub call_of : Place → ℕ → Target → Val → Call
 call_of from amount t x = record { target = t; sender = place_bytes from; amount = amount; argument = x }
+
+-- an operation whose effect is a run, before the growth of its contract is charged
+abbrev pub before_growth : Setting → PlainWorld → Call → ℕ → Counts → (List Change → Effect) → Outcome
+before_growth s w c gas counts effect = with_effect c.target.hash effect (run_in (environment_of s w c) s w c.target c.argument gas counts)
 
 -- a transfer whose argument has this value: where the sender has the mutez they move, and the contract runs
 abbrev pub covered : Setting → PlainWorld → Transaction → Target → Val → ℕ → Counts → Outcome

@@ -1,7 +1,9 @@
 -- One operation of a group, and how its application ends (Octez "Operations", internal operations).
-use Rattle.std.specs.Prelude.{◌≡◌, ◌≤◌, ℕ, true, is_some, List, [], ◌∷◌, map, Result, Ok, Err}
+use Rattle.std.specs.Prelude.{◌≡◌, ◌≤◌, ℕ, true, is_some, Option, Some, None, List, [], ◌∷◌, map, Result, Ok, Err}
 use Rattle.std.specs.List.{AllByRecursion}
 use Rattle.rules_data.specs.forms.Spelling.{contract_place}
+use Rattle.rules_world.specs.world.Forms.{IsWorld}
+use Rattle.rules_world.specs.world.Receipts.{Effect}
 use Rattle.rules_world.specs.world.World.{World as PlainWorld}
 use Rattle.rules_world.specs.world.Outcomes.{Setting, Waiting, issued, Counts as PlainCounts, Outcome, applied, failed}
 use Rattle.laws_world.specs.runs.Going.{IsSetting, IsGoing}
@@ -12,6 +14,7 @@ use Rattle.mich_machine.specs.Calls.{counts_of, issued_in, IsHanded}
 use Rattle.mich_interpreter.specs.declared.state.Counts.{Counts}
 use Rattle.mich_ops.specs.Told.{told}
 use Rattle.mich_ops.specs.View.{effect, failure}
+use Rattle.mich_ops.specs.declared.receipt.Effect.{Effect as Done}
 use Rattle.mich_world.specs.Holders.{contract_at}
 use Rattle.mich_world.specs.Standing.{StandsFor}
 use Rattle.mich_world.specs.World.{World}
@@ -41,6 +44,14 @@ pub record Begins (v : World) (w : PlainWorld) (s : Setting) (op : Waiting) (cou
 
 -- ---- behind it
 
+-- what it did, and the growth of its contract
+abbrev pub grown : Option Done → List Effect
+grown (Some growth) = effect growth ∷ []
+grown None = []
+
+abbrev pub effects_of : Applied → List Effect
+effects_of a = effect a.effect ∷ grown a.growth
+
 -- It was applied: the world stands for the world behind it; what it did, what it emitted, and the gas and the counts that are left are
 -- those of the definitions.
 pub record IsApplied (o : Outcome) (v : World) (gas : ℕ) (old new : Counts) (a : Applied) : Type 0 where
@@ -50,7 +61,7 @@ pub record IsApplied (o : Outcome) (v : World) (gas : ℕ) (old new : Counts) (a
       o ≡ applied (record {
         world = world;
         emitted = map (issued_by v.store.bases.present a.by) a.emitted;
-        effects = effect a.effect ∷ [];
+        effects = effects_of a;
         gas = gas;
         counts = counts_of new;
       })
@@ -58,6 +69,11 @@ pub record IsApplied (o : Outcome) (v : World) (gas : ℕ) (old new : Counts) (a
   pub handed : AllByRecursion (IsHanded v.store.bases.present) a.emitted
   -- the contract that issued them is there
   pub there : IsNotEmpty a.emitted → is_some (contract_at v.funds.present a.by) ≡ true
+
+-- It was applied so, and its world has the form of worlds.
+pub record IsGrowing (o : Outcome) (v : World) (gas : ℕ) (old new : Counts) (a : Applied) : Type 0 where
+  pub applied : IsApplied o v gas old new a
+  pub form : IsWorld applied.world
 
 -- It was applied so, or failed as the definitions say. After want of memory nothing is said.
 abbrev pub EndsAs : Outcome → World → ℕ → Counts → Counts → Result Applied ApplyError → Type 0

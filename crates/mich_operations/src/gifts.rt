@@ -125,6 +125,7 @@ pub(crate) fn give_account(
     )?;
     Ok(Applied {
         effect,
+        growth: None,
         by: [0; 20],
         emitted: Rows::new(alloc),
     })

@@ -8,7 +8,6 @@ ghost use Rattle.rules_world.specs.world.Gives.{give_effect, offered, with_offer
 ghost use Rattle.rules_world.specs.world.Gives as rules;
 ghost use Rattle.rules_world.specs.world.Groups.{setting_of};
 ghost use Rattle.rules_world.specs.world.Outcomes.{ordered};
-ghost use Rattle.rules_world.specs.world.Runs.{run};
 ghost use Rattle.rules_world.specs.world.Targets.{Target, search};
 ghost use Rattle.rules_world.specs.world.World.{World as PlainWorld};
 ghost use Rattle.mich_literals.specs.arguments.Arguments.{HasTypedScripts};
@@ -25,12 +24,13 @@ ghost use Rattle.mich_term.specs.Layers.{AreFormed};
 ghost use Rattle.mich_world.specs.Holders.{contract_at};
 ghost use Rattle.mich_world.specs.Marks.{KeepsWorld};
 ghost use Rattle.mich_world.specs.Standing.{StandsFor};
-ghost use Rattle.mich_operations.specs.Calls.{call_of, IsReady};
+ghost use Rattle.mich_operations.specs.Calls.{before_growth, call_of, IsReady};
 ghost use Rattle.mich_operations.specs.Gifts.{IsHandedOver, IsWanted, gift, tickets_of};
 ghost use Rattle.mich_operations.specs.Going.{Begins, EndsAs, KeepsContracts, WithMemory};
 
 use crate::applied::{Applied, ApplyError};
 use crate::gifts::{gave, give_account, take};
+use crate::growing::with_growth;
 use crate::offering::spelled_id;
 use crate::running::surroundings;
 use mich_base::{Link, Node, Ty};
@@ -76,7 +76,7 @@ pub(crate) fn wants(
     Ok(())
 }
 
-// A contract runs with the ticket that a source gave it.
+// A contract runs with the ticket that a source gave it; its growth is still to be charged.
 fn run_gift(
     alloc: Global,
     world: &mut World,
@@ -96,7 +96,7 @@ fn run_gift(
     requires there { is_some (contract_at world.old.funds.present to.now) ≡ true }
     requires formed { AreFormed argument }
     requires based { HasBases world.old.store.bases.present argument }
-    ensures ends { (w : PlainWorld) (t : Target) → IsReady world.old w (setting_of (listed costs.entry.now) counts.old.group source.entry.now) (counts_of counts.old) (place.Implicit source.entry.now) to.entry.now name.entry.now 0 argument t → EndsAs (run (setting_of (listed costs.entry.now) counts.old.group source.entry.now) w (call_of (place.Implicit source.entry.now) 0 t (val_in world.old.store.bases.present argument)) meter.old (counts_of counts.old) (give_effect (setting_of (listed costs.entry.now) counts.old.group source.entry.now) (gift (tickets_of id.entry.now amount) (place.Contract to.entry.now) name.entry.now))) world.new meter.new counts.old counts.new result }
+    ensures ends { (w : PlainWorld) (t : Target) → IsReady world.old w (setting_of (listed costs.entry.now) counts.old.group source.entry.now) (counts_of counts.old) (place.Implicit source.entry.now) to.entry.now name.entry.now 0 argument t → EndsAs (before_growth (setting_of (listed costs.entry.now) counts.old.group source.entry.now) w (call_of (place.Implicit source.entry.now) 0 t (val_in world.old.store.bases.present argument)) meter.old (counts_of counts.old) (give_effect (setting_of (listed costs.entry.now) counts.old.group source.entry.now) (gift (tickets_of id.entry.now amount) (place.Contract to.entry.now) name.entry.now))) world.new meter.new counts.old counts.new result }
     ensures hosting { IfOk result (λ _. IsHosting world.new) }
     ensures bases { IfOk result (λ _. Extends world.old.store.bases.present world.new.store.bases.present) }
     ensures contracts { IfOk result (λ _. KeepsContracts world.old world.new) }
@@ -120,6 +120,7 @@ fn run_gift(
             )?;
             Ok(Applied {
                 effect,
+                growth: None,
                 by: *to,
                 emitted: returned,
             })
@@ -154,9 +155,10 @@ fn give_contract(
     wants(world, to, name, &id.ty)?;
     let ticket = take(alloc, world, source, id, amount)?;
     let argument = Value::Ticket(Link::new(alloc, ticket)?);
-    run_gift(
+    let ran = run_gift(
         alloc, world, costs, source, meter, counts, bodies, id, amount, to, name, argument,
-    )
+    )?;
+    with_growth(alloc, world, source, ran)
 }
 
 // Gives a place so many tickets of an issuer that the source holds, whose type and content nodes spell.

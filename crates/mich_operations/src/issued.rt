@@ -75,6 +75,7 @@ pub fn apply_issued(
             found(
                 alloc,
                 world,
+                source,
                 &Place::Contract(by),
                 hash,
                 amount,

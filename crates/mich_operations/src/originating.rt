@@ -91,6 +91,7 @@ pub(crate) fn originate(
     found(
         alloc,
         world,
+        source,
         &from,
         hash,
         balance,

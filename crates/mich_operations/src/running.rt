@@ -4,7 +4,7 @@ ghost use Rattle.rules_data.specs.gas.Prices.{Listed};
 ghost use Rattle.rules_data.specs.values.Val.{Val};
 ghost use Rattle.rules_world.specs.world.Arguments.{Argument, value};
 ghost use Rattle.rules_world.specs.world.Groups.{setting_of};
-ghost use Rattle.rules_world.specs.world.Runs.{environment_of, run};
+ghost use Rattle.rules_world.specs.world.Runs.{environment_of};
 ghost use Rattle.rules_world.specs.world.Targets.{Target};
 ghost use Rattle.rules_world.specs.world.Transfers.{transfer_effect};
 ghost use Rattle.rules_world.specs.world.World.{World as PlainWorld};
@@ -19,11 +19,12 @@ ghost use Rattle.mich_term.specs.Layers.{AreFormed};
 ghost use Rattle.mich_world.specs.Holders.{contract_at, may_receive};
 ghost use Rattle.mich_world.specs.Marks.{KeepsWorld};
 ghost use Rattle.mich_world.specs.Standing.{StandsFor};
-ghost use Rattle.mich_operations.specs.Calls.{call_of, covered, IsDue, IsReady};
+ghost use Rattle.mich_operations.specs.Calls.{before_growth, call_of, covered, IsDue, IsReady};
 ghost use Rattle.mich_operations.specs.Going.{EndsAs, KeepsContracts, WithMemory};
 ghost use Rattle.mich_operations.specs.Transfers.{transaction};
 
 use crate::applied::{Applied, ApplyError};
+use crate::growing::with_growth;
 use crate::printing::printed;
 use mich_forms::{Address, Entrypoint, KeyHash, Place};
 use mich_gas::{Costs, Meter};
@@ -58,7 +59,7 @@ pub(crate) fn surroundings(
     }
 }
 
-// A contract runs, which has the mutez already.
+// A contract runs, which has the mutez already; its growth is still to be charged.
 fn run_contract(
     alloc: Global,
     world: &mut World,
@@ -78,7 +79,7 @@ fn run_contract(
     requires there { is_some (contract_at world.old.funds.present to.now) ≡ true }
     requires formed { AreFormed argument }
     requires based { HasBases world.old.store.bases.present argument }
-    ensures ends { (w : PlainWorld) (t : Target) → IsReady world.old w (setting_of (listed costs.entry.now) counts.old.group source.entry.now) (counts_of counts.old) from.entry.now to.entry.now name.entry.now amount argument t → EndsAs (run (setting_of (listed costs.entry.now) counts.old.group source.entry.now) w (call_of from.entry.now amount t (val_in world.old.store.bases.present argument)) meter.old (counts_of counts.old) (transfer_effect (transaction from.entry.now (place.Contract to.entry.now) name.entry.now amount (value (val_in world.old.store.bases.present argument))) (val_in world.old.store.bases.present argument))) world.new meter.new counts.old counts.new result }
+    ensures ends { (w : PlainWorld) (t : Target) → IsReady world.old w (setting_of (listed costs.entry.now) counts.old.group source.entry.now) (counts_of counts.old) from.entry.now to.entry.now name.entry.now amount argument t → EndsAs (before_growth (setting_of (listed costs.entry.now) counts.old.group source.entry.now) w (call_of from.entry.now amount t (val_in world.old.store.bases.present argument)) meter.old (counts_of counts.old) (transfer_effect (transaction from.entry.now (place.Contract to.entry.now) name.entry.now amount (value (val_in world.old.store.bases.present argument))) (val_in world.old.store.bases.present argument))) world.new meter.new counts.old counts.new result }
     ensures hosting { IfOk result (λ _. IsHosting world.new) }
     ensures bases { IfOk result (λ _. Extends world.old.store.bases.present world.new.store.bases.present) }
     ensures contracts { IfOk result (λ _. KeepsContracts world.old world.new) }
@@ -96,6 +97,7 @@ fn run_contract(
             };
             Ok(Applied {
                 effect: Effect::Transfer(*from, address, amount, literal, done.changes),
+                growth: None,
                 by: *to,
                 emitted: done.returned,
             })
@@ -132,9 +134,13 @@ pub(crate) fn call_contract(
     ensures keeps { WithMemory result (KeepsWorld world.old world.new) }
 {
     match world.move_mutez(*from, Place::Contract(*to), amount) {
-        Ok(()) => run_contract(
-            alloc, world, costs, source, meter, counts, bodies, from, to, name, amount, argument,
-        ),
+        Ok(()) => {
+            let ran = run_contract(
+                alloc, world, costs, source, meter, counts, bodies, from, to, name, amount,
+                argument,
+            )?;
+            with_growth(alloc, world, source, ran)
+        }
         Err(MoveError::BalanceTooLow) => {
             abandon(argument);
             Err(ApplyError::Failed(Failure::BalanceTooLow))

@@ -31,6 +31,7 @@ impl World {
         ensures chain { self.new.chain ≡ self.old.chain }
         ensures level { self.new.level ≡ self.old.level }
         ensures moment { self.new.moment ≡ self.old.moment }
+        ensures rate { self.new.rate ≡ self.old.rate }
         ensures funds { self.new.funds ≡ kept self.old.funds }
         ensures books { self.new.ledger.books ≡ kept self.old.ledger.books }
         ensures changes { self.new.ledger.changes ≡ self.old.ledger.changes }
@@ -59,6 +60,7 @@ impl World {
         ensures chain { self.new.chain ≡ self.old.chain }
         ensures level { self.new.level ≡ self.old.level }
         ensures moment { self.new.moment ≡ self.old.moment }
+        ensures rate { self.new.rate ≡ self.old.rate }
         ensures funds { self.new.funds ≡ kept self.old.funds }
         ensures books { self.new.ledger.books ≡ kept self.old.ledger.books }
         ensures changes { self.new.ledger.changes ≡ self.old.ledger.changes }

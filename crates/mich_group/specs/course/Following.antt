@@ -1,5 +1,5 @@
 -- The course of the rules that one of the code follows, and how its steps end.
-use Rattle.std.specs.Prelude.{◌≡◌, ◌<◌, ◌^◌, ℕ, List, [], ◌∷◌, map, Option, Some, None, Result, Ok, Err}
+use Rattle.std.specs.Prelude.{◌≡◌, ◌<◌, ◌^◌, ℕ, true, List, [], ◌∷◌, map, Option, Some, None, Result, Ok, Err}
 use Rattle.laws_code.specs.evaluation.Laws.{IsCharged}
 use Rattle.laws_world.specs.runs.Worlds.{IsWhole}
 use Rattle.rules_files.specs.course.Course.{Course as PlainCourse, Step, goes_on, stops, BadOrder, BadCosts, RepeatedAccount, SupplyLimit}
@@ -10,6 +10,7 @@ use Rattle.mich_ops.specs.Told.{ToldReceipt, told_receipt}
 use Rattle.mich_ops.specs.View.{receipt}
 use Rattle.mich_ops.specs.declared.receipt.GroupReceipt.{GroupReceipt}
 use Rattle.mich_world.specs.Standing.{StandsFor}
+use Rattle.mich_world.specs.World.{IsEmpty}
 use Rattle.mich_group.specs.declared.course.course.Course.{Course}
 use Rattle.mich_group.specs.declared.course.error.CourseError.{CourseError}
 use Rattle.mich_group.specs.declared.course.error.CourseError.TheVariants as error
@@ -20,7 +21,8 @@ pub record Follows (c : Course) (p : PlainCourse) : Type 0 where
   pub stands : StandsFor c.world p.world
   pub prices : listed c.costs ≡ p.prices
   pub groups : c.groups ≡ p.groups
-  pub only_chain : c.only_chain ≡ p.only_chain
+  pub at_head : c.at_head ≡ p.at_head
+  pub empty : c.at_head ≡ true → IsEmpty c.world
   pub hosting : IsHosting c.world
   pub whole : IsWhole p.world
   pub charged : IsCharged p.prices

@@ -1,7 +1,7 @@
 // Statements behind the first one.
 ghost use Rattle.std.specs.Prelude.{◌≡◌, ◌≤◌, ◌<◌, ◌+◌, ◌^◌, ℕ, true};
 ghost use Rattle.rules_text.specs.nodes.Tree.{size};
-ghost use Rattle.rules_files.specs.course.Course.{Course as PlainCourse, block_step, costs_step, granting, group_step, step_behind};
+ghost use Rattle.rules_files.specs.course.Course.{Course as PlainCourse, block_step, costs_step, granting, group_step, profile_step, step_behind};
 ghost use Rattle.rules_files.specs.course.Ranges.{IsStatement};
 ghost use Rattle.rules_data.specs.gas.Tables.{is_table};
 ghost use Rattle.rules_files.specs.statements.Statements.{Group as PlainGroup};
@@ -24,30 +24,42 @@ use mich_scenario::Statement;
 use mich_world::{GrantError, World};
 use std::alloc::Global;
 
-/// How far a file has come: its world, its prices, how many groups it had, and whether only its chain stood.
+/// How far a file has come: its world, its prices, how many groups it had, and whether nothing stood but its chain and a profile.
 #[derive(Drop)]
 pub struct Course {
     pub world: World,
     pub costs: Costs,
     pub groups: u64,
-    pub only_chain: bool,
+    pub at_head: bool,
 }
 
 impl Course {
-    // A table of prices, which stands at most once and before all but the chain.
+    // The mutez that a byte of storage costs, directly behind the chain.
+    fn profile(&mut self, rate: u64) -> Result<Option<GroupReceipt>, CourseError>
+        requires follows { (p : PlainCourse) × Follows self.old p }
+        ensures { (p : PlainCourse) → Follows self.old p → Goes (profile_step p rate) self.new result }
+    {
+        if !self.at_head || self.world.rate().is_some() {
+            return Err(CourseError::BadOrder);
+        }
+        self.world.set_rate(rate);
+        Ok(None)
+    }
+
+    // A table of prices, which stands at most once and before all but the chain and a profile.
     fn price(&mut self, table: &Node) -> Result<Option<GroupReceipt>, CourseError>
         requires follows { (p : PlainCourse) × Follows self.old p }
         requires table { is_table (tree table.now) ≡ true }
         requires size { size (tree table.now) < 2 ^ 32 }
-        ensures { (p : PlainCourse) → Follows self.old p → Goes (costs_step p.only_chain p (tree table.now)) self.new result }
+        ensures { (p : PlainCourse) → Follows self.old p → Goes (costs_step p.at_head p (tree table.now)) self.new result }
     {
-        if !self.only_chain {
+        if !self.at_head {
             return Err(CourseError::BadOrder);
         }
         match read_costs(table) {
             Ok(costs) => {
                 self.costs = costs;
-                self.only_chain = false;
+                self.at_head = false;
                 Ok(None)
             }
             Err(_) => Err(CourseError::BadCosts),
@@ -62,7 +74,7 @@ impl Course {
     {
         match self.world.grant(who, mutez) {
             Ok(()) => {
-                self.only_chain = false;
+                self.at_head = false;
                 Ok(None)
             }
             Err(GrantError::RepeatedAccount) => Err(CourseError::RepeatedAccount),
@@ -80,7 +92,7 @@ impl Course {
         let (_, last_level, last_moment) = self.world.clock();
         if last_level < level && last_moment <= moment {
             self.world.set_moment(level, moment);
-            self.only_chain = false;
+            self.at_head = false;
             Ok(None)
         } else {
             Err(CourseError::BadOrder)
@@ -103,11 +115,11 @@ impl Course {
         let receipt = apply_group(alloc, &mut self.world, &self.costs, number, group, bodies)?;
         self.world.end_marks();
         self.groups = number;
-        self.only_chain = false;
+        self.at_head = false;
         Ok(Some(receipt))
     }
 
-    /// The next statement: prices are set, an account is made, a block begins, or a group is applied, whose receipt is answered. A
+    /// The next statement: the rate of storage or prices are set, an account is made, a block begins, or a group is applied, whose receipt is answered. A
     /// statement is refused exactly where the rules refuse it. After a refusal, and after Memory, the course is given up (this host's
     /// own).
     pub fn take(
@@ -123,6 +135,7 @@ impl Course {
     {
         match statement {
             Statement::Chain(_, _, _) => Err(CourseError::BadOrder),
+            Statement::Profile(rate) => self.profile(*rate),
             Statement::Costs(table) => self.price(table),
             Statement::Account(who, mutez) => self.grant(*who, *mutez),
             Statement::Block(level, moment) => self.advance(*level, *moment),

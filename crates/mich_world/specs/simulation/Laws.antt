@@ -162,7 +162,7 @@ MarksAgree = (u v z : World) (w : PlainWorld) → StandsFor u w → KeepsWorld u
 -- the end of all marks changes nothing
 abbrev pub KeepingAgrees : Type 0
 KeepingAgrees = (u v : World) (w : PlainWorld) → StandsFor u w → AreStored u
-    → v.chain ≡ u.chain → v.level ≡ u.level → v.moment ≡ u.moment
+    → v.chain ≡ u.chain → v.level ≡ u.level → v.moment ≡ u.moment → v.rate ≡ u.rate
     → v.funds ≡ without_past u.funds → v.ledger.books ≡ without_past u.ledger.books
     → AllByRecursion (Stands u.store.bases.present v.store.bases.present) u.funds.present.contracts
     → StandsFor v w
