@@ -1,6 +1,6 @@
 -- What a file comes to is in order.
 use Rattle.std.proofs.Common.{◌≡◌, ◌≤◌, ◌<◌, ◌+◌, ◌-◌, ◌^◌, ℕ, Bool, true, false, cond, inl, inr, Option, Some, None, List, [], ◌∷◌, ◌++◌, length, drop, refl, sym, ap, ◌∙◌, subst, arith}
-use Rattle.std.specs.Prelude.{Result, Ok, Err, ℤ, nat_le, is_some}
+use Rattle.std.specs.Prelude.{Result, Ok, Err, ℤ, ◌&&◌, nat_le, is_none, is_some}
 use Rattle.std.specs.List.{AllByRecursion}
 use Rattle.std.proofs.lemmas.List.{length-append, length-drop}
 use Rattle.rules_text.specs.nodes.Limits.{file_limit, most_mutez}
@@ -9,14 +9,14 @@ use Rattle.rules_data.specs.gas.Prices.{Listed}
 use Rattle.rules_data.specs.gas.Tables.{table_of}
 use Rattle.rules_text.specs.declared.text.TextKind.TheVariants.{TooLong}
 use Rattle.rules_text.specs.text.Text.{past_limit, IsNode}
-use Rattle.rules_files.specs.statements.Statements.{Statement, Chain, Costs, Account, Block, Group, form}
+use Rattle.rules_files.specs.statements.Statements.{Statement, Chain, Profile, Costs, Account, Block, Group, form}
 use Rattle.rules_world.specs.world.Laws.{IsGroup}
 use Rattle.rules_world.specs.world.Receipts.{Receipt}
 use Rattle.rules_world.specs.world.World.{World, account_at}
 use Rattle.rules_world.specs.world.Contents.{Content}
 use Rattle.rules_world.specs.world.Balances.{Granted, Repeated, TooMuch, endowed}
 use Rattle.rules_world.specs.world.Groups.{Settled, group}
-use Rattle.rules_files.specs.course.Course.{Course, Step, goes_on, stops, stuck_step, with_prices, costs_step, granting, is_later, timed, numbered, step_behind, first_step}
+use Rattle.rules_files.specs.course.Course.{Course, Step, goes_on, stops, stuck_step, with_rate, with_prices, costs_step, granting, is_later, timed, numbered, step_behind, first_step}
 use Rattle.rules_files.specs.course.Ranges.{IsStatement}
 use Rattle.rules_files.specs.commands.Places.{Placed, IsNodeAt, AreStatements}
 use Rattle.rules_files.specs.commands.Replay.{Replay, Ending, State, RefusedAt, step, Run, going, stopped, stuck_run, continued, taken, run_one, run_all, ending_of, Closes}
@@ -53,6 +53,10 @@ ranged_costs : (b : Bool) (c : Course) (table : Tree) → HasRanges (costs_step 
 ranged_costs true c table = ranged_prices c (table_of table)
 ranged_costs false c table = tt
 
+ranged_profile : (c : Course) (rate : ℕ) (b : Bool) → HasRanges (cond b (goes_on (with_rate c rate) []) (stops Rattle.rules_files.specs.course.Course.BadOrder))
+ranged_profile c rate true = tt
+ranged_profile c rate false = tt
+
 ranged_grant : (c : Course) (who : List ℕ) (mutez : ℕ) (a b : Bool) → HasRanges (granting c (cond a Repeated (cond b (Granted (endowed c.world who mutez)) TooMuch)))
 ranged_grant c who mutez true b = tt
 ranged_grant c who mutez false true = tt
@@ -80,7 +84,8 @@ may_settle c source contents g few s = record {
 
 ranged_step : (c : Course) (s : Statement) → IsGoodCourse c → c.groups + 1 < 2 ^ 64 → IsStatement s → HasRanges (step_behind c s)
 ranged_step c (Chain id level moment) g few i = tt
-ranged_step c (Costs table) g few i = ranged_costs c.only_chain c table
+ranged_step c (Profile rate) g few i = ranged_profile c rate (c.at_head && is_none c.world.rate)
+ranged_step c (Costs table) g few i = ranged_costs c.at_head c table
 ranged_step c (Account who mutez) g few i = ranged_grant c who mutez (is_some (account_at c.world who)) (nat_le (c.world.granted + mutez) most_mutez)
 ranged_step c (Block level moment) g few i = ranged_block c level moment (is_later c.world level moment)
 ranged_step c (Group source contents) g few i =
@@ -89,6 +94,7 @@ ranged_step c (Group source contents) g few i =
 
 ranged_first : (s : Statement) → HasRanges (first_step s)
 ranged_first (Chain id level moment) = tt
+ranged_first (Profile rate) = tt
 ranged_first (Costs table) = tt
 ranged_first (Account who mutez) = tt
 ranged_first (Block level moment) = tt

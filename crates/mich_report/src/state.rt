@@ -149,7 +149,7 @@ fn add_tickets(
 
 // What was burnt for storage, where there is a rate.
 fn add_burn(alloc: Global, world: &World, lines: &mut Texts) -> Result<(), Memory>
-    ensures { IfOk result (λ _. lines.new ≡ lines.old ++ map line (burn_nodes world.now.rate world.now.funds.present.storage_burn)) }
+    ensures { IfOk result (λ _. lines.new ≡ lines.old ++ map line (burn_nodes world.now.funds.present.rate world.now.funds.present.storage_burn)) }
 {
     if world.rate().is_some() {
         let burn = over_one(alloc, b"StorageBurn", number_node(world.storage_burn()))?;
@@ -160,7 +160,7 @@ fn add_burn(alloc: Global, world: &World, lines: &mut Texts) -> Result<(), Memor
 
 /// The fees that were taken, what was burnt for storage, and all mutez.
 pub(crate) fn add_sums(alloc: Global, world: &World, lines: &mut Texts) -> Result<(), Memory>
-    ensures { IfOk result (λ _. lines.new ≡ lines.old ++ map line (over (codes "Fees") (number world.now.funds.present.fees ∷ []) ∷ (burn_nodes world.now.rate world.now.funds.present.storage_burn ++ over (codes "Supply") (number (total world.now.funds.present) ∷ []) ∷ []))) }
+    ensures { IfOk result (λ _. lines.new ≡ lines.old ++ map line (over (codes "Fees") (number world.now.funds.present.fees ∷ []) ∷ (burn_nodes world.now.funds.present.rate world.now.funds.present.storage_burn ++ over (codes "Supply") (number (total world.now.funds.present) ∷ []) ∷ []))) }
 {
     let fees = over_one(alloc, b"Fees", number_node(world.fees()))?;
     lines.push(node_line(alloc, &fees)?)?;

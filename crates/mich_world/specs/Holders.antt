@@ -1,6 +1,6 @@
--- Who holds mutez: accounts and contracts; with the fees that were taken, what was burnt for storage, and all that was granted (Octez
--- "Accounts and addresses", "Operations").
-use Rattle.std.specs.Prelude.{ℕ, ◌+◌, ◌-◌, ◌*◌, ◌≤◌, nat_lt, Bool, true, is_some, option_map, unwrap_or, Option, Some, None, List, [], if◌then◌else◌}
+-- Who holds mutez: accounts and contracts; with the fees that were taken, what was burnt for storage, all that was granted, and the
+-- mutez that a byte of storage costs, if it costs any (Octez "Accounts and addresses", "Operations").
+use Rattle.std.specs.Prelude.{◌≡◌, ℕ, ◌+◌, ◌-◌, ◌*◌, ◌≤◌, nat_lt, Bool, true, is_some, option_map, unwrap_or, Option, Some, None, List, [], if◌then◌else◌}
 use Rattle.std.specs.declared.cmp.Ordering.{Ordering}
 use Rattle.std.specs.Ordering.{nat_cmp}
 use Rattle.std.specs.Cmp.Lexicographic.{slice_cmp}
@@ -21,9 +21,16 @@ pub record Holders : Type 0 where
   pub fees : ℕ
   pub storage_burn : ℕ
   pub granted : ℕ
+  pub rate : Option ℕ
 
 abbrev pub no_holders : Holders
-no_holders = record { accounts = []; contracts = []; fees = 0; storage_burn = 0; granted = 0 }
+no_holders = record { accounts = []; contracts = []; fees = 0; storage_burn = 0; granted = 0; rate = None }
+
+-- neither an account nor a contract is there, and no rate was set
+pub record IsNew (h : Holders) : Type 0 where
+  pub accounts : h.accounts ≡ []
+  pub contracts : h.contracts ≡ []
+  pub rate : h.rate ≡ None
 
 abbrev pub by_bytes : List ℕ → List ℕ → Ordering
 by_bytes = slice_cmp nat_cmp
@@ -97,6 +104,9 @@ with_storage_burn h mutez = record h { storage_burn = mutez }
 
 abbrev pub with_granted : Holders → ℕ → Holders
 with_granted h mutez = record h { granted = mutez }
+
+abbrev pub with_rate : Holders → Option ℕ → Holders
+with_rate h rate = record h { rate = rate }
 
 -- ---- moves
 

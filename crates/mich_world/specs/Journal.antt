@@ -1,6 +1,6 @@
 -- What a journal of writes makes of holders.
 use Rattle.std.specs.Prelude.{◌≡◌, ℕ, Option, List, [], ◌∷◌, reverse, refl}
-use Rattle.std.specs.Coded.{Coded, code_by, coded×, coded_list, coded_ℕ}
+use Rattle.std.specs.Coded.{Coded, code_by, coded×, coded_list, coded_option, coded_ℕ}
 use Rattle.mich_base.specs.undo.History.{History}
 use Rattle.mich_base.specs.undo.Undone.{undone}
 use Rattle.mich_forms.specs.declared.places.Place.{Place}
@@ -52,10 +52,10 @@ AreSound h supply journal = (total h ≡ supply) × IsSound h × WereSound h (re
 -- ---- codes
 
 abbrev pub holders_code : Coded Holders
-holders_code = code_by (List (List ℕ × ℕ) × (List (List ℕ × Contract) × (ℕ × (ℕ × ℕ))))
-    (coded× (coded_list (coded× (coded_list coded_ℕ) coded_ℕ)) (coded× (coded_list (coded× (coded_list coded_ℕ) contract.the_row.coded)) (coded× coded_ℕ (coded× coded_ℕ coded_ℕ))))
-    (λ h. (h.accounts, (h.contracts, (h.fees, (h.storage_burn, h.granted)))))
-    (λ p. record { accounts = p.0; contracts = p.1.0; fees = p.1.1.0; storage_burn = p.1.1.1.0; granted = p.1.1.1.1 })
+holders_code = code_by (List (List ℕ × ℕ) × (List (List ℕ × Contract) × (ℕ × (ℕ × (ℕ × Option ℕ)))))
+    (coded× (coded_list (coded× (coded_list coded_ℕ) coded_ℕ)) (coded× (coded_list (coded× (coded_list coded_ℕ) contract.the_row.coded)) (coded× coded_ℕ (coded× coded_ℕ (coded× coded_ℕ (coded_option coded_ℕ))))))
+    (λ h. (h.accounts, (h.contracts, (h.fees, (h.storage_burn, (h.granted, h.rate))))))
+    (λ p. record { accounts = p.0; contracts = p.1.0; fees = p.1.1.0; storage_burn = p.1.1.1.0; granted = p.1.1.1.1.0; rate = p.1.1.1.1.1 })
     (λ _. refl)
 
 abbrev pub history_code : Coded (History Holders)

@@ -15,7 +15,8 @@ mark_of w = record {
 
 -- the world at a mark
 abbrev pub at_mark : World → Mark → World
-at_mark w m = record w {
+at_mark w m = record {
+  chain = w.chain;
   level = m.level;
   moment = m.moment;
   funds = rewound w.funds m.funds;
@@ -32,7 +33,6 @@ pub record IsGood (m : Mark) (w : World) : Type 0 where
 -- whatever the old world was at a mark, the new one was too
 pub record KeepsWorld (old new : World) : Type 0 where
   pub chain : new.chain ≡ old.chain
-  pub rate : new.rate ≡ old.rate
   pub funds : Keeps old.funds new.funds
   pub books : Keeps old.ledger.books new.ledger.books
   pub bases : Keeps old.store.bases new.store.bases
@@ -42,7 +42,6 @@ pub record IsSame (v w : World) : Type 0 where
   pub chain : w.chain ≡ v.chain
   pub level : w.level ≡ v.level
   pub moment : w.moment ≡ v.moment
-  pub rate : w.rate ≡ v.rate
   pub funds : w.funds ≡ v.funds
   pub books : w.ledger.books ≡ v.ledger.books
   pub bases : w.store.bases ≡ v.store.bases

@@ -32,6 +32,7 @@ pub record AreThose (h : Holders) (bs : Bases) (b : Books) (w : PlainWorld) : Ty
   pub fees : w.fees ≡ h.fees
   pub storage_burn : w.storage_burn ≡ h.storage_burn
   pub granted : w.granted ≡ h.granted
+  pub rate : w.rate ≡ h.rate
   -- what each owner holds, and the totals
   pub held : (id : Identity) (owner : List ℕ) → is_place owner ≡ true → held_of b id owner ≡ held_by w id owner
   pub minted : (id : Identity) → minted_of b id ≡ minted_ever w id
@@ -41,5 +42,4 @@ pub record StandsFor (v : World) (w : PlainWorld) : Type 0 where
   pub chain : w.chain ≡ v.chain
   pub level : w.level ≡ v.level
   pub moment : w.moment ≡ v.moment
-  pub rate : w.rate ≡ v.rate
   pub those : AreThose v.funds.present v.store.bases.present v.ledger.books.present w

@@ -71,7 +71,6 @@ pub record SamePlace (old new : World) : Type 0 where
   pub chain : new.chain ≡ old.chain
   pub level : new.level ≡ old.level
   pub moment : new.moment ≡ old.moment
-  pub rate : new.rate ≡ old.rate
   pub changes : new.ledger.changes ≡ old.ledger.changes
 
 -- a contract is made: a place pays its balance, its storage is settled in the store, and it holds the tickets of the storage

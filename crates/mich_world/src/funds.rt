@@ -1,7 +1,7 @@
 // Accounts and contracts, fees, burns and grants, with a journal by which writes are taken back.
-ghost use Rattle.std.specs.Prelude.{◌≡◌, ◌+◌, ◌-◌, ◌≤◌, true, is_some, option_map, unwrap_or, IfOk, OnErr};
+ghost use Rattle.std.specs.Prelude.{◌≡◌, ◌+◌, ◌-◌, ◌≤◌, true, Some, is_some, option_map, unwrap_or, IfOk, OnErr};
 ghost use Rattle.mich_base.specs.undo.History.{height_of, grown, stepped_back, rewound, kept};
-ghost use Rattle.mich_world.specs.Holders.{IsSound, account_at, contract_at, balance_at, balance_in, balance_or_none, total, with_account, with_contract, rebalanced, repaid, restored, with_change, with_fees, with_granted, with_storage_burn};
+ghost use Rattle.mich_world.specs.Holders.{IsNew, IsSound, account_at, contract_at, balance_at, balance_in, balance_or_none, total, with_account, with_contract, rebalanced, repaid, restored, with_change, with_fees, with_granted, with_rate, with_storage_burn};
 ghost use Rattle.mich_world.specs.Journal.{no_history};
 
 use crate::contract::Contract;
@@ -18,8 +18,8 @@ use std::alloc::Global;
 use std::collections::BTreeMap;
 use std::marker::Model;
 
-/// Balances of accounts, contracts, the fees taken, what was burnt for storage and all that was granted, in mutez, with a journal of
-/// writes.
+/// Balances of accounts, contracts, the fees taken, what was burnt for storage and all that was granted, in mutez, and the rate of
+/// storage, with a journal of writes.
 #[derive(Drop)]
 pub(crate) struct Funds {
     accounts: Accounts,
@@ -27,6 +27,7 @@ pub(crate) struct Funds {
     fees: u64,
     storage_burn: u64,
     granted: u64,
+    rate: Option<u64>,
     // all balances, the fees and what was burnt
     supply: u64,
     journal: Vec<Entry>,
@@ -41,9 +42,9 @@ impl Model for Funds {
 
     ghost coded = { history_code };
 
-    ghost view = { λ f. history (record { accounts = f.accounts.entries; contracts = f.contracts.entries; fees = f.fees; storage_burn = f.storage_burn; granted = f.granted }) f.journal.items };
+    ghost view = { λ f. history (record { accounts = f.accounts.entries; contracts = f.contracts.entries; fees = f.fees; storage_burn = f.storage_burn; granted = f.granted; rate = f.rate }) f.journal.items };
 
-    ghost invariant = { λ f. AreSound (record { accounts = f.accounts.entries; contracts = f.contracts.entries; fees = f.fees; storage_burn = f.storage_burn; granted = f.granted }) f.supply f.journal.items };
+    ghost invariant = { λ f. AreSound (record { accounts = f.accounts.entries; contracts = f.contracts.entries; fees = f.fees; storage_burn = f.storage_burn; granted = f.granted; rate = f.rate }) f.supply f.journal.items };
 }
 
 impl Funds {
@@ -57,9 +58,25 @@ impl Funds {
             fees: 0,
             storage_burn: 0,
             granted: 0,
+            rate: None,
             supply: 0,
             journal: Vec::new(alloc),
         }
+    }
+
+    // Sets what a byte of storage costs, before there is anybody; takes no memory.
+    pub(crate) fn set_rate(&mut self, rate: u64)
+        requires { IsNew self.old.present }
+        ensures { self.new.present ≡ with_rate self.old.present (Some rate) }
+    {
+        self.rate = Some(rate);
+    }
+
+    // What a byte of storage costs.
+    pub(crate) fn rate(&self) -> Option<u64>
+        ensures { result ≡ self.now.present.rate }
+    {
+        self.rate
     }
 
     // How many entries the journal has.

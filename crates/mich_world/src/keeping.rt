@@ -31,7 +31,6 @@ impl World {
         ensures chain { self.new.chain ≡ self.old.chain }
         ensures level { self.new.level ≡ self.old.level }
         ensures moment { self.new.moment ≡ self.old.moment }
-        ensures rate { self.new.rate ≡ self.old.rate }
         ensures funds { self.new.funds ≡ kept self.old.funds }
         ensures books { self.new.ledger.books ≡ kept self.old.ledger.books }
         ensures changes { self.new.ledger.changes ≡ self.old.ledger.changes }
@@ -60,7 +59,6 @@ impl World {
         ensures chain { self.new.chain ≡ self.old.chain }
         ensures level { self.new.level ≡ self.old.level }
         ensures moment { self.new.moment ≡ self.old.moment }
-        ensures rate { self.new.rate ≡ self.old.rate }
         ensures funds { self.new.funds ≡ kept self.old.funds }
         ensures books { self.new.ledger.books ≡ kept self.old.ledger.books }
         ensures changes { self.new.ledger.changes ≡ self.old.ledger.changes }

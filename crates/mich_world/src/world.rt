@@ -1,12 +1,12 @@
 // The world.
 ghost use Rattle.std.specs.Borrow.{sem};
-ghost use Rattle.std.specs.Prelude.{◌≡◌, ◌+◌, true, [], OnOk, option_map, is_some, unwrap_or, Some, None};
+ghost use Rattle.std.specs.Prelude.{◌≡◌, ◌+◌, true, [], OnOk, option_map, is_some, unwrap_or, Some};
 ghost use Rattle.mich_base.specs.undo.History.{Keeps};
 ghost use Rattle.mich_world.specs.Answers.{IsGrant, IsMove, IsFee, IsPayment};
-ghost use Rattle.mich_world.specs.Holders.{balance_at, contract_at, may_receive, total};
+ghost use Rattle.mich_world.specs.Holders.{IsNew, balance_at, contract_at, may_receive, total, with_rate};
 ghost use Rattle.mich_world.specs.Lending.{LendsLedger, LendsStore};
 ghost use Rattle.mich_world.specs.Marks.{mark_of, at_mark, IsGood, KeepsWorld, IsSame};
-ghost use Rattle.mich_world.specs.World.{no_world, with_clock, with_funds, with_rate, IsEmpty};
+ghost use Rattle.mich_world.specs.World.{no_world, with_clock, with_funds};
 
 use crate::contract::Contract;
 use crate::errors::{GrantError, MoveError};
@@ -25,7 +25,6 @@ pub struct World {
     chain: ChainId,
     level: u32,
     moment: i64,
-    rate: Option<u64>,
     pub(crate) funds: Funds,
     pub(crate) ledger: Ledger,
     pub(crate) store: Store,
@@ -38,7 +37,7 @@ impl Model for World {
 
     ghost coded = { world_code };
 
-    ghost view = { λ w. record { chain = w.chain; level = w.level; moment = w.moment; rate = w.rate; funds = w.funds; ledger = w.ledger; store = w.store } };
+    ghost view = { λ w. record { chain = w.chain; level = w.level; moment = w.moment; funds = w.funds; ledger = w.ledger; store = w.store } };
 }
 
 impl World {
@@ -50,7 +49,6 @@ impl World {
             chain,
             level,
             moment: now,
-            rate: None,
             funds: Funds::new(alloc),
             ledger: Ledger::new(alloc),
             store: Store::new(alloc),
@@ -79,18 +77,18 @@ impl World {
     /// Sets how many mutez are burnt for a byte of storage, before there is anybody; takes no memory (Octez "Operations", storage fees
     /// and burn).
     pub fn set_rate(&mut self, rate: u64)
-        requires empty { IsEmpty self.old }
-        requires unset { self.old.rate ≡ None }
-        ensures { self.new ≡ with_rate self.old (Some rate) }
+        requires { IsNew self.old.funds.present }
+        ensures rate { self.new.funds.present ≡ with_rate self.old.funds.present (Some rate) }
+        ensures others { self.new ≡ with_funds self.old self.new.funds }
     {
-        self.rate = Some(rate);
+        self.funds.set_rate(rate);
     }
 
     /// How many mutez are burnt for a byte of storage. None exactly where that wasn't set. It takes no memory.
     pub fn rate(&self) -> Option<u64>
-        ensures { result ≡ self.now.rate }
+        ensures { result ≡ self.now.funds.present.rate }
     {
-        self.rate
+        self.funds.rate()
     }
 
     /// The balance at a place. None where there is no such account or contract. It takes no memory.
@@ -184,13 +182,13 @@ impl World {
         payer: KeyHash,
     ) -> Result<u64, MoveError>
         requires there { is_some (contract_at self.old.funds.present hash.now) ≡ true }
-        requires rate { is_some self.old.rate ≡ true }
-        ensures answer { IsPayment (unwrap_or self.old.rate 0) hash.now size payer self.old.funds self.new.funds result }
+        requires rate { is_some self.old.funds.present.rate ≡ true }
+        ensures answer { IsPayment (unwrap_or self.old.funds.present.rate 0) hash.now size payer self.old.funds self.new.funds result }
         ensures supply { total self.new.funds.present ≡ total self.old.funds.present }
         ensures others { self.new ≡ with_funds self.old self.new.funds }
         ensures keeps { KeepsWorld self.old self.new }
     {
-        let Some(rate) = self.rate else {
+        let Some(rate) = self.funds.rate() else {
             unreachable!();
         };
         self.funds.pay_storage(hash, size, payer, rate)

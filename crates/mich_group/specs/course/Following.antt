@@ -10,7 +10,6 @@ use Rattle.mich_ops.specs.Told.{ToldReceipt, told_receipt}
 use Rattle.mich_ops.specs.View.{receipt}
 use Rattle.mich_ops.specs.declared.receipt.GroupReceipt.{GroupReceipt}
 use Rattle.mich_world.specs.Standing.{StandsFor}
-use Rattle.mich_world.specs.World.{IsEmpty}
 use Rattle.mich_group.specs.declared.course.course.Course.{Course}
 use Rattle.mich_group.specs.declared.course.error.CourseError.{CourseError}
 use Rattle.mich_group.specs.declared.course.error.CourseError.TheVariants as error
@@ -22,7 +21,7 @@ pub record Follows (c : Course) (p : PlainCourse) : Type 0 where
   pub prices : listed c.costs ≡ p.prices
   pub groups : c.groups ≡ p.groups
   pub at_head : c.at_head ≡ p.at_head
-  pub empty : c.at_head ≡ true → IsEmpty c.world
+  pub nobody : c.at_head ≡ true → (c.world.funds.present.accounts ≡ []) × (c.world.funds.present.contracts ≡ [])
   pub hosting : IsHosting c.world
   pub whole : IsWhole p.world
   pub charged : IsCharged p.prices

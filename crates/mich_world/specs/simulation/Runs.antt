@@ -10,7 +10,6 @@ pub record Runs (changes : List Change) (old new : World) : Type 0 where
   pub chain : new.chain ≡ old.chain
   pub level : new.level ≡ old.level
   pub moment : new.moment ≡ old.moment
-  pub rate : new.rate ≡ old.rate
   pub funds : new.funds.present ≡ old.funds.present
   pub adds : Adds changes old.ledger.books.present new.ledger.books.present
   pub bases : Extends old.store.bases.present new.store.bases.present
