@@ -9,7 +9,7 @@ use std::test::Fail;
 // An instruction, the types on top, the row that fits, and the type that it makes.
 type Row = (Op, &'static str, &'static str, &'static str);
 
-const ROWS: [Row; 62] = [
+const ROWS: [Row; 66] = [
     (Op::Size, "Ln", "Collections(SizeList)", "n"),
     (Op::Size, "LTn", "Collections(SizeList)", "n"),
     (Op::Size, "Sn", "Collections(SizeSet)", "n"),
@@ -63,6 +63,10 @@ const ROWS: [Row; 62] = [
     (Op::Ediv, "mm", "Numbers(Ediv)", "OPnm"),
     (Op::Neg, "n", "Numbers(Neg)", "i"),
     (Op::Neg, "i", "Numbers(Neg)", "i"),
+    (Op::Int, "n", "Numbers(Int)", "i"),
+    (Op::Int, "x", "Numbers(BytesToInt)", "i"),
+    (Op::Bytes, "n", "Numbers(NatToBytes)", "x"),
+    (Op::Bytes, "i", "Numbers(IntToBytes)", "x"),
     (Op::And, "bb", "Logic(AndBools)", "b"),
     (Op::And, "nn", "Logic(AndNumbers)", "n"),
     (Op::And, "in", "Logic(AndNumbers)", "n"),
@@ -84,7 +88,7 @@ const ROWS: [Row; 62] = [
     (Op::Update, "nOTsBnTs", "Collections(UpdateBigMap)", "BnTs"),
 ];
 
-const NEIGHBOURS: [(Op, &'static str); 74] = [
+const NEIGHBOURS: [(Op, &'static str); 80] = [
     (Op::Size, "Bns"),
     (Op::Size, "n"),
     (Op::Size, "On"),
@@ -138,6 +142,12 @@ const NEIGHBOURS: [(Op, &'static str); 74] = [
     (Op::Ediv, "tt"),
     (Op::Neg, "m"),
     (Op::Neg, "t"),
+    (Op::Int, "i"),
+    (Op::Int, "s"),
+    (Op::Int, ""),
+    (Op::Bytes, "x"),
+    (Op::Bytes, "m"),
+    (Op::Bytes, ""),
     (Op::And, "ni"),
     (Op::And, "ii"),
     (Op::And, "bn"),

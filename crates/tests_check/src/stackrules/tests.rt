@@ -90,7 +90,7 @@ const COLLECTIONS: [Row; 14] = [
     ("GET_AND_UPDATE", "nOsBnsu", "OsBnsu"),
 ];
 
-const NUMBERS: [Row; 15] = [
+const NUMBERS: [Row; 19] = [
     ("ADD", "niu", "iu"),
     ("SUB", "ttu", "iu"),
     ("MUL", "nmu", "mu"),
@@ -99,6 +99,10 @@ const NUMBERS: [Row; 15] = [
     ("ABS", "iu", "nu"),
     ("NEG", "nu", "iu"),
     ("INT", "nu", "iu"),
+    ("INT", "xu", "iu"),
+    ("BYTES", "nu", "xu"),
+    ("BYTES", "iu", "xu"),
+    ("NAT", "xu", "nu"),
     ("ISNAT", "iu", "Onu"),
     ("LSL", "nnu", "nu"),
     ("LSR", "nnu", "nu"),

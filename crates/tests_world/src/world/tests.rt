@@ -166,6 +166,14 @@ fn stored(world: &World) -> i128 {
     }
 }
 
+// The bytes that the contract has paid for.
+fn paid(world: &World) -> u64 {
+    match world.contract(&HASH) {
+        Some(contract) => contract.paid,
+        None => 0,
+    }
+}
+
 #[test]
 fn keys_stand_in_order(rt: HostRuntime) -> Result<(), Fail> {
     let alloc = rt.alloc();
@@ -194,6 +202,8 @@ struct Told {
     contract: Option<u64>,
     other: Option<u64>,
     fees: u64,
+    storage_burn: u64,
+    paid: u64,
     granted: u64,
     supply: u64,
     level: u32,
@@ -223,6 +233,8 @@ fn tell(world: &World) -> Told {
         contract: world.balance(Place::Contract(HASH)),
         other: world.balance(Place::Contract(OTHER)),
         fees: world.fees(),
+        storage_burn: world.storage_burn(),
+        paid: paid(world),
         granted: world.granted(),
         supply: world.supply(),
         level: world.clock().1,
@@ -377,6 +389,45 @@ fn each_write_is_undone(rt: HostRuntime) -> Result<(), Fail> {
         world.undo_to(mark);
         assert!(rt; tell(&world) == before);
     }
+    Ok(())
+}
+
+// A world at a rate of 3, with a contract of 60 mutez that the first of two accounts made.
+fn with_rate(alloc: Global) -> Result<World, Fail> {
+    let mut world = World::new(alloc, ChainId { body: [0; 4] }, 0, 0);
+    world.set_rate(3);
+    world.grant(key_hash(1), 100)?;
+    world.grant(key_hash(2), 5)?;
+    let script = script(alloc)?;
+    let from = Place::Implicit(key_hash(1));
+    world.install(alloc, HASH, from, 60, script, Value::Number(4))?;
+    Ok(world)
+}
+
+#[test]
+fn storage_is_paid_for(rt: HostRuntime) -> Result<(), Fail> {
+    let mut world = with_rate(rt.alloc())?;
+    assert!(rt; world.rate() == Some(3) && paid(&world) == 0 && world.storage_burn() == 0);
+    if world.rate().is_none() || world.contract(&HASH).is_none() {
+        return Ok(());
+    }
+    let mark = world.mark();
+    let before = tell(&world);
+    assert!(rt; world.pay_storage(&HASH, 10, key_hash(1))? == 30);
+    assert!(rt;
+        paid(&world) == 10 && world.storage_burn() == 30 && world.balance(account(1)) == Some(10)
+    );
+    assert!(rt; world.pay_storage(&HASH, 10, key_hash(1))? == 0);
+    assert!(rt; world.pay_storage(&HASH, 9, key_hash(1))? == 0);
+    assert!(rt;
+        matches!(
+            world.pay_storage(&HASH, 14, key_hash(1)),
+            Err(MoveError::BalanceTooLow)
+        )
+    );
+    assert!(rt; paid(&world) == 10 && world.storage_burn() == 30 && world.supply() == 105);
+    world.undo_to(mark);
+    assert!(rt; tell(&world) == before);
     Ok(())
 }
 
