@@ -1,5 +1,5 @@
 -- Contracts that are made.
-use Rattle.std.proofs.Common.{◌≡◌, ◌≤◌, ◌<◌, ℕ, List, [], ◌∷◌, length, Bool, true, false, cond, is_some, Some, Err, Ok, refl, sym, ap, ◌∙◌, subst, arith}
+use Rattle.std.proofs.Common.{◌≡◌, ◌≤◌, ◌<◌, ℕ, List, [], ◌∷◌, length, Bool, true, false, cond, is_some, None, Some, Err, Ok, refl, sym, ap, ◌∙◌, subst, arith}
 use Rattle.std.specs.Prelude.{nat_lt}
 use Rattle.std.specs.declared.cmp.Ordering.TheVariants.{Less, Equal, Greater}
 use Rattle.std.specs.declared.option.Option.{Option}
@@ -10,8 +10,9 @@ use Rattle.std.specs.Map.{lookup}
 use Rattle.std.proofs.lemmas.Bool.Decides.{nat_tests}
 use Rattle.rules_code.specs.steps.Failure.{balance_too_low}
 use Rattle.rules_world.specs.world.Balances.{balance_or_none}
+use Rattle.rules_world.specs.world.Growth.{growing}
 use Rattle.rules_world.specs.world.Originations.{Founding, found_contract, founded, founding_outcome}
-use Rattle.rules_world.specs.world.Outcomes.{applied}
+use Rattle.rules_world.specs.world.Outcomes.{Setting, applied}
 use Rattle.rules_world.specs.world.World.{World as PlainWorld}
 use Rattle.mich_base.specs.Counted.{IsNotEmpty}
 use Rattle.mich_forms.specs.Spelled.{place_bytes}
@@ -35,7 +36,7 @@ use Rattle.mich_world.specs.World.{World}
 use Rattle.mich_world.specs.declared.contract.Contract.{Contract}
 use Rattle.mich_world.proofs.ForCallers.{balance_or_none_is, contracts_there}
 use Rattle.mich_operations.specs.Foundings.{IsPayer, founding}
-use Rattle.mich_operations.specs.Going.{EndsAs, KeepsContracts, issued_by}
+use Rattle.mich_operations.specs.Going.{EndsAs, KeepsContracts, grown, issued_by}
 use Rattle.mich_operations.specs.declared.applied.Applied.{Applied}
 use Rattle.mich_operations.specs.declared.applied.ApplyError.TheVariants.{Failed}
 use Rattle.mich_operations.proofs.Paying.{ends_failed}
@@ -111,18 +112,18 @@ module _ (u v : World) (w : PlainWorld) (from : Place) (hash : List ℕ) (mutez 
   balance_here : IsPayer u w from → balance_in u.funds.present from ≡ balance_or_none w (place_bytes from)
   balance_here p = balance_or_none_is u.funds.present u.store.bases.present u.ledger.books.present w from p.stands.those p.payer
 
-  pub founds_too_much : (x : World) (gas : ℕ) (counts : Counts) (why : Why) → IsPayer u w from → balance_in u.funds.present from < mutez → failure why ≡ told balance_too_low →
-      EndsAs (found_contract w f gas (counts_of counts)) x gas counts counts (Err (Failed why))
-  founds_too_much x gas counts why p low h =
+  pub founds_too_much : (s : Setting) (x : World) (gas : ℕ) (counts : Counts) (why : Why) → IsPayer u w from → balance_in u.funds.present from < mutez → failure why ≡ told balance_too_low →
+      EndsAs (found_contract s w f gas (counts_of counts)) x gas counts counts (Err (Failed why))
+  founds_too_much s x gas counts why p low h =
       ends_failed _ x gas counts counts why balance_too_low
-      (ap (λ b. founding_outcome b w f gas (counts_of counts))
+      (ap (λ b. growing s f.hash (founding_outcome b w f gas (counts_of counts)))
       (nat_short (balance_or_none w (place_bytes from)) mutez (subst (λ (n : ℕ). n < mutez) (balance_here p) low)))
       h
 
   pub founds : (gas : ℕ) (counts : Counts) (a : Applied) → IsPayer u w from → IsHosting u → may_receive u.funds.present from ≡ true → length hash ≡ 20 →
       is_some (contract_at u.funds.present hash) ≡ false → AreFormed given → mutez ≤ balance_in u.funds.present from → Installs from hash mutez script given u v →
-      a.effect ≡ effect.Origination from (place.Contract hash) mutez → a.emitted ≡ [] → EndsAs (found_contract w f gas (counts_of counts)) v gas counts counts (Ok a)
-  founds gas counts a p host there twenty absent formed enough i done nothing = record {
+      a.effect ≡ effect.Origination from (place.Contract hash) mutez → a.emitted ≡ [] → a.growth ≡ None → EndsAs (founding_outcome (nat_lt (balance_or_none w f.sender) f.balance) w f gas (counts_of counts)) v gas counts counts (Ok a)
+  founds gas counts a p host there twenty absent formed enough i done nothing alone = record {
     world = founded w f;
     stands = installs_agree u v w from hash mutez script given p.stands p.form host.stored host.ticketless p.payer there twenty absent formed i;
     same = ap (λ b. founding_outcome b w f gas (counts_of counts))
@@ -130,7 +131,7 @@ module _ (u v : World) (w : PlainWorld) (from : Place) (hash : List ℕ) (mutez 
         ∙ (λ j. applied (record {
           world = founded w f;
           emitted = Rattle.std.specs.Prelude.map (issued_by v.store.bases.present a.by) (sym nothing j);
-          effects = ap effect_of (sym done) j ∷ [];
+          effects = ap effect_of (sym done) j ∷ grown (sym alone j);
           gas = gas;
           counts = counts_of counts;
         }));

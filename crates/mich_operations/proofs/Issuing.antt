@@ -90,12 +90,12 @@ module _ (v : World) (w : PlainWorld) (s : Setting) (by : List ℕ) (number : �
     }
 
   module _ (x : World) (gas left : ℕ) (counts : Counts) (r : Result Applied ApplyError) (paid : nat_lt gas (cost s.prices price.Origination 0) ≡ false) (rest : left ≡ gas - cost s.prices price.Origination 0) where
-    pub makes : delegate ≡ None → EndsAs (found_contract w (founding bs (place.Contract by) hash amount script storage) left (counts_of counts)) x left counts counts r →
+    pub makes : delegate ≡ None → EndsAs (found_contract s w (founding bs (place.Contract by) hash amount script storage) left (counts_of counts)) x left counts counts r →
         EndsAs (apply s w (issued_by bs by op) gas (counts_of counts)) x left counts counts r
     makes none h =
-        ends_along (apply s w (issued_by bs by op) gas (counts_of counts)) (found_contract w (founding bs (place.Contract by) hash amount script storage) left (counts_of counts)) x left counts counts r
+        ends_along (apply s w (issued_by bs by op) gas (counts_of counts)) (found_contract s w (founding bs (place.Contract by) hash amount script storage) left (counts_of counts)) x left counts counts r
         (charged_paid s.prices price.Origination gas left _ paid rest
-        ∙ ap (λ (d : Option (List ℕ)). unless_delegated d w (founding bs (place.Contract by) hash amount script storage) left (counts_of counts)) none)
+        ∙ ap (λ (d : Option (List ℕ)). unless_delegated s d w (founding bs (place.Contract by) hash amount script storage) left (counts_of counts)) none)
         h
 
 -- ---- events

@@ -130,16 +130,16 @@ module _ (w : PlainWorld) (s : Setting) (balance : ℕ) (t u : Tree) (x : World)
 
     pub ends_founded : (bs : Bases) (mid new : Counts) (k : Script) (value : Value) (hash : List ℕ) (r : Result Applied ApplyError) → literal_in w a u ≡ found (val value) →
         val_in bs value ≡ val value → script_node k ≡ t → hash ≡ new_contract s.group old.originated → mid.group ≡ old.group → counts_of mid ≡ one_more (counts_of old) →
-        EndsAs (found_contract w (founding bs (place.Implicit s.source) hash balance k value) gas (counts_of mid)) x gas mid new r →
+        EndsAs (found_contract s w (founding bs (place.Implicit s.source) hash balance k value) gas (counts_of mid)) x gas mid new r →
         EndsAs (with_script (script t) s w balance t u gas (counts_of old)) x gas old new r
     ends_founded bs mid new k value hash r e same node made group one h =
         let founds : founding bs (place.Implicit s.source) hash balance k value ≡ founding_of s (counts_of old) balance t (val value)
         = (λ i. record { sender = implicit_place s.source; hash = made i; balance = balance; script = node i; storage = same i }) in
-        ends_along (with_script (script t) s w balance t u gas (counts_of old)) (found_contract w (founding bs (place.Implicit s.source) hash balance k value) gas (counts_of mid)) x gas old new r
+        ends_along (with_script (script t) s w balance t u gas (counts_of old)) (found_contract s w (founding bs (place.Implicit s.source) hash balance k value) gas (counts_of mid)) x gas old new r
         (reads_storage ∙ ap (λ (f : Found Val). with_storage f s w balance t gas (counts_of old)) e
-        ∙ ap (λ (f : Founding). found_contract w f gas (one_more (counts_of old))) (sym founds)
-        ∙ ap (λ (n : PlainCounts). found_contract w (founding bs (place.Implicit s.source) hash balance k value) gas n) (sym one))
-        (counted_one (found_contract w (founding bs (place.Implicit s.source) hash balance k value) gas (counts_of mid)) x gas old mid new r group h)
+        ∙ ap (λ (f : Founding). found_contract s w f gas (one_more (counts_of old))) (sym founds)
+        ∙ ap (λ (n : PlainCounts). found_contract s w (founding bs (place.Implicit s.source) hash balance k value) gas n) (sym one))
+        (counted_one (found_contract s w (founding bs (place.Implicit s.source) hash balance k value) gas (counts_of mid)) x gas old mid new r group h)
 
 -- ---- the type of a storage
 

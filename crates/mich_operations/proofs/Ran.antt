@@ -58,8 +58,8 @@ use Rattle.mich_world.specs.Standing.{plain, StandsFor}
 use Rattle.mich_world.specs.World.{World, with_funds}
 use Rattle.mich_world.specs.declared.contract.Contract.{Contract}
 use Rattle.mich_world.proofs.ForCallers.{balance_or_none_is, moves_agree}
-use Rattle.mich_operations.specs.Calls.{call_of, covered, IsReady, IsDue}
-use Rattle.mich_operations.specs.Going.{EndsAs, KeepsContracts, WithMemory, issued_by}
+use Rattle.mich_operations.specs.Calls.{before_growth, call_of, covered, IsReady, IsDue}
+use Rattle.mich_operations.specs.Going.{EndsAs, KeepsContracts, WithMemory, grown, issued_by}
 use Rattle.mich_operations.specs.Transfers.{transaction}
 use Rattle.mich_operations.specs.declared.applied.Applied.{Applied}
 use Rattle.mich_operations.specs.declared.applied.ApplyError.{ApplyError}
@@ -162,18 +162,18 @@ module _ (v : World) (w : PlainWorld) (costs : Costs) (counts : Counts) (source 
     same_changes (c ∷ cs) = (λ i. same_change c i ∷ same_changes cs i)
 
     pub ran : (effect : List PlainChange → Effect) (gas left : ℕ) (z : World) (new : Counts) (done : Finished) (a : Applied) →
-        effect_of a.effect ≡ effect (map change_of done.changes) → a.by ≡ to → a.emitted ≡ done.returned →
+        effect_of a.effect ≡ effect (map change_of done.changes) → a.by ≡ to → a.emitted ≡ done.returned → a.growth ≡ None →
         is_some (contract_at v.funds.present to) ≡ true →
         machine.IsFinished (run_of v w (listed costs) counts gas argument env t) z left counts new done →
-        EndsAs (run s w call gas (counts_of counts) effect) z left counts new (Ok a)
-    ran effect gas left z new done a did by emitted there h = record {
+        EndsAs (before_growth s w call gas (counts_of counts) effect) z left counts new (Ok a)
+    ran effect gas left z new done a did by emitted alone there h = record {
       world = h.world;
       stands = h.stands;
       same = ap (with_effect t.hash effect) (sym (run_is gas) ∙ h.same)
           ∙ (λ i. applied (record {
             world = h.world;
             emitted = (emits z.store.bases.present done.returned ∙ (λ j. map (issued_by z.store.bases.present (sym by j)) (sym emitted j))) i;
-            effects = (ap effect (same_changes done.changes) ∙ sym did) i ∷ [];
+            effects = (ap effect (same_changes done.changes) ∙ sym did) i ∷ grown (sym alone i);
             gas = left;
             counts = counts_of new;
           }));
@@ -184,7 +184,7 @@ module _ (v : World) (w : PlainWorld) (costs : Costs) (counts : Counts) (source 
 
     pub ran_failed : (effect : List PlainChange → Effect) (gas left : ℕ) (z : World) (new : Counts) (f : Why) →
         machine.EndsAs (run_of v w (listed costs) counts gas argument env t) z left counts new (Err (errors.Failed f)) →
-        EndsAs (run s w call gas (counts_of counts) effect) z left counts new (Err (Failed f))
+        EndsAs (before_growth s w call gas (counts_of counts) effect) z left counts new (Err (Failed f))
     ran_failed effect gas left z new f h = by (run_in (environment_of s w call) s w t x gas (counts_of counts)) (subst (λ (o : Ended). machine.EndsAs o z left counts new (Err (errors.Failed f))) (run_is gas) h)
       where
         by : (o : Ended) → machine.EndsAs o z left counts new (Err (errors.Failed f)) → EndsAs (with_effect t.hash effect o) z left counts new (Err (Failed f))

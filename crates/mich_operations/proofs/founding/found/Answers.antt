@@ -1,4 +1,5 @@
 use Rattle.std.proofs.Common.{arith, refl, rules}
+use Rattle.rules_world.specs.world.Groups.{setting_of}
 use Rattle.mich_ops.specs.declared.failure.Failure.TheVariants as failures
 use Rattle.mich_operations.proofs.Foundings.{contracts_founded, founds, founds_too_much, hosting_founded}
 use Rattle.mich_operations.proofs.founding.found.Goals as goal
@@ -18,7 +19,7 @@ returns-in-Ok-clause-contracts c =
     contracts_founded c.args.world.now c.install.new.self c.args.from.now c.args.hash c.args.balance c.args.script c.args.storage c.in-Ok.ensures.answer.1
 
 pub returns-in-Err-BalanceTooLow-clause-ends : goal.returns-in-Err-BalanceTooLow-clause-ends
-returns-in-Err-BalanceTooLow-clause-ends c = λ w gas counts p.
+returns-in-Err-BalanceTooLow-clause-ends c = λ prices w gas group counts p.
     let low = rw c.in-Err-BalanceTooLow.field-0-is at c.in-Err-BalanceTooLow.ensures.answer in
-    founds_too_much c.args.world.now c.install.new.self w c.args.from.now c.args.hash c.args.balance c.args.script c.args.storage c.install.new.self gas counts
+    founds_too_much c.args.world.now c.install.new.self w c.args.from.now c.args.hash c.args.balance c.args.script c.args.storage (setting_of prices group c.args.source.now) c.install.new.self gas counts
     failures.BalanceTooLow p low.0 refl
