@@ -1,5 +1,5 @@
 -- Operations with all that they emit, on their way and at their end (Octez "Operations", the order of internal operations).
-use Rattle.std.specs.Prelude.{◌≡◌, ◌≤◌, ◌+◌, ◌-◌, ℕ, List, [], ◌∷◌, ◌++◌, map, Result, Ok, Err, Bool, true, false}
+use Rattle.std.specs.Prelude.{◌≡◌, ◌≤◌, ◌+◌, ◌-◌, ℕ, Option, Some, None, List, [], ◌∷◌, ◌++◌, map, Result, Ok, Err, Bool, true, false}
 use Rattle.rules_world.specs.world.Receipts.{Effect}
 use Rattle.rules_world.specs.world.Groups.{setting_of}
 use Rattle.rules_world.specs.world.World.{World as PlainWorld}
@@ -26,6 +26,11 @@ use Rattle.mich_group.specs.Waiting.{all_sent}
 use Rattle.mich_group.specs.declared.tree.TreeError.{TreeError}
 use Rattle.mich_group.specs.declared.tree.TreeError.TheVariants as tree
 use Rattle.mich_group.specs.declared.waiting.Sent.{Sent}
+
+-- what an operation did, and the growth of its contract
+abbrev pub with_growth : Done → Option Done → List Done
+with_growth done (Some growth) = done ∷ growth ∷ []
+with_growth done None = done ∷ []
 
 -- ---- on its way
 
@@ -96,7 +101,7 @@ Steps costs source v waiting gas counts z left now ss before after r =
     (start w : PlainWorld) (contents : ℕ) →
     Goes start (setting_in costs counts source) contents v w (all_sent v.store.bases.present waiting) (counts_of counts) →
     StepsTo (setting_in costs counts source) w (all_sent v.store.bases.present waiting) gas (counts_of counts)
-      z left (counts_of now) ss before after r
+    z left (counts_of now) ss before after r
 
 -- no operation waits, before or after, and nothing is changed
 abbrev pub NoneWaits : List Sent → World → ℕ → Counts → List Done → List Sent → World → ℕ → Counts → List Done → Type 0
@@ -142,9 +147,9 @@ WalksOn costs source all v waiting gas counts before z left now after r =
     (start w : PlainWorld) (contents : ℕ) →
     Goes start (setting_in costs counts source) contents v w (all_sent v.store.bases.present waiting) (counts_of counts) →
     WalksAs
-      (behind_all (map effect before) 1
-        (rules.tree_within (all - 1) (setting_in costs counts source) w (all_sent v.store.bases.present waiting) gas (counts_of counts)))
-      z left counts now after r
+    (behind_all (map effect before) 1
+    (rules.tree_within (all - 1) (setting_in costs counts source) w (all_sent v.store.bases.present waiting) gas (counts_of counts)))
+    z left counts now after r
 
 -- what holds where memory sufficed
 abbrev pub WithMemory : {U : Type 0} → Result U TreeError → Type 0 → Type 0

@@ -1,10 +1,8 @@
 // The next operation.
-ghost use Rattle.std.specs.Prelude.{◌≡◌, ◌∷◌, ◌++◌, [], map, Ok, true, false, IfOk, OnOk};
+ghost use Rattle.std.specs.Prelude.{◌≡◌, ◌∷◌, ◌++◌, [], Ok, true, false, IfOk, OnOk};
 ghost use Rattle.mich_machine.specs.Calls.{IsHosting};
 ghost use Rattle.mich_world.specs.Marks.{KeepsWorld};
-ghost use Rattle.mich_group.specs.Trees.{Acts, NoneWaits, SomeGoing, Steps, OnStep, alone};
-ghost use Rattle.mich_operations.specs.Going.{grown};
-ghost use Rattle.mich_ops.specs.View.{effect};
+ghost use Rattle.mich_group.specs.Trees.{Acts, NoneWaits, SomeGoing, Steps, OnStep, alone, with_growth};
 ghost use Rattle.mich_group.specs.Waiting.{AreHanded, all_sent};
 
 use crate::waiting::{Sent, send};
@@ -19,7 +17,7 @@ use std::alloc::Global;
 
 // Adds what an operation did, and the growth of its contract.
 fn tell(effects: &mut Rows<Effect>, done: Effect, growth: Option<Effect>) -> Result<(), Memory>
-    ensures { IfOk result (λ _. map effect effects.new ≡ map effect effects.old ++ effect done ∷ grown growth) }
+    ensures { IfOk result (λ _. effects.new ≡ effects.old ++ with_growth done growth) }
 {
     effects.push(done)?;
     if let Some(grew) = growth {

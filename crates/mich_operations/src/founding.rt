@@ -31,7 +31,7 @@ use mich_term::Value;
 use mich_world::{MoveError, World};
 use std::alloc::Global;
 
-// A contract of these 20 bytes is made, whose balance a place pays, and all of it to the source's charge.
+// A contract of these 20 bytes is made, whose balance a place pays; what it takes is charged to the source.
 pub(crate) fn found(
     alloc: Global,
     world: &mut World,

@@ -4,7 +4,7 @@ ghost use Rattle.rules_text.specs.nodes.Limits.{most_mutez};
 ghost use Rattle.mich_forms.specs.declared.places.Place.TheVariants as place;
 ghost use Rattle.mich_base.specs.undo.History.{grown, Keeps};
 ghost use Rattle.mich_world.specs.Answers.{IsGrant, IsMove, IsFee, IsPayment};
-ghost use Rattle.mich_world.specs.Holders.{IsSound, account_at, contract_at, balance_or_none, may_receive, total, with_balance, with_less, moved, fee_taken, endowed, burnt, owed, storage_paid, founded, committed};
+ghost use Rattle.mich_world.specs.Holders.{IsSound, account_at, contract_at, balance_or_none, may_receive, total, with_balance, with_less, moved, fee_taken, endowed, owed, storage_paid, founded, committed};
 
 use crate::contract::Contract;
 use crate::errors::{GrantError, MoveError};

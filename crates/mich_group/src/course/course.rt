@@ -119,9 +119,9 @@ impl Course {
         Ok(Some(receipt))
     }
 
-    /// The next statement: the rate of storage or prices are set, an account is made, a block begins, or a group is applied, whose receipt is answered. A
-    /// statement is refused exactly where the rules refuse it. After a refusal, and after Memory, the course is given up (this host's
-    /// own).
+    /// The next statement: the rate of storage or prices are set, an account is made, a block begins, or a group is applied, whose
+    /// receipt is answered. A statement is refused exactly where the rules refuse it. After a refusal, and after Memory, the course is
+    /// given up (this host's own).
     pub fn take(
         &mut self,
         alloc: Global,
