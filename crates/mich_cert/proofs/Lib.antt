@@ -19,3 +19,4 @@ pub mod Dips
 pub mod Plain
 pub mod Small
 pub mod Lambdas
+pub mod Maps
