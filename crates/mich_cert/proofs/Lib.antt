@@ -20,3 +20,4 @@ pub mod Plain
 pub mod Small
 pub mod Lambdas
 pub mod Maps
+pub mod Straight

@@ -10,7 +10,7 @@ use Rattle.rules_code.specs.typing.Typing.{Typing, goes, fails, bad, shift, in_b
 use Rattle.rules_certificate.specs.Derivation.{Entry, before, end, failing, tree_entries, trees_entries, block_entries}
 use Rattle.rules_certificate.specs.Derivation as derivation
 use Rattle.laws_data.proofs.types_lemmas.ForCallers.{same_kinds_refl, same_kinds_true}
-use Rattle.mich_cert.specs.Walk.{same_entry, past, told, is_stack, is_no_stack, ends_so, Ended, ended, Confirmed, confirmed, rest_of, block_of, body_of, inner, leading, step_of}
+use Rattle.mich_cert.specs.Walk.{same_entry, past, told, is_stack, is_no_stack, ends_so, Ended, ended, Confirmed, confirmed, rest_of, block_of, own_entry, last_entry, body_of, inner, leading, step_of}
 
 -- ---- entries
 
@@ -171,15 +171,14 @@ stepped_is t ts block at c B es =
 
 -- the next instruction of a block, with its entry first
 abbrev pub next_step : Tree → Trees → ℕ → ℕ → Context → List Entry → Option Ended
-next_step t ts block at c (before l B ∷ es) = cond (at == l) (stepped t ts block at c B es) None
-next_step t ts block at c es = None
+next_step t ts block at c es = option_and_then (λ p. stepped t ts block at c p.0 p.1) (own_entry at es)
 
-first_step : (t : Tree) (ts : Trees) (block at : ℕ) (c : Context) (l : ℕ) (B : List Kind) (es : List Entry) (q : Bool) →
+first_step : (t : Tree) (ts : Trees) (block at : ℕ) (c : Context) (B : List Kind) (es : List Entry) (q : Bool) →
     ended (trees_type (more t ts) c B)
         (cond (q && true) (past (inner t at c B ++ derivation.behind block (tree_type t c B) (λ C. trees_entries ts block (at + size t) c C)) es) None)
-    ≡ cond q (stepped t ts block at c B es) None
-first_step t ts block at c l B es true = stepped_is t ts block at c B es
-first_step t ts block at c l B es false = ended_none (trees_type (more t ts) c B)
+    ≡ option_and_then (λ p. stepped t ts block at c p.0 p.1) (cond q (Some (B, es)) None)
+first_step t ts block at c B es true = stepped_is t ts block at c B es
+first_step t ts block at c B es false = ended_none (trees_type (more t ts) c B)
 
 pub block_step : (t : Tree) (ts : Trees) (block at : ℕ) (c : Context) (es : List Entry) → rest_of (more t ts) block at c false es ≡ next_step t ts block at c es
 block_step t ts block at c [] = refl
@@ -191,13 +190,9 @@ block_step t ts block at c (before l B ∷ es) =
     let K : List Entry = derivation.behind block (tree_type t c B) (λ C. trees_entries ts block (at + size t) c C) in
     ap (λ D. ended (trees_type (more t ts) c B) (past (D ++ K) (before l B ∷ es))) (tree_first t at c B)
     ∙ ap (λ q. ended (trees_type (more t ts) c B) (cond (at == l && q) (past (inner t at c B ++ K) es) None)) (same_kinds_refl B)
-    ∙ first_step t ts block at c l B es (at == l)
+    ∙ first_step t ts block at c B es (at == l)
 
--- the end of a block
-abbrev pub last_entry : ℕ → Bool → List Entry → Option Ended
-last_entry block false (end l B ∷ es) = cond (block == l) (Some record { ends = Some B; rest = es }) None
-last_entry block true (failing l ∷ es) = cond (block == l) (Some record { ends = None; rest = es }) None
-last_entry block q es = None
+-- ---- the end of a block
 
 end_there : (B : List Kind) (es : List Entry) (q : Bool) →
     ended (goes B) (cond (q && true) (Some es) None) ≡ cond q (Some record { ends = Some B; rest = es }) None

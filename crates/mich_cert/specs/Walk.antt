@@ -85,6 +85,17 @@ rest_of (more t ts) block at c true es = None
 abbrev pub block_of : Trees → ℕ → Context → List Entry → Option Confirmed
 block_of ts at c es = option_and_then (λ A. confirmed A (rest_of ts at (at + 1) c false es)) (told es)
 
+-- the stack that the entry of an instruction at a location tells, and the entries behind it
+abbrev pub own_entry : ℕ → List Entry → Option (List Kind × List Entry)
+own_entry at (before l A ∷ es) = cond (at == l) (Some (A, es)) None
+own_entry at es = None
+
+-- the end of the block at a location, or of one that fails
+abbrev pub last_entry : ℕ → Bool → List Entry → Option Ended
+last_entry block false (end l B ∷ es) = cond (block == l) (Some record { ends = Some B; rest = es }) None
+last_entry block true (failing l ∷ es) = cond (block == l) (Some record { ends = None; rest = es }) None
+last_entry block fails es = None
+
 -- a node as a body
 abbrev pub body_of : Tree → ℕ → Context → List Entry → Option Confirmed
 body_of (seq ts) at c es = block_of ts at c es
