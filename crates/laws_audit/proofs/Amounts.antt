@@ -1,12 +1,12 @@
 -- The amounts in receipts are in their ranges.
-use Rattle.std.proofs.Common.{◌≡◌, ◌≤◌, ◌+◌, ℕ, zero, suc, Bool, true, false, cond, ◌||◌, Option, Some, None, List, [], ◌∷◌, ◌++◌, map, length, refl, subst, arith}
+use Rattle.std.proofs.Common.{◌≡◌, ◌≤◌, ◌+◌, ℕ, zero, suc, Bool, true, false, cond, ◌||◌, Option, Some, None, List, [], ◌∷◌, ◌++◌, map, length, refl, sym, subst, arith}
 use Rattle.std.specs.Prelude.{◌-◌, nat_le, nat_lt, unsigned_abs}
 use Rattle.std.specs.List.{All, AllByRecursion}
 use Rattle.std.specs.Str.{bytes_eq}
 use Rattle.std.proofs.lemmas.List.Elements.{All-head, All-tail}
 use Rattle.rules_text.specs.nodes.Limits.{most_mutez}
 use Rattle.rules_text.specs.nodes.Tree.{Tree}
-use Rattle.rules_data.specs.forms.Spelling.{is_implicit, is_contract, is_place, implicit_place, default_name}
+use Rattle.rules_data.specs.forms.Spelling.{is_implicit, is_contract, is_place, contract_place, implicit_place, default_name}
 use Rattle.rules_data.specs.gas.Prices.{Listed, cost}
 use Rattle.rules_data.specs.declared.gas.Kind.TheVariants as price
 use Rattle.rules_data.specs.types.Attributes.{comparable}
@@ -23,6 +23,7 @@ use Rattle.rules_code.specs.steps.Changes.{Change}
 use Rattle.rules_code.specs.steps.Failure.{Failure}
 use Rattle.rules_code.specs.evaluation.Operations.{transfer, origination, event}
 use Rattle.rules_code.specs.evaluation.Contracts.{hash_in}
+use Rattle.rules_code.specs.evaluation.Surroundings.{Contract}
 use Rattle.rules_code.specs.typing.Scripts.{Script}
 use Rattle.rules_code.specs.typing.Nodes.{script}
 use Rattle.rules_world.specs.world.Contents.{Originate, Call, Give, Content}
@@ -31,8 +32,9 @@ use Rattle.rules_world.specs.world.Good.{IsGoodWaiting}
 use Rattle.rules_world.specs.world.Laws.{IsGroup}
 use Rattle.rules_world.specs.world.Receipts.{Effect, GroupFault, Status, Applied, Backtracked, Failed, Skipped, Receipt, Refused, Done}
 use Rattle.rules_world.specs.world.Receipts as receipts
-use Rattle.rules_world.specs.world.World.{World}
+use Rattle.rules_world.specs.world.World.{World, contract_at}
 use Rattle.rules_world.specs.world.Balances.{balance_or_none, moved}
+use Rattle.rules_world.specs.world.Growth.{Burn, burn_of, burning, burnt_from, growing, unless_short, with_paid}
 use Rattle.rules_world.specs.world.Outcomes.{Setting, Counts, no_counts, Waiting, ordered, issued, Outcome, applied, failed, stuck, charged_by}
 use Rattle.rules_world.specs.world.Targets.{Target, Search, met, on_met, search}
 use Rattle.rules_world.specs.world.Runs.{Ended, finished, run_failed, run_stuck, with_effect, run, run_in, environment_of}
@@ -61,9 +63,44 @@ HasRange (receipts.Transfer sender destination amount argument changes) = IsAmou
 HasRange (receipts.Give sender destination issuer kind content amount changes) = (is_place issuer ≡ true) × (is_ticket_amount amount ≡ true)
 HasRange (receipts.Origination sender address amount) = IsAmount amount
 HasRange (receipts.Event sender tag kind value) = Unit {0}
+HasRange (receipts.Storage address bytes burn) = IsAmount burn
+
+-- the same, where no more than so much is burnt
+abbrev IsWithin : ℕ → Effect → Type 0
+IsWithin n (receipts.Transfer sender destination amount argument changes) = IsAmount amount
+IsWithin n (receipts.Give sender destination issuer kind content amount changes) = (is_place issuer ≡ true) × (is_ticket_amount amount ≡ true)
+IsWithin n (receipts.Origination sender address amount) = IsAmount amount
+IsWithin n (receipts.Event sender tag kind value) = Unit {0}
+IsWithin n (receipts.Storage address bytes burn) = burn ≤ n
+
+within_range : (n : ℕ) (e : Effect) → IsAmount n → IsWithin n e → HasRange e
+within_range n (receipts.Transfer sender destination amount argument changes) small h = h
+within_range n (receipts.Give sender destination issuer kind content amount changes) small h = h
+within_range n (receipts.Origination sender address amount) small h = h
+within_range n (receipts.Event sender tag kind value) small h = tt
+within_range n (receipts.Storage address bytes burn) small h = omega (arith, small, h)
+
+within_more : (n m : ℕ) (e : Effect) → n ≤ m → IsWithin n e → IsWithin m e
+within_more n m (receipts.Transfer sender destination amount argument changes) more h = h
+within_more n m (receipts.Give sender destination issuer kind content amount changes) more h = h
+within_more n m (receipts.Origination sender address amount) more h = h
+within_more n m (receipts.Event sender tag kind value) more h = tt
+within_more n m (receipts.Storage address bytes burn) more h = omega (arith, more, h)
+
+all_ranges : (n : ℕ) (es : List Effect) → IsAmount n → AllByRecursion (IsWithin n) es → AllByRecursion HasRange es
+all_ranges n [] small h = tt
+all_ranges n (e ∷ es) small h = (within_range n e small h.0, all_ranges n es small h.1)
+
+all_more : (n m : ℕ) (es : List Effect) → n ≤ m → AllByRecursion (IsWithin n) es → AllByRecursion (IsWithin m) es
+all_more n m [] more h = tt
+all_more n m (e ∷ es) more h = (within_more n m e more h.0, all_more n m es more h.1)
+
+pub all_append : {X : Type 0} (P : X → Type 0) (xs ys : List X) → AllByRecursion P xs → AllByRecursion P ys → AllByRecursion P (xs ++ ys)
+all_append P [] ys h g = g
+all_append P (x ∷ xs) ys h g = (h.0, all_append P xs ys h.1 g)
 
 abbrev Ranged : Outcome → Type 0
-Ranged (applied a) = AllByRecursion HasRange a.effects
+Ranged (applied a) = AllByRecursion (IsWithin a.world.storage_burn) a.effects
 Ranged (failed f) = Unit {0}
 Ranged stuck = Unit {0}
 
@@ -82,14 +119,44 @@ ranged_met : (m : Search) (next : Target → Outcome) → ((t : Target) → Rang
 ranged_met (met t) next h = h t
 ranged_met _ next h = tt
 
-ranged_effect : (hash : List ℕ) (effect : List Change → Effect) → ((cs : List Change) → HasRange (effect cs)) → (e : Ended) → Ranged (with_effect hash effect e)
-ranged_effect hash effect h (finished f) = (h f.changes, tt)
+ranged_effect : (hash : List ℕ) (effect : List Change → Effect) → ((n : ℕ) (cs : List Change) → IsWithin n (effect cs)) → (e : Ended) → Ranged (with_effect hash effect e)
+ranged_effect hash effect h (finished f) = (h f.world.storage_burn f.changes, tt)
 ranged_effect hash effect h (run_failed f) = tt
 ranged_effect hash effect h run_stuck = tt
 
-ranged_run : (s : Setting) (w : World) (c : runs.Call) (gas : ℕ) (counts : Counts) (effect : List Change → Effect) → ((cs : List Change) → HasRange (effect cs)) →
+-- what is burnt is among all that was burnt
+paid_burn : (w : World) (hash : List ℕ) (bytes : ℕ) (c : Option Contract) → (with_paid w hash bytes c).storage_burn ≡ w.storage_burn
+paid_burn w hash bytes (Some c) = refl
+paid_burn w hash bytes None = refl
+
+ranged_growing : (s : Setting) (hash : List ℕ) (o : Outcome) → Ranged o → Ranged (growing s hash o)
+ranged_growing s hash (applied a) h = by (burn_of a.world hash)
+  where
+    payer : List ℕ
+    payer = implicit_place s.source
+
+    paid : (b : Burn) (short : Bool) → Ranged (unless_short short payer hash b a)
+    paid b true = tt
+    paid b false =
+        let x = burnt_from a.world payer b.mutez in
+        let all : a.world.storage_burn + b.mutez ≡ (with_paid x hash b.bytes (contract_at x hash)).storage_burn = sym (paid_burn x hash b.bytes (contract_at x hash)) in
+        let fits : b.mutez ≤ a.world.storage_burn + b.mutez = omega arith in
+        let more : a.world.storage_burn ≤ a.world.storage_burn + b.mutez = omega arith in
+        subst (λ n. AllByRecursion (IsWithin n) (a.effects ++ receipts.Storage (contract_place hash) b.bytes b.mutez ∷ [])) all
+        (all_append (IsWithin (a.world.storage_burn + b.mutez)) a.effects (receipts.Storage (contract_place hash) b.bytes b.mutez ∷ [])
+        (all_more a.world.storage_burn (a.world.storage_burn + b.mutez) a.effects more h) (fits, tt))
+
+    by : (b : Option Burn) → Ranged (burning b payer hash a)
+    by (Some b) = paid b (nat_lt (balance_or_none a.world payer) b.mutez)
+    by None = h
+ranged_growing s hash (failed f) h = tt
+ranged_growing s hash stuck h = tt
+
+ranged_run : (s : Setting) (w : World) (c : runs.Call) (gas : ℕ) (counts : Counts) (effect : List Change → Effect) → ((n : ℕ) (cs : List Change) → IsWithin n (effect cs)) →
     Ranged (run s w c gas counts effect)
-ranged_run s w c gas counts effect h = ranged_effect c.target.hash effect h (run_in (environment_of s w c) s w c.target c.argument gas counts)
+ranged_run s w c gas counts effect h =
+    ranged_growing s c.target.hash (with_effect c.target.hash effect (run_in (environment_of s w c) s w c.target c.argument gas counts))
+    (ranged_effect c.target.hash effect h (run_in (environment_of s w c) s w c.target c.argument gas counts))
 
 -- ---- transfers
 
@@ -103,7 +170,7 @@ module _ (s : Setting) (w : World) (t : Transaction) (most : IsAmount t.amount) 
   ranged_taken None gas counts = tt
 
   ranged_covered : (b : Bool) (target : Target) (v : Val) (gas : ℕ) (counts : Counts) → Ranged (if_covered b s w t target v gas counts)
-  ranged_covered true target v gas counts = ranged_run s (moved w t.sender t.destination t.amount) (record { target = target; sender = t.sender; amount = t.amount; argument = v }) gas counts (transfer_effect t v) (λ cs. most)
+  ranged_covered true target v gas counts = ranged_run s (moved w t.sender t.destination t.amount) (record { target = target; sender = t.sender; amount = t.amount; argument = v }) gas counts (transfer_effect t v) (λ n cs. most)
   ranged_covered false target v gas counts = tt
 
   ranged_argument : (q : Found Val) (target : Target) (gas : ℕ) (counts : Counts) → Ranged (with_argument q s w t target gas counts)
@@ -144,7 +211,7 @@ module _ (s : Setting) (w : World) where
 
   ranged_to_contract : (b : Bool) (g : Gift) (target : Target) (gas : ℕ) (counts : Counts) → IsOffered (Some g.ticket) → Ranged (given_to_contract b s w g target gas counts)
   ranged_to_contract true g target gas counts h = tt
-  ranged_to_contract false g target gas counts h = ranged_run s (debited w s.source g.ticket) (record { target = target; sender = implicit_place s.source; amount = 0; argument = as_value g.ticket }) gas counts (give_effect s g) (λ cs. h)
+  ranged_to_contract false g target gas counts h = ranged_run s (debited w s.source g.ticket) (record { target = target; sender = implicit_place s.source; amount = 0; argument = as_value g.ticket }) gas counts (give_effect s g) (λ n cs. h)
 
   ranged_wanted : (b : Bool) (g : Gift) (target : Target) (gas : ℕ) (counts : Counts) → IsOffered (Some g.ticket) → Ranged (if_wanted b s w g target gas counts)
   ranged_wanted true g target gas counts h = ranged_to_contract (is_short s w g) g target gas counts h
@@ -169,16 +236,17 @@ module _ (s : Setting) (w : World) where
 
   ranged_storage : (q : Found Val) (balance : ℕ) (t : Tree) (gas : ℕ) (counts : Counts) → IsAmount balance → Ranged (with_storage q s w balance t gas counts)
   ranged_storage (found v) balance t gas counts h =
-      ranged_founding (nat_lt (balance_or_none w (implicit_place s.source)) balance) (founding_of s counts balance t v) gas (one_more counts) h
+      ranged_growing s (founding_of s counts balance t v).hash _
+      (ranged_founding (nat_lt (balance_or_none w (implicit_place s.source)) balance) (founding_of s counts balance t v) gas (one_more counts) h)
   ranged_storage (fault l) balance t gas counts h = tt
 
   ranged_script : (q : Found Script) (balance : ℕ) (t storage : Tree) (gas : ℕ) (counts : Counts) → IsAmount balance → Ranged (with_script q s w balance t storage gas counts)
   ranged_script (found a) balance t storage gas counts h = ranged_storage (literal_in w a.storage storage) balance t gas counts h
   ranged_script (fault l) balance t storage gas counts h = tt
 
-  ranged_delegate : (o : Option (List ℕ)) (f : Founding) (gas : ℕ) (counts : Counts) → IsAmount f.balance → Ranged (unless_delegated o w f gas counts)
+  ranged_delegate : (o : Option (List ℕ)) (f : Founding) (gas : ℕ) (counts : Counts) → IsAmount f.balance → Ranged (unless_delegated s o w f gas counts)
   ranged_delegate (Some d) f gas counts h = tt
-  ranged_delegate None f gas counts h = ranged_founding (nat_lt (balance_or_none w f.sender) f.balance) f gas counts h
+  ranged_delegate None f gas counts h = ranged_growing s f.hash _ (ranged_founding (nat_lt (balance_or_none w f.sender) f.balance) f gas counts h)
 
   -- ---- operations
 
@@ -205,10 +273,6 @@ module _ (s : Setting) (w : World) where
       ranged_charged (nat_lt gas (cost s.prices price.Event 0)) (gas - cost s.prices price.Event 0) (λ left. event_told w sender tag kind v left counts) (λ left. (tt, tt))
 
 -- ---- trees
-
-pub all_append : {X : Type 0} (P : X → Type 0) (xs ys : List X) → AllByRecursion P xs → AllByRecursion P ys → AllByRecursion P (xs ++ ys)
-all_append P [] ys h g = g
-all_append P (x ∷ xs) ys h g = (h.0, all_append P xs ys h.1 g)
 
 abbrev RangedWalk : Walk → Type 0
 RangedWalk (completed last) = AllByRecursion HasRange last.effects
@@ -246,7 +310,10 @@ module _ (start : World) (s : Setting) (set : IsSetting s) where
         ((x : World) (ops : List Waiting) (gas : ℕ) (counts : Counts) → IsGoing start s.group contents x ops counts → RangedWalk (again x ops gas counts)) →
         RangedWalk (with_emitted o waiting again)
     emitted_ranged waiting (applied a) again r g h =
-        behind_ranged a.effects (again a.world (a.emitted ++ waiting) a.gas a.counts) r (h a.world (a.emitted ++ waiting) a.gas a.counts g)
+        let mutez = g.good.sound.mutez in
+        let small : IsAmount a.world.storage_burn = omega (arith, mutez) in
+        behind_ranged a.effects (again a.world (a.emitted ++ waiting) a.gas a.counts) (all_ranges a.world.storage_burn a.effects small r)
+        (h a.world (a.emitted ++ waiting) a.gas a.counts g)
     emitted_ranged waiting (failed f) again r g h = tt
     emitted_ranged waiting stuck again r g h = tt
 
@@ -322,6 +389,7 @@ effect_is (receipts.Transfer sender destination amount argument changes) h c = (
 effect_is (receipts.Give sender destination issuer kind content amount changes) h c = (h.0, h.1, c)
 effect_is (receipts.Origination sender address amount) h c = h
 effect_is (receipts.Event sender tag kind value) h c = tt
+effect_is (receipts.Storage address bytes burn) h c = h
 
 effects_are : (es : List Effect) → AllByRecursion HasRange es → AllByRecursion IsChange (effects_changes es) → AllByRecursion IsEffect es
 effects_are [] h c = tt

@@ -1,28 +1,25 @@
 -- What a file comes to is in order.
-use Rattle.std.proofs.Common.{◌≡◌, ◌≤◌, ◌<◌, ◌+◌, ◌-◌, ◌^◌, ℕ, Bool, true, false, cond, inl, inr, Option, Some, None, List, [], ◌∷◌, ◌++◌, length, drop, refl, sym, ap, ◌∙◌, subst, arith}
-use Rattle.std.specs.Prelude.{Result, Ok, Err, ℤ, nat_le, is_some}
+use Rattle.std.proofs.Common.{◌≡◌, ◌≤◌, ◌<◌, ◌+◌, ◌^◌, ℕ, Bool, true, false, cond, inl, inr, Option, Some, None, List, [], ◌∷◌, ◌++◌, length, refl, sym, ap, ◌∙◌, subst, arith}
+use Rattle.std.specs.Prelude.{Result, Ok, Err, ℤ, ◌&&◌, nat_le, is_none, is_some}
 use Rattle.std.specs.List.{AllByRecursion}
-use Rattle.std.proofs.lemmas.List.{length-append, length-drop}
-use Rattle.rules_text.specs.nodes.Limits.{file_limit, most_mutez}
+use Rattle.std.proofs.lemmas.List.{length-append}
+use Rattle.rules_text.specs.nodes.Limits.{most_mutez}
 use Rattle.rules_text.specs.nodes.Tree.{Tree, size}
 use Rattle.rules_data.specs.gas.Prices.{Listed}
 use Rattle.rules_data.specs.gas.Tables.{table_of}
-use Rattle.rules_text.specs.declared.text.TextKind.TheVariants.{TooLong}
-use Rattle.rules_text.specs.text.Text.{past_limit, IsNode}
-use Rattle.rules_files.specs.statements.Statements.{Statement, Chain, Costs, Account, Block, Group, form}
+use Rattle.rules_files.specs.statements.Statements.{Statement, Chain, Profile, Costs, Account, Block, Group, form}
 use Rattle.rules_world.specs.world.Laws.{IsGroup}
 use Rattle.rules_world.specs.world.Receipts.{Receipt}
 use Rattle.rules_world.specs.world.World.{World, account_at}
 use Rattle.rules_world.specs.world.Contents.{Content}
 use Rattle.rules_world.specs.world.Balances.{Granted, Repeated, TooMuch, endowed}
 use Rattle.rules_world.specs.world.Groups.{Settled, group}
-use Rattle.rules_files.specs.course.Course.{Course, Step, goes_on, stops, stuck_step, with_prices, costs_step, granting, is_later, timed, numbered, step_behind, first_step}
+use Rattle.rules_files.specs.course.Course.{Course, Step, goes_on, stops, stuck_step, with_rate, with_prices, costs_step, granting, is_later, timed, numbered, step_behind, first_step}
 use Rattle.rules_files.specs.course.Ranges.{IsStatement}
-use Rattle.rules_files.specs.commands.Places.{Placed, IsNodeAt, AreStatements}
+use Rattle.rules_files.specs.commands.Places.{Placed}
 use Rattle.rules_files.specs.commands.Replay.{Replay, Ending, State, RefusedAt, step, Run, going, stopped, stuck_run, continued, taken, run_one, run_all, ending_of, Closes}
-use Rattle.mich_text.proofs.ForCallers.{gap_le, stands_fits, split}
 use Rattle.laws_files.specs.Laws.{IsGoodCourse, StaysGood, granted_by}
-use Rattle.laws_files.proofs.ForCallers.{statements_have_ranges, courses_begin_good, courses_stay_good}
+use Rattle.laws_files.proofs.ForCallers.{statements_have_ranges, statements_are_small, courses_begin_good, courses_stay_good}
 use Rattle.laws_world.specs.runs.Worlds.{IsWhole}
 use Rattle.laws_audit.specs.Receipts.{IsReceipt}
 use Rattle.laws_audit.specs.Files.{FilesEndGood, PlainRunsAgree}
@@ -53,6 +50,10 @@ ranged_costs : (b : Bool) (c : Course) (table : Tree) → HasRanges (costs_step 
 ranged_costs true c table = ranged_prices c (table_of table)
 ranged_costs false c table = tt
 
+ranged_profile : (c : Course) (rate : ℕ) (b : Bool) → HasRanges (cond b (goes_on (with_rate c rate) []) (stops Rattle.rules_files.specs.course.Course.BadOrder))
+ranged_profile c rate true = tt
+ranged_profile c rate false = tt
+
 ranged_grant : (c : Course) (who : List ℕ) (mutez : ℕ) (a b : Bool) → HasRanges (granting c (cond a Repeated (cond b (Granted (endowed c.world who mutez)) TooMuch)))
 ranged_grant c who mutez true b = tt
 ranged_grant c who mutez false true = tt
@@ -80,7 +81,8 @@ may_settle c source contents g few s = record {
 
 ranged_step : (c : Course) (s : Statement) → IsGoodCourse c → c.groups + 1 < 2 ^ 64 → IsStatement s → HasRanges (step_behind c s)
 ranged_step c (Chain id level moment) g few i = tt
-ranged_step c (Costs table) g few i = ranged_costs c.only_chain c table
+ranged_step c (Profile rate) g few i = ranged_profile c rate (c.at_head && is_none c.world.rate)
+ranged_step c (Costs table) g few i = ranged_costs c.at_head c table
 ranged_step c (Account who mutez) g few i = ranged_grant c who mutez (is_some (account_at c.world who)) (nat_le (c.world.granted + mutez) most_mutez)
 ranged_step c (Block level moment) g few i = ranged_block c level moment (is_later c.world level moment)
 ranged_step c (Group source contents) g few i =
@@ -89,6 +91,7 @@ ranged_step c (Group source contents) g few i =
 
 ranged_first : (s : Statement) → HasRanges (first_step s)
 ranged_first (Chain id level moment) = tt
+ranged_first (Profile rate) = tt
 ranged_first (Costs table) = tt
 ranged_first (Account who mutez) = tt
 ranged_first (Block level moment) = tt
@@ -137,49 +140,6 @@ all_stay (s ∷ ss) most r small room h =
     let counts : most + 1 + length ss ≡ most + length (s ∷ ss) = omega arith in
     subst (λ (n : ℕ). Stays n (run_all (run_one r s) ss)) counts rest
 
--- ---- sizes
-
-size_some : (t : Tree) → 1 ≤ size t
-size_some (Tree.int n) = omega arith
-size_some (Tree.str s) = omega arith
-size_some (Tree.bytes b) = omega arith
-size_some (Tree.prim name annots ts) = omega arith
-size_some (Tree.seq ts) = omega arith
-
-further : (file : List ℕ) (place : ℕ) (tree : Tree) (first behind : ℕ) → place ≤ length file → IsNodeAt file place tree first behind →
-    (place < behind) × (size tree + place ≤ behind) × (behind ≤ length file)
-further file place tree first behind within node =
-    let stands = node.2.stands in
-    let begins : node.0 ≤ length (drop place file) = omega (arith, stands.start_is, gap_le (drop place file) stands.first stands.begins) in
-    let fits : size tree + place ≤ behind =
-    omega (arith, stands_fits (drop place file) tree node.0 node.1 stands, begins, length-drop place file, within, node.4) in
-    (omega (arith, size_some tree, fits), fits, omega (arith, node.4))
-
-limit_le : (place : ℕ) (held : List ℕ) (t : Tree) (start end at : ℕ) → place ≤ file_limit → IsNode place held t start end → at + end ≡ place + length held → at ≤ file_limit
-limit_le place held t start end at before n e = elim (split (place + length held) file_limit) [
-  | inl h ↦ omega (arith, e, h)
-  | inr h ↦
-      let left = place + length held - file_limit in
-      let behind : left ≤ end = n.clean TooLong left (past_limit (refl, inr (record { left_is = omega (arith, h); some = omega (arith, h); here = omega (arith, before) }))) in
-      omega (arith, e, behind, h)
-]
-
--- statements have fewer nodes than bytes, and there are fewer of them than bytes
-record AreSmall (place : ℕ) (ss : List Placed) (to : ℕ) : Type 0 where
-  nodes : AllByRecursion (λ s. size s.node < 2 ^ 32) ss
-  count : place + length ss ≤ to
-  within : to ≤ file_limit
-
-small : (file : List ℕ) (place : ℕ) (ss : List Placed) (to : ℕ) → place ≤ file_limit → place ≤ length file → AreStatements file place ss to →
-    AreSmall place ss to
-small file place [] to before within e = record { nodes = tt; count = omega (arith, e); within = omega (arith, e, before) }
-small file place (s ∷ ss) to before within (behind, n, tail) =
-    let f = further file place s.node s.place behind within n in
-    let at : behind + n.1 ≡ place + length (drop place file) = omega (arith, n.4, length-drop place file, within) in
-    let near : behind ≤ file_limit = limit_le place (drop place file) s.node n.0 n.1 behind before n.2 at in
-    let rest = small file behind ss to near f.2 tail in
-    record { nodes = (omega (arith, f.1, near), rest.nodes); count = omega (arith, f.0, rest.count); within = rest.within }
-
 -- ---- files
 
 abbrev world_or : World → Ending → World
@@ -208,7 +168,7 @@ closed file to most stuck_run done w c g h = absurd c
 
 pub files_end_good : FilesEndGood
 files_end_good file done w r g =
-    let s = small file 0 r.statements r.to (omega arith) (omega arith) r.stand in
+    let s = statements_are_small file r.statements r.to r.stand in
     let stays = all_stay r.statements 0 (going [] None) s.nodes (omega (arith, s.count, s.within)) (refl, omega arith) in
     closed file r.to (0 + length r.statements) (run_all (going [] None) r.statements) done w r.closes g stays
 

@@ -12,7 +12,7 @@ use Rattle.rules_data.specs.values.Tickets.{Held}
 use Rattle.rules_code.specs.steps.Changes.{Change}
 use Rattle.rules_code.specs.steps.Changes as changes
 use Rattle.rules_world.specs.world.Forms.{IsChange, IsTicket}
-use Rattle.rules_world.specs.world.Receipts.{Effect, Transfer, Give, Origination, Event, Status, Applied, Backtracked, Failed, Skipped, Receipt, Refused, Done}
+use Rattle.rules_world.specs.world.Receipts.{Effect, Transfer, Give, Origination, Event, Storage, Status, Applied, Backtracked, Failed, Skipped, Receipt, Refused, Done}
 use Rattle.rules_world.specs.lines.Nodes.{change_node, effect_node, status_node, receipt_node}
 use Rattle.rules_audit.specs.Fields.{◌>>=◌, only_if, named, Sort, minted, burnt, Part, part, identity, part_of, amount_from, each, change_by, changes_of}
 use Rattle.rules_audit.specs.Lines.{group, with_amount, effect_by, status_by, receipt_of}
@@ -73,6 +73,7 @@ effect_read (Give sender destination issuer kind content amount cs) h =
     ∙ ap (λ o. o >>= λ n. changes_of (seq (trees_of (map change_node cs)))) (given_is amount h.1) ∙ changes_read cs h.2
 effect_read (Origination sender address amount) h = amount_is amount h
 effect_read (Event sender tag kind value) h = refl
+effect_read (Storage address count burn) h = amount_is burn h
 
 effects_read : (es : List Effect) → AllByRecursion IsEffect es → each (named effect_by) (trees_of (map effect_node es)) ≡ Some (parts (effects_changes es))
 effects_read [] h = refl

@@ -1,5 +1,5 @@
 -- The lines that are told of a run agree.
-use Rattle.std.proofs.Common.{◌≡◌, ◌≤◌, ◌+◌, ℕ, Bool, true, false, cond, ◌||◌, Some, None, List, [], ◌∷◌, ◌++◌, map, refl, sym, ap, ◌∙◌, subst, arith}
+use Rattle.std.proofs.Common.{◌≡◌, ◌≤◌, ◌+◌, ℕ, Bool, true, false, cond, ◌||◌, Option, Some, None, is_some, List, [], ◌∷◌, ◌++◌, map, refl, sym, ap, ◌∙◌, subst, arith}
 use Rattle.std.specs.Prelude.{ℤ, pos, ◌+ℤ◌, ◌-ℤ◌, ◌<ℤ◌, unsigned_abs, unwrap_or}
 use Rattle.std.specs.List.{All, AllByRecursion, list_all, list_any}
 use Rattle.std.specs.BTreeMap.{is_at}
@@ -16,6 +16,7 @@ use Rattle.rules_code.specs.steps.Changes.{Change, minted, burnt}
 use Rattle.rules_code.specs.steps.Changes as changes
 use Rattle.rules_world.specs.world.Receipts.{Receipt}
 use Rattle.rules_world.specs.world.World.{World, Account, identity_order}
+use Rattle.rules_world.specs.world.Balances.{supply}
 use Rattle.rules_world.specs.world.Forms.{IsAccount, IsHolding, IsTicket, IsChange}
 use Rattle.rules_world.specs.world.Good.{IsGoodContract, known_with}
 use Rattle.rules_world.specs.world.Holdings.{held, minted_ever, burnt_ever, identities}
@@ -30,7 +31,7 @@ use Rattle.laws_world.proofs.accounts.ForCallers.{alike_equal, ticket_positive, 
 use Rattle.laws_world.proofs.lines_lemmas.ForCallers.{amount_is_told}
 use Rattle.laws_audit.specs.Told.{told}
 use Rattle.laws_audit.specs.FileLogs.{receipts_changes}
-use Rattle.laws_audit.specs.ToldLines.{identity_of, change_part, holding_part, group_lines, account_line, contract_line, ticket_line, end_lines, told_lines}
+use Rattle.laws_audit.specs.ToldLines.{identity_of, change_part, holding_part, group_lines, account_line, contract_line, ticket_line, burn_lines, end_lines, told_lines}
 use Rattle.laws_audit.specs.Follows.{ticket_in, IsPlain}
 use Rattle.laws_audit.specs.Totals.{IsBehind, parts_of}
 use Rattle.laws_audit.specs.Judged.{TicketLinesAgree, TicketsHaveLines, ToldLinesAgree}
@@ -68,9 +69,16 @@ accounts_agree : (ps : List Part) (xs : List (List ℕ × Account)) → AllByRec
 accounts_agree ps [] = tt
 accounts_agree ps (x ∷ xs) = (tt, accounts_agree ps xs)
 
-contracts_agree : (ps : List Part) (xs : List (List ℕ × Contract)) → AllByRecursion (LineAgrees ps) (map contract_line xs)
-contracts_agree ps [] = tt
-contracts_agree ps (x ∷ xs) = (tt, contracts_agree ps xs)
+contracts_agree : (ps : List Part) (rated : Bool) (xs : List (List ℕ × Contract)) → AllByRecursion (LineAgrees ps) (map (contract_line rated) xs)
+contracts_agree ps rated [] = tt
+contracts_agree ps rated (x ∷ xs) = (tt, contracts_agree ps rated xs)
+
+end_agrees : (ps : List Part) (w : World) → AllByRecursion (LineAgrees ps) (end_lines w)
+end_agrees ps w = by w.rate
+  where
+    by : (rate : Option ℕ) → AllByRecursion (LineAgrees ps) (lines.fees w.fees ∷ (burn_lines rate w.storage_burn ++ lines.supply (supply w) ∷ []))
+    by (Some rate) = (tt, (tt, (tt, tt)))
+    by None = (tt, (tt, tt))
 
 -- what was minted is held or was burnt
 pub balance : (rs : List Receipt) (w : World) (id : Identity) → IsBehind rs w → held w id +ℤ pos 0 ≡ minted_ever w id -ℤ burnt_ever w id
@@ -99,8 +107,8 @@ lines_agree rs w h =
     none_wrong ps 1 (told_lines rs w)
     (all_append (LineAgrees ps) (group_lines 1 rs) _ (groups_agree ps 1 rs)
     (all_append (LineAgrees ps) (map account_line w.accounts) _ (accounts_agree ps w.accounts)
-    (all_append (LineAgrees ps) (map contract_line w.contracts) _ (contracts_agree ps w.contracts)
-    (all_append (LineAgrees ps) (map (ticket_line w) (identities w.log)) (end_lines w) (tickets_agree rs w h (identities w.log) (identities_plain w.log h.plain.log)) (tt, (tt, tt))))))
+    (all_append (LineAgrees ps) (map (contract_line (is_some w.rate)) w.contracts) _ (contracts_agree ps (is_some w.rate) w.contracts)
+    (all_append (LineAgrees ps) (map (ticket_line w) (identities w.log)) (end_lines w) (tickets_agree rs w h (identities w.log) (identities_plain w.log h.plain.log)) (end_agrees ps w)))))
 
 -- ---- each ticket has a line
 
@@ -141,7 +149,7 @@ minted_has_line rs w id h c m =
     let among = among_minted id w (identities w.log) (subst (λ n. pos 0 <ℤ n) (sym (amount_is_told w h.good.sound.form id)) m) in
     later _ (group_lines 1 rs) _
     (later _ (map account_line w.accounts) _
-    (later _ (map contract_line w.contracts) _
+    (later _ (map (contract_line (is_some w.rate)) w.contracts) _
     (sooner _ (map (ticket_line w) (identities w.log)) (end_lines w) (lines_among id w (identities w.log) c (identities_plain w.log h.plain.log) ∙ among))))
 
 -- something was minted of what something is told of
@@ -216,20 +224,20 @@ accounts_of_tickets [] p f = tt
 accounts_of_tickets (x ∷ xs) p f =
     all_append IsOfTicket (map holding_part x.1.holdings) _ (holdings_of_tickets x.1.holdings p.0 (All-head IsAccount x xs f).1) (accounts_of_tickets xs p.1 (All-tail IsAccount x xs f))
 
-contracts_of_tickets : (w : World) (xs : List (List ℕ × Contract)) → AllByRecursion (λ c. AllByRecursion IsPlain (tickets c.1.storage)) xs → All (IsGoodContract w) xs →
-    AllByRecursion IsOfTicket (all_parts (map contract_line xs))
-contracts_of_tickets w [] p f = tt
-contracts_of_tickets w (x ∷ xs) p f =
+contracts_of_tickets : (w : World) (rated : Bool) (xs : List (List ℕ × Contract)) → AllByRecursion (λ c. AllByRecursion IsPlain (tickets c.1.storage)) xs → All (IsGoodContract w) xs →
+    AllByRecursion IsOfTicket (all_parts (map (contract_line rated) xs))
+contracts_of_tickets w rated [] p f = tt
+contracts_of_tickets w rated (x ∷ xs) p f =
     let stores = All-head (IsGoodContract w) x xs f in
     all_append IsOfTicket (map told (tickets x.1.storage)) _ (stored_of_tickets (tickets x.1.storage) p.0 (tickets_good (known_with w []) stores.0.storage x.1.storage stores.3))
-    (contracts_of_tickets w xs p.1 (All-tail (IsGoodContract w) x xs f))
+    (contracts_of_tickets w rated xs p.1 (All-tail (IsGoodContract w) x xs f))
 
 pub three_of_tickets : (rs : List Receipt) (w : World) → IsBehind rs w → AllByRecursion IsOfTicket (three rs w)
 three_of_tickets rs w h =
     all_append IsOfTicket (map change_part (receipts_changes rs)) _
     (changes_of_tickets (receipts_changes rs) (subst (λ cs. AllByRecursion (λ c. IsPlain (ticket_in c)) cs) h.log h.plain.log) (subst (λ cs. All IsChange cs) h.log h.good.sound.form.log))
     (all_append IsOfTicket (all_parts (map account_line w.accounts)) _ (accounts_of_tickets w.accounts h.plain.accounts h.good.sound.form.accounts)
-    (contracts_of_tickets w w.contracts h.plain.contracts h.good.sound.contracts))
+    (contracts_of_tickets w (is_some w.rate) w.contracts h.plain.contracts h.good.sound.contracts))
 
 pub have_lines : TicketsHaveLines
 have_lines rs w h =
@@ -239,6 +247,6 @@ have_lines rs w h =
 
 pub told_agree : ToldLinesAgree
 told_agree rs w h =
-    ap (λ b. cond b (unless_wrong (first_wrong (parts_of rs w) 1 (told_lines rs w)) (told_lines rs w)) differs_supply) (supply_told rs w).1
+    ap (λ b. cond b (unless_wrong (first_wrong (parts_of rs w) 1 (told_lines rs w)) (told_lines rs w)) differs_supply) (supply_told rs w h.burns).1
     ∙ ap (λ o. unless_wrong o (told_lines rs w)) (lines_agree rs w h)
     ∙ ap (λ b. cond b agrees differs_missing) (have_lines rs w h)

@@ -17,7 +17,7 @@ use Rattle.laws_audit.specs.Receipts.{IsReceipt}
 use Rattle.laws_audit.specs.States.{state_lines}
 use Rattle.laws_audit.specs.Totals.{IsBehind}
 use Rattle.laws_audit.specs.Runs.{group_nodes, nodes_of, GoodRunsAgree}
-use Rattle.laws_audit.proofs.FileLogs.{files_tell}
+use Rattle.laws_audit.proofs.FileLogs.{files_burn, files_tell}
 use Rattle.laws_audit.proofs.Follows.{lines_follow, tickets_apart}
 use Rattle.laws_audit.proofs.Groups.{group_lines_told}
 use Rattle.laws_audit.proofs.Judged.{told_agree}
@@ -49,7 +49,7 @@ all_told rs w h b =
 
 pub good_runs_agree : GoodRunsAgree
 good_runs_agree file done w r e good plain receipts written short =
-    let b : IsBehind done.receipts w = record { good = good; plain = plain; log = files_tell file done w r e } in
+    let b : IsBehind done.receipts w = record { good = good; plain = plain; log = files_tell file done w r e; burns = files_burn file done w r e } in
     let lines = all_printed done w e in
     let follow = lines_follow done.receipts w (tickets_apart w good.sound.form plain) in
     let verdict = judged (nodes_of done.receipts w) (told_lines done.receipts w) written (subst (λ ls. length (text_of ls) ≤ audit_limit) lines short)

@@ -1,5 +1,5 @@
 -- The lines of a world at its end are told.
-use Rattle.std.proofs.Common.{◌≡◌, ℕ, ◌≤◌, true, false, ◌&&◌, Option, Some, List, [], ◌∷◌, ◌++◌, map, refl, sym, ap, ◌∙◌, arith}
+use Rattle.std.proofs.Common.{◌≡◌, ℕ, ◌≤◌, Bool, true, false, ◌&&◌, Option, Some, None, is_some, List, [], ◌∷◌, ◌++◌, map, refl, sym, ap, ◌∙◌, arith}
 use Rattle.std.specs.Prelude.{ℤ, pos, nat_le, ◌^◌, ◌-◌, codes, unsigned_abs}
 use Rattle.std.specs.List.{AllByRecursion}
 use Rattle.std.proofs.lemmas.Bool.Decides.{nat_tests}
@@ -11,12 +11,12 @@ use Rattle.rules_code.specs.evaluation.Surroundings.{Contract}
 use Rattle.rules_world.specs.world.World.{World, Account}
 use Rattle.rules_world.specs.world.Holdings.{held, minted_ever, burnt_ever, identities}
 use Rattle.rules_world.specs.world.Balances.{supply}
-use Rattle.rules_world.specs.lines.Nodes.{held_node, account_node, contract_node, ticket_node, over, number}
+use Rattle.rules_world.specs.lines.Nodes.{held_node, account_node, burn_nodes, contract_node, ticket_node, over, number}
 use Rattle.rules_audit.specs.Fields.{◌>>=◌, only_if, named, Part, part, identity, amount_from, each, holding_by, holdings_of}
 use Rattle.rules_audit.specs.Fields as fields
 use Rattle.rules_audit.specs.Lines.{Line, account, contract, tickets, line_of, contract_with}
 use Rattle.rules_audit.specs.Lines as lines
-use Rattle.laws_audit.specs.ToldLines.{holding_part, identity_of, account_line, contract_line, ticket_line, end_lines}
+use Rattle.laws_audit.specs.ToldLines.{holding_part, identity_of, account_line, contract_line, ticket_line, burn_lines, end_lines}
 use Rattle.laws_audit.specs.Receipts.{IsAmount}
 use Rattle.laws_audit.specs.States.{IsToldHolding, IsToldAccount, IsToldContract, IsCount, IsToldTicket, IsToldWorld, StateLinesAreTold}
 use Rattle.laws_audit.proofs.Tickets.{amount_read, issuer_read}
@@ -48,10 +48,14 @@ account_read a g =
     ap (λ o. o >>= λ n. holdings_of (seq (trees_of (map held_node a.1.holdings))) >>= λ ps. Some (account n ps)) (amount_is a.1.balance g.0)
     ∙ ap (λ o. o >>= λ ps. Some (account a.1.balance ps)) (holdings_read a.1.holdings g.1)
 
-contract_read : (c : List ℕ × Contract) → IsToldContract c → line_of (contract_node c) ≡ Some (contract_line c)
-contract_read c g =
-    ap (λ o. o >>= λ n. fields.tickets_in (canonical c.1.storage) >>= λ ps. Some (contract n ps false)) (amount_is c.1.balance g.0)
-    ∙ ap (λ o. o >>= λ ps. Some (contract c.1.balance ps false)) g.1
+contract_with_read : (rated : Bool) (c : List ℕ × Contract) → IsToldContract c → contract_with (int (pos c.1.balance)) (canonical c.1.storage) rated ≡ Some (contract_line rated c)
+contract_with_read rated c g =
+    ap (λ o. o >>= λ n. fields.tickets_in (canonical c.1.storage) >>= λ ps. Some (contract n ps rated)) (amount_is c.1.balance g.0)
+    ∙ ap (λ o. o >>= λ ps. Some (contract c.1.balance ps rated)) g.1
+
+contract_read : (rate : Option ℕ) (c : List ℕ × Contract) → IsToldContract c → line_of (contract_node rate c) ≡ Some (contract_line (is_some rate) c)
+contract_read (Some rate) c g = contract_with_read true c g
+contract_read None c g = contract_with_read false c g
 
 ticket_read : (w : World) (id : values.Identity) → IsToldTicket w id → line_of (ticket_node w id) ≡ Some (ticket_line w id)
 ticket_read w id g =
@@ -65,6 +69,9 @@ ticket_read w id g =
 
 fees_read : (n : ℕ) → IsAmount n → line_of (over (codes "Fees") (number n ∷ [])) ≡ Some (lines.fees n)
 fees_read n h = ap (λ o. o >>= λ n. Some (lines.fees n)) (amount_is n h)
+
+burn_read : (n : ℕ) → IsAmount n → line_of (over (codes "StorageBurn") (number n ∷ [])) ≡ Some (lines.storage_burn n)
+burn_read n h = ap (λ o. o >>= λ n. Some (lines.storage_burn n)) (amount_is n h)
 
 supply_read : (n : ℕ) → IsAmount n → line_of (over (codes "Supply") (number n ∷ [])) ≡ Some (lines.supply n)
 supply_read n h = ap (λ o. o >>= λ n. Some (lines.supply n)) (amount_is n h)
@@ -84,13 +91,22 @@ then_read : (ns ms : List Tree) (ls ks : List Line) → map line_of ns ≡ are_s
 then_read ns ms ls ks e g =
     map-append line_of ns ms ∙ ap (λ xs. xs ++ map line_of ms) e ∙ ap (λ ys. are_some ls ++ ys) g ∙ sym (map-append (λ l. Some l) ls ks)
 
-end_read : (w : World) → IsToldWorld w → map line_of (over (codes "Fees") (number w.fees ∷ []) ∷ over (codes "Supply") (number (supply w) ∷ []) ∷ []) ≡ are_some (end_lines w)
-end_read w h =
-    let a = fees_read w.fees h.fees in let b = supply_read (supply w) h.supply in λ i. a i ∷ b i ∷ []
+end_read : (w : World) → IsToldWorld w →
+    map line_of (over (codes "Fees") (number w.fees ∷ []) ∷ (burn_nodes w.rate w.storage_burn ++ over (codes "Supply") (number (supply w) ∷ []) ∷ [])) ≡ are_some (end_lines w)
+end_read w h = by w.rate
+  where
+    by : (rate : Option ℕ) → map line_of (over (codes "Fees") (number w.fees ∷ []) ∷ (burn_nodes rate w.storage_burn ++ over (codes "Supply") (number (supply w) ∷ []) ∷ []))
+        ≡ are_some (lines.fees w.fees ∷ (burn_lines rate w.storage_burn ++ lines.supply (supply w) ∷ []))
+    by (Some rate) =
+        let a = fees_read w.fees h.fees in
+        let b = burn_read w.storage_burn h.storage_burn in
+        let c = supply_read (supply w) h.supply in λ i. a i ∷ b i ∷ c i ∷ []
+    by None = let a = fees_read w.fees h.fees in let b = supply_read (supply w) h.supply in λ i. a i ∷ b i ∷ []
 
 pub state_told : StateLinesAreTold
 state_told w h =
     then_read (map account_node w.accounts) _ (map account_line w.accounts) _ (each_read IsToldAccount account_node account_line account_read w.accounts h.accounts)
-    (then_read (map contract_node w.contracts) _ (map contract_line w.contracts) _ (each_read IsToldContract contract_node contract_line contract_read w.contracts h.contracts)
+    (then_read (map (contract_node w.rate) w.contracts) _ (map (contract_line (is_some w.rate)) w.contracts) _
+    (each_read IsToldContract (contract_node w.rate) (contract_line (is_some w.rate)) (contract_read w.rate) w.contracts h.contracts)
     (then_read (map (ticket_node w) (identities w.log)) _ (map (ticket_line w) (identities w.log)) _
     (each_read (IsToldTicket w) (ticket_node w) (ticket_line w) (ticket_read w) (identities w.log) h.tickets) (end_read w h)))

@@ -1,5 +1,5 @@
 -- What is told of a ticket, all together.
-use Rattle.std.proofs.Common.{◌≡◌, ◌+◌, ℕ, Bool, true, false, cond, ◌&&◌, Some, List, [], ◌∷◌, ◌++◌, map, refl, sym, ap, ◌∙◌, subst, append_assoc, arith}
+use Rattle.std.proofs.Common.{◌≡◌, ◌+◌, ℕ, Bool, true, false, cond, ◌&&◌, Option, Some, None, is_some, List, [], ◌∷◌, ◌++◌, map, refl, sym, ap, ◌∙◌, subst, append_assoc, arith}
 use Rattle.std.specs.Prelude.{ℤ, pos, negsuc, ◌+ℤ◌, ◌<ℤ◌, unsigned_abs, unwrap_or}
 use Rattle.std.specs.List.{All, AllByRecursion}
 use Rattle.std.specs.declared.cmp.Ordering.TheVariants.{Less, Equal}
@@ -17,6 +17,7 @@ use Rattle.rules_code.specs.steps.Changes.{Change, minted, burnt, is_alike, amou
 use Rattle.rules_code.specs.steps.Changes as changes
 use Rattle.rules_world.specs.world.Receipts.{Receipt}
 use Rattle.rules_world.specs.world.World.{World, Account, identity_order}
+use Rattle.rules_world.specs.world.Balances.{supply}
 use Rattle.rules_world.specs.world.Forms.{IsWorld, IsAccount, IsHolding, IsTicket, IsChange}
 use Rattle.rules_world.specs.world.Good.{IsGoodContract, known_with}
 use Rattle.rules_world.specs.world.Holdings.{held_by_accounts, held_by_contracts, identities}
@@ -24,13 +25,14 @@ use Rattle.rules_audit.specs.Fields.{Sort, Part}
 use Rattle.rules_audit.specs.Fields as fields
 use Rattle.rules_audit.specs.Form.{same_identity}
 use Rattle.rules_audit.specs.Lines.{Line}
+use Rattle.rules_audit.specs.Lines as lines
 use Rattle.rules_audit.specs.Verdicts.{all_parts, parts_in, same_sort, total}
 use Rattle.rules_audit.specs.Verdicts as verdicts
 use Rattle.laws_world.proofs.accounts.ForCallers.{alike_equal, identity_total, equal_of, ticket_positive, tickets_good}
 use Rattle.laws_audit.specs.Told.{told}
 use Rattle.laws_audit.specs.Changes.{receipt_changes}
 use Rattle.laws_audit.specs.FileLogs.{receipts_changes}
-use Rattle.laws_audit.specs.ToldLines.{identity_of, change_part, holding_part, group_lines, account_line, contract_line, ticket_line, end_lines}
+use Rattle.laws_audit.specs.ToldLines.{identity_of, change_part, holding_part, group_lines, account_line, contract_line, ticket_line, burn_lines, end_lines}
 use Rattle.laws_audit.specs.Follows.{ticket_in, IsPlain}
 use Rattle.laws_audit.specs.Totals.{parts_of, TotalsAreTold}
 use Rattle.laws_audit.proofs.Identities.{nodes_tell}
@@ -169,20 +171,28 @@ pub no_parts : (w : World) (ids : List Identity) → all_parts (map (ticket_line
 no_parts w [] = refl
 no_parts w (id ∷ ids) = no_parts w ids
 
+pub end_parts : (w : World) → all_parts (end_lines w) ≡ []
+end_parts w = by w.rate
+  where
+    by : (rate : Option ℕ) → all_parts (lines.fees w.fees ∷ (burn_lines rate w.storage_burn ++ lines.supply (supply w) ∷ [])) ≡ []
+    by (Some rate) = refl
+    by None = refl
+
 -- the parts of changes, accounts and contracts
 abbrev pub three : List Receipt → World → List Part
-three rs w = map change_part (receipts_changes rs) ++ (all_parts (map account_line w.accounts) ++ all_parts (map contract_line w.contracts))
+three rs w = map change_part (receipts_changes rs) ++ (all_parts (map account_line w.accounts) ++ all_parts (map (contract_line (is_some w.rate)) w.contracts))
 
 pub parts_three : (rs : List Receipt) (w : World) → parts_of rs w ≡ three rs w
 parts_three rs w =
     parts_append (group_lines 1 rs) _
-    ∙ ap (λ ps. ps ++ all_parts (map account_line w.accounts ++ (map contract_line w.contracts ++ (map (ticket_line w) (identities w.log) ++ end_lines w)))) (group_parts 1 rs)
+    ∙ ap (λ ps. ps ++ all_parts (map account_line w.accounts ++ (map (contract_line (is_some w.rate)) w.contracts ++ (map (ticket_line w) (identities w.log) ++ end_lines w)))) (group_parts 1 rs)
     ∙ ap (λ ps. map change_part (receipts_changes rs) ++ ps)
     (parts_append (map account_line w.accounts) _
     ∙ ap (λ ps. all_parts (map account_line w.accounts) ++ ps)
-    (parts_append (map contract_line w.contracts) _
-    ∙ ap (λ ps. all_parts (map contract_line w.contracts) ++ ps) (parts_append (map (ticket_line w) (identities w.log)) (end_lines w) ∙ ap (λ ps. ps ++ []) (no_parts w (identities w.log)))
-    ∙ append-nil (all_parts (map contract_line w.contracts))))
+    (parts_append (map (contract_line (is_some w.rate)) w.contracts) _
+    ∙ ap (λ ps. all_parts (map (contract_line (is_some w.rate)) w.contracts) ++ ps) (parts_append (map (ticket_line w) (identities w.log)) (end_lines w)
+    ∙ ap (λ ps. ps ++ all_parts (end_lines w)) (no_parts w (identities w.log)) ∙ end_parts w)
+    ∙ append-nil (all_parts (map (contract_line (is_some w.rate)) w.contracts))))
 
 accounts_total : (id : Identity) (xs : List (List ℕ × Account)) → is_comparable id.content ≡ true →
     AllByRecursion (λ a. AllByRecursion (λ h. is_comparable h.0.content ≡ true) a.1.holdings) xs → All IsAccount xs →
@@ -194,16 +204,16 @@ accounts_total id (x ∷ xs) c p f =
     ∙ sum_of (total Sort.held (identity_of id) (map holding_part x.1.holdings)) _ _ _ (holdings_total id x.1.holdings c p.0 form.1 form.2)
     (accounts_total id xs c p.1 (All-tail IsAccount x xs f))
 
-contracts_total : (id : Identity) (w : World) (xs : List (List ℕ × Contract)) → is_comparable id.content ≡ true →
+contracts_total : (id : Identity) (w : World) (rated : Bool) (xs : List (List ℕ × Contract)) → is_comparable id.content ≡ true →
     AllByRecursion (λ c. AllByRecursion IsPlain (tickets c.1.storage)) xs → All (IsGoodContract w) xs →
-    pos (total Sort.held (identity_of id) (all_parts (map contract_line xs))) ≡ held_by_contracts id xs
-contracts_total id w [] c p f = refl
-contracts_total id w (x ∷ xs) c p f =
+    pos (total Sort.held (identity_of id) (all_parts (map (contract_line rated) xs))) ≡ held_by_contracts id xs
+contracts_total id w rated [] c p f = refl
+contracts_total id w rated (x ∷ xs) c p f =
     let stores = All-head (IsGoodContract w) x xs f in
-    ap pos (total_append Sort.held (identity_of id) (map told (tickets x.1.storage)) (all_parts (map contract_line xs)))
+    ap pos (total_append Sort.held (identity_of id) (map told (tickets x.1.storage)) (all_parts (map (contract_line rated) xs)))
     ∙ sum_of (total Sort.held (identity_of id) (map told (tickets x.1.storage))) _ _ _
     (stored_total id (tickets x.1.storage) c p.0 (tickets_good (known_with w []) stores.0.storage x.1.storage stores.3))
-    (contracts_total id w xs c p.1 (All-tail (IsGoodContract w) x xs f))
+    (contracts_total id w rated xs c p.1 (All-tail (IsGoodContract w) x xs f))
 
 accounts_none : (s : Sort) (i : fields.Identity) (xs : List (List ℕ × Account)) → same_sort s Sort.held ≡ false → total s i (all_parts (map account_line xs)) ≡ 0
 accounts_none s i [] e = refl
@@ -212,22 +222,22 @@ accounts_none s i (x ∷ xs) e =
     let here = none_changed_by_holdings s i x.1.holdings e in
     let rest = accounts_none s i xs e in omega (arith, both, here, rest)
 
-contracts_none : (s : Sort) (i : fields.Identity) (xs : List (List ℕ × Contract)) → same_sort s Sort.held ≡ false → total s i (all_parts (map contract_line xs)) ≡ 0
-contracts_none s i [] e = refl
-contracts_none s i (x ∷ xs) e =
-    let both = total_append s i (map told (tickets x.1.storage)) (all_parts (map contract_line xs)) in
+contracts_none : (s : Sort) (i : fields.Identity) (rated : Bool) (xs : List (List ℕ × Contract)) → same_sort s Sort.held ≡ false → total s i (all_parts (map (contract_line rated) xs)) ≡ 0
+contracts_none s i rated [] e = refl
+contracts_none s i rated (x ∷ xs) e =
+    let both = total_append s i (map told (tickets x.1.storage)) (all_parts (map (contract_line rated) xs)) in
     let here = none_changed_by_stored s i (tickets x.1.storage) e in
-    let rest = contracts_none s i xs e in omega (arith, both, here, rest)
+    let rest = contracts_none s i rated xs e in omega (arith, both, here, rest)
 
 -- ---- all together
 
 total_three : (s : Sort) (i : fields.Identity) (rs : List Receipt) (w : World) →
     total s i (parts_of rs w)
-    ≡ total s i (map change_part (receipts_changes rs)) + (total s i (all_parts (map account_line w.accounts)) + total s i (all_parts (map contract_line w.contracts)))
+    ≡ total s i (map change_part (receipts_changes rs)) + (total s i (all_parts (map account_line w.accounts)) + total s i (all_parts (map (contract_line (is_some w.rate)) w.contracts)))
 total_three s i rs w =
     ap (total s i) (parts_three rs w)
     ∙ total_append s i (map change_part (receipts_changes rs)) _
-    ∙ ap (λ n. total s i (map change_part (receipts_changes rs)) + n) (total_append s i (all_parts (map account_line w.accounts)) (all_parts (map contract_line w.contracts)))
+    ∙ ap (λ n. total s i (map change_part (receipts_changes rs)) + n) (total_append s i (all_parts (map account_line w.accounts)) (all_parts (map (contract_line (is_some w.rate)) w.contracts)))
 
 first_alone : (n a b c : ℕ) (z : ℤ) → n ≡ a + (b + c) → b ≡ 0 → c ≡ 0 → pos a ≡ z → pos n ≡ z
 first_alone n a b c z e f g h = ap pos (omega (arith, e, f, g)) ∙ h
@@ -239,10 +249,10 @@ totals_told rs w id h c =
     let plain = subst (λ cs. AllByRecursion (λ c. IsPlain (ticket_in c)) cs) h.log h.plain.log in
     let changed = subst (λ cs. All IsChange cs) h.log form.log in (
       first_alone _ (total Sort.minted i (map change_part (receipts_changes rs))) _ _ _ (total_three Sort.minted i rs w) (accounts_none Sort.minted i w.accounts refl)
-          (contracts_none Sort.minted i w.contracts refl) (minted_total id (receipts_changes rs) c plain changed ∙ ap (minted_in id) (sym h.log)),
+          (contracts_none Sort.minted i (is_some w.rate) w.contracts refl) (minted_total id (receipts_changes rs) c plain changed ∙ ap (minted_in id) (sym h.log)),
       first_alone _ (total Sort.burnt i (map change_part (receipts_changes rs))) _ _ _ (total_three Sort.burnt i rs w) (accounts_none Sort.burnt i w.accounts refl)
-          (contracts_none Sort.burnt i w.contracts refl) (burnt_total id (receipts_changes rs) c plain changed ∙ ap (burnt_in id) (sym h.log)),
-      ap pos (total_three Sort.held i rs w ∙ ap (λ n. n + (total Sort.held i (all_parts (map account_line w.accounts)) + total Sort.held i (all_parts (map contract_line w.contracts)))) (none_held i (receipts_changes rs)))
+          (contracts_none Sort.burnt i (is_some w.rate) w.contracts refl) (burnt_total id (receipts_changes rs) c plain changed ∙ ap (burnt_in id) (sym h.log)),
+      ap pos (total_three Sort.held i rs w ∙ ap (λ n. n + (total Sort.held i (all_parts (map account_line w.accounts)) + total Sort.held i (all_parts (map (contract_line (is_some w.rate)) w.contracts)))) (none_held i (receipts_changes rs)))
           ∙ none_of _ _ (sum_of (total Sort.held i (all_parts (map account_line w.accounts))) _ _ _ (accounts_total id w.accounts c h.plain.accounts form.accounts)
-          (contracts_total id w w.contracts c h.plain.contracts h.good.sound.contracts)),
+          (contracts_total id w (is_some w.rate) w.contracts c h.plain.contracts h.good.sound.contracts)),
     )

@@ -1,5 +1,5 @@
 -- A world behind receipts is told.
-use Rattle.std.proofs.Common.{◌≡◌, ◌≤◌, ℕ, true, List, [], ◌∷◌, ◌++◌, map, sym, subst, arith}
+use Rattle.std.proofs.Common.{◌≡◌, ◌≤◌, ℕ, Bool, true, is_some, List, [], ◌∷◌, ◌++◌, map, sym, subst, arith}
 use Rattle.std.specs.Prelude.{ℤ, pos, ◌+ℤ◌, ◌-ℤ◌, ◌<ℤ◌, ◌≤ℤ◌, ◌^◌, ◌-◌, unsigned_abs}
 use Rattle.std.specs.List.{All, AllByRecursion}
 use Rattle.std.specs.declared.cmp.Ordering.{Ordering}
@@ -47,9 +47,9 @@ accounts_within : (most : ℕ) (xs : List (List ℕ × Account)) → all_mutez (
 accounts_within most [] h = tt
 accounts_within most (x ∷ xs) h = (omega (arith, h), accounts_within most xs (omega (arith, h)))
 
-contracts_within : (most : ℕ) (xs : List (List ℕ × Contract)) → all_mutez (map contract_line xs) ≤ most → AllByRecursion (λ c. c.1.balance ≤ most) xs
-contracts_within most [] h = tt
-contracts_within most (x ∷ xs) h = (omega (arith, h), contracts_within most xs (omega (arith, h)))
+contracts_within : (most : ℕ) (rated : Bool) (xs : List (List ℕ × Contract)) → all_mutez (map (contract_line rated) xs) ≤ most → AllByRecursion (λ c. c.1.balance ≤ most) xs
+contracts_within most rated [] h = tt
+contracts_within most rated (x ∷ xs) h = (omega (arith, h), contracts_within most rated xs (omega (arith, h)))
 
 -- ---- tickets
 
@@ -161,12 +161,13 @@ worlds_told rs w h =
     let states = second_part _ (map change_part (receipts_changes rs)) _ threes in
     let mutez = h.good.sound.mutez in
     let a = accounts_mutez w.accounts in
-    let c = contracts_mutez w.contracts in
+    let c = contracts_mutez (is_some w.rate) w.contracts in
     record {
       accounts = accounts_are_told w.accounts h.good.sound.form.accounts (accounts_within most_mutez w.accounts (omega (arith, mutez, a, c)))
           (first_part _ (all_parts (map account_line w.accounts)) _ states);
-      contracts = contracts_are_told w w.contracts h.good.sound.contracts (contracts_within most_mutez w.contracts (omega (arith, mutez, a, c)));
+      contracts = contracts_are_told w w.contracts h.good.sound.contracts (contracts_within most_mutez (is_some w.rate) w.contracts (omega (arith, mutez, a, c)));
       tickets = tickets_are_told rs w h (identities w.log) (identities_plain w.log h.plain.log) (have_places w.log h.good.sound.form.log);
       fees = within_mutez w.fees (omega (arith, mutez));
+      storage_burn = within_mutez w.storage_burn (omega (arith, mutez));
       supply = within_mutez (supply w) mutez;
     }

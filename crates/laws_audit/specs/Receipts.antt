@@ -4,7 +4,7 @@ use Rattle.std.specs.List.{AllByRecursion}
 use Rattle.rules_data.specs.forms.Spelling.{is_place}
 use Rattle.rules_data.specs.values.Forms.{is_ticket_amount}
 use Rattle.rules_world.specs.world.Forms.{IsChange}
-use Rattle.rules_world.specs.world.Receipts.{Effect, Transfer, Give, Origination, Event, Status, Applied, Backtracked, Failed, Skipped, Receipt, Refused, Done}
+use Rattle.rules_world.specs.world.Receipts.{Effect, Transfer, Give, Origination, Event, Storage, Status, Applied, Backtracked, Failed, Skipped, Receipt, Refused, Done}
 use Rattle.rules_world.specs.lines.Nodes.{group_node}
 use Rattle.rules_audit.specs.Lines.{group, line_of}
 use Rattle.laws_audit.specs.Changes.{receipt_changes}
@@ -19,6 +19,7 @@ IsEffect (Give sender destination issuer kind content amount changes) =
     (is_place issuer ≡ true) × (is_ticket_amount amount ≡ true) × AllByRecursion IsChange changes
 IsEffect (Origination sender address amount) = IsAmount amount
 IsEffect (Event sender tag kind value) = Unit {0}
+IsEffect (Storage address bytes burn) = IsAmount burn
 
 abbrev pub IsStatus : Status → Type 0
 IsStatus (Applied gas effects) = AllByRecursion IsEffect effects

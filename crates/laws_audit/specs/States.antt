@@ -1,5 +1,5 @@
 -- The lines of a world at its end, whose amounts are in their ranges.
-use Rattle.std.specs.Prelude.{◌≡◌, ◌++◌, ℕ, ℤ, pos, true, List, map, Some}
+use Rattle.std.specs.Prelude.{◌≡◌, ◌++◌, ℕ, ℤ, pos, true, is_some, List, map, Some}
 use Rattle.std.specs.List.{AllByRecursion}
 use Rattle.rules_data.specs.forms.Spelling.{is_place}
 use Rattle.rules_data.specs.values.Canonical.{canonical}
@@ -37,10 +37,11 @@ pub record IsToldWorld (w : World) : Type 0 where
   pub contracts : AllByRecursion IsToldContract w.contracts
   pub tickets : AllByRecursion (IsToldTicket w) (identities w.log)
   pub fees : IsAmount w.fees
+  pub storage_burn : IsAmount w.storage_burn
   pub supply : IsAmount (supply w)
 
 abbrev pub state_lines : World → List Line
-state_lines w = map account_line w.accounts ++ (map contract_line w.contracts ++ (map (ticket_line w) (identities w.log) ++ end_lines w))
+state_lines w = map account_line w.accounts ++ (map (contract_line (is_some w.rate)) w.contracts ++ (map (ticket_line w) (identities w.log) ++ end_lines w))
 
 -- each line of the world is told, in their order
 abbrev pub StateLinesAreTold : Type 0

@@ -1,5 +1,5 @@
 -- The lines that are told of a run.
-use Rattle.std.specs.Prelude.{◌≡◌, ◌++◌, ◌+◌, ℕ, ℤ, pos, true, false, List, [], ◌∷◌, map, unsigned_abs}
+use Rattle.std.specs.Prelude.{◌≡◌, ◌++◌, ◌+◌, ℕ, ℤ, pos, Bool, true, Option, Some, None, is_some, List, [], ◌∷◌, map, unsigned_abs}
 use Rattle.rules_data.specs.types.Printing.{node_of}
 use Rattle.rules_data.specs.values.Canonical.{canonical}
 use Rattle.rules_data.specs.values.Tickets.{Held, tickets}
@@ -17,7 +17,7 @@ use Rattle.rules_audit.specs.Lines.{Line, group, account, contract, fees}
 use Rattle.rules_audit.specs.Lines as lines
 use Rattle.rules_audit.specs.Verdicts.{all_mutez, supply_agrees}
 use Rattle.laws_audit.specs.Told.{told}
-use Rattle.laws_audit.specs.Changes.{receipt_changes}
+use Rattle.laws_audit.specs.Changes.{BurnsAtRate, receipt_changes}
 
 -- ---- parts
 
@@ -43,20 +43,25 @@ group_lines n (r ∷ rs) = group (pos n) (map change_part (receipt_changes r)) �
 abbrev pub account_line : List ℕ × Account → Line
 account_line a = account a.1.balance (map holding_part a.1.holdings)
 
-abbrev pub contract_line : List ℕ × Contract → Line
-contract_line c = contract c.1.balance (map told (tickets c.1.storage)) false
+-- which has a fourth argument where there is a rate
+abbrev pub contract_line : Bool → List ℕ × Contract → Line
+contract_line rated c = contract c.1.balance (map told (tickets c.1.storage)) rated
 
 abbrev pub ticket_line : World → values.Identity → Line
 ticket_line w id =
     lines.tickets (identity_of id) (unsigned_abs (minted_ever w id)) (unsigned_abs (burnt_ever w id)) (unsigned_abs (held w id))
 
+abbrev pub burn_lines : Option ℕ → ℕ → List Line
+burn_lines (Some rate) burn = lines.storage_burn burn ∷ []
+burn_lines None burn = []
+
 abbrev pub end_lines : World → List Line
-end_lines w = fees w.fees ∷ lines.supply (supply w) ∷ []
+end_lines w = fees w.fees ∷ (burn_lines w.rate w.storage_burn ++ lines.supply (supply w) ∷ [])
 
 abbrev pub told_lines : List Receipt → World → List Line
 told_lines rs w =
-    group_lines 1 rs ++ (map account_line w.accounts ++ (map contract_line w.contracts ++ (map (ticket_line w) (identities w.log) ++ end_lines w)))
+    group_lines 1 rs ++ (map account_line w.accounts ++ (map (contract_line (is_some w.rate)) w.contracts ++ (map (ticket_line w) (identities w.log) ++ end_lines w)))
 
--- the supply that is told is the sum of what is told of accounts, contracts and fees
+-- the supply that is told is the sum of what is told of accounts, contracts, fees and burns
 abbrev pub ToldSupplyAgrees : Type 0
-ToldSupplyAgrees = (rs : List Receipt) (w : World) → (all_mutez (told_lines rs w) ≡ supply w) × (supply_agrees (told_lines rs w) ≡ true)
+ToldSupplyAgrees = (rs : List Receipt) (w : World) → BurnsAtRate w → (all_mutez (told_lines rs w) ≡ supply w) × (supply_agrees (told_lines rs w) ≡ true)

@@ -9,6 +9,7 @@ use Rattle.rules_world.specs.world.Holdings.{held, minted_ever, burnt_ever}
 use Rattle.rules_audit.specs.Verdicts.{all_parts, total}
 use Rattle.rules_audit.specs.Fields.{Sort, Part}
 use Rattle.laws_audit.specs.ToldLines.{identity_of, told_lines}
+use Rattle.laws_audit.specs.Changes.{BurnsAtRate}
 use Rattle.laws_audit.specs.FileLogs.{receipts_changes}
 use Rattle.laws_audit.specs.Follows.{IsPlainWorld}
 
@@ -17,6 +18,7 @@ pub record IsBehind (rs : List Receipt) (w : World) : Type 0 where
   pub good : IsGood w []
   pub plain : IsPlainWorld w
   pub log : w.log ≡ receipts_changes rs
+  pub burns : BurnsAtRate w
 
 abbrev pub parts_of : List Receipt → World → List Part
 parts_of rs w = all_parts (told_lines rs w)

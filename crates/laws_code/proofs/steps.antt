@@ -4,6 +4,7 @@ pub mod CollectionRows
 pub mod EnvironmentRows
 pub mod HashRows
 pub mod Lengths
+pub mod NumberBytes
 pub mod NumberRows
 pub mod Ranges
 pub mod SetRows

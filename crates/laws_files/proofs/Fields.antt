@@ -5,7 +5,7 @@ use Rattle.std.specs.Option.{option_map}
 use Rattle.std.specs.List.{All}
 use Rattle.std.specs.Str.{bytes_eq}
 use Rattle.std.proofs.lemmas.List.Elements.{All-nil, All-cons}
-use Rattle.rules_text.specs.nodes.Limits.{most_mutez, most_level, most_contents, most_tickets}
+use Rattle.rules_text.specs.nodes.Limits.{most_mutez, most_level, most_contents, most_rate, most_tickets}
 use Rattle.rules_text.specs.nodes.Tree.{Tree, int, str, bytes, prim, seq, Trees, none, more, size, sizes}
 use Rattle.rules_data.specs.gas.Tables.{is_table}
 use Rattle.rules_data.specs.forms.Spelling.{is_chain_id, is_contract, is_entrypoint, is_key_hash, is_place}
@@ -13,7 +13,7 @@ use Rattle.rules_data.specs.values.Forms.{is_ticket_amount}
 use Rattle.rules_world.specs.world.Contents.{Action, Originate, Call, Give, Content}
 use Rattle.rules_world.specs.world.Forms.{is_moment, IsAction, IsContent}
 use Rattle.rules_files.specs.course.Ranges.{IsStatement}
-use Rattle.rules_files.specs.statements.Statements.{Statement, Chain, Costs, Account, Block, Group, ◌>>=◌, only_if, integer_of, within, number_of, moment_of, gas_of, ticket_amount_of, bytes_of, entrypoint_of, table_of, nodes_of, named, originate_of, call_of, give_of, action_by, content_by, each_content, contents_of, chain_of, costs_of, account_of, block_of, group_of, statement_by}
+use Rattle.rules_files.specs.statements.Statements.{Statement, Chain, Profile, Costs, Account, Block, Group, ◌>>=◌, only_if, integer_of, within, number_of, moment_of, gas_of, ticket_amount_of, bytes_of, entrypoint_of, table_of, nodes_of, named, originate_of, call_of, give_of, action_by, content_by, each_content, contents_of, chain_of, profile_of, costs_of, account_of, block_of, group_of, statement_by}
 use Rattle.laws_files.specs.Laws.{StatementsHaveRanges}
 
 -- ---- what is found step by step
@@ -248,6 +248,15 @@ chains (x ∷ []) s h = absurd cc
 chains (x ∷ y ∷ []) s h = absurd cc
 chains (x ∷ y ∷ z ∷ w ∷ ts) s h = absurd cc
 
+profiles : (fields : List Tree) (s : Statement) → profile_of fields ≡ Some s → IsStatement s
+profiles (profile ∷ rate ∷ []) s h =
+    let p = found (within (pos 2) (pos 2) profile) (λ p. option_map Profile (number_of most_rate rate)) s h in
+    let m = mapped Profile (number_of most_rate rate) s p.rest in
+    subst IsStatement (sym m.2) (number_within most_rate rate m.0 m.1)
+profiles [] s h = absurd cc
+profiles (x ∷ []) s h = absurd cc
+profiles (x ∷ y ∷ z ∷ ts) s h = absurd cc
+
 tables : (fields : List Tree) (s : Statement) → costs_of fields ≡ Some s → total fields < 2 ^ 32 → IsStatement s
 unfolding total
 tables (table ∷ []) s h small =
@@ -300,17 +309,18 @@ groups (x ∷ y ∷ z ∷ ts) s h small = absurd cc
 
 by_name : (name : List ℕ) (fields : List Tree) (s : Statement) → statement_by name fields ≡ Some s → total fields < 2 ^ 32 → IsStatement s
 by_name name fields s h small =
-    by (bytes_eq name (codes "Chain")) (bytes_eq name (codes "Costs")) (bytes_eq name (codes "Account")) (bytes_eq name (codes "Block")) (bytes_eq name (codes "Group")) h
+    by (bytes_eq name (codes "Chain")) (bytes_eq name (codes "Profile")) (bytes_eq name (codes "Costs")) (bytes_eq name (codes "Account")) (bytes_eq name (codes "Block")) (bytes_eq name (codes "Group")) h
   where
-    by : (c p a b g : Bool) →
-        (if c then chain_of fields else if p then costs_of fields else if a then account_of fields else if b then block_of fields else if g then group_of fields else None) ≡ Some s →
+    by : (c r p a b g : Bool) →
+        (if c then chain_of fields else if r then profile_of fields else if p then costs_of fields else if a then account_of fields else if b then block_of fields else if g then group_of fields else None) ≡ Some s →
         IsStatement s
-    by true p a b g e = chains fields s e
-    by false true a b g e = tables fields s e small
-    by false false true b g e = accounts fields s e
-    by false false false true g e = blocks fields s e
-    by false false false false true e = groups fields s e small
-    by false false false false false e = absurd cc
+    by true r p a b g e = chains fields s e
+    by false true p a b g e = profiles fields s e
+    by false false true a b g e = tables fields s e small
+    by false false false true b g e = accounts fields s e
+    by false false false false true g e = blocks fields s e
+    by false false false false false true e = groups fields s e small
+    by false false false false false false e = absurd cc
 
 pub statements_have_ranges : StatementsHaveRanges
 statements_have_ranges (prim name [] ts) s h small =

@@ -1,15 +1,15 @@
 -- Good courses stay good.
-use Rattle.std.proofs.Common.{◌≡◌, ◌≢◌, ◌≤◌, ◌<◌, ◌+◌, ◌^◌, ℕ, ℤ, Bool, true, false, List, [], Some, None, Ok, Err, refl, sym, ap, ◌∙◌, subst, arith, is_some, IsSome, if◌then◌else◌}
-use Rattle.std.specs.Prelude.{Result, nat_le}
+use Rattle.std.proofs.Common.{◌≡◌, ◌≢◌, ◌≤◌, ◌<◌, ◌+◌, ◌^◌, ℕ, ℤ, Bool, true, false, List, [], Some, None, Ok, Err, refl, sym, ap, ◌∙◌, subst, arith, is_some, IsSome, ◌&&◌, if◌then◌else◌}
+use Rattle.std.specs.Prelude.{Result, nat_le, is_none}
 use Rattle.std.specs.declared.option.Option.{Option}
 use Rattle.rules_text.specs.nodes.Limits.{most_mutez}
 use Rattle.rules_text.specs.nodes.Tree.{Tree}
 use Rattle.rules_data.specs.gas.Prices.{Listed}
 use Rattle.rules_data.specs.gas.Tables.{table_of}
 use Rattle.rules_data.specs.forms.Spelling.{is_key_hash}
-use Rattle.rules_files.specs.course.Course.{Course, goes_on, stops, timed, is_later, with_prices, costs_step, granting, block_step, numbered}
+use Rattle.rules_files.specs.course.Course.{Course, goes_on, stops, with_rate, profile_step, timed, is_later, with_prices, costs_step, granting, block_step, numbered}
 use Rattle.rules_files.specs.course.Ranges.{IsStatement}
-use Rattle.rules_files.specs.statements.Statements.{Chain, Costs, Account, Block, Group}
+use Rattle.rules_files.specs.statements.Statements.{Chain, Profile, Costs, Account, Block, Group}
 use Rattle.rules_world.specs.world.Balances.{Grant, Granted, Repeated, TooMuch, granted_to, endowed}
 use Rattle.rules_world.specs.world.Contents.{Content}
 use Rattle.rules_world.specs.world.Forms.{is_moment}
@@ -30,6 +30,7 @@ courses_begin_good (Chain id level moment) s =
   where
     none : 0 ≤ 1
     none = omega arith
+courses_begin_good (Profile rate) s = tt
 courses_begin_good (Costs table) s = tt
 courses_begin_good (Account who mutez) s = tt
 courses_begin_good (Block level moment) s = tt
@@ -101,6 +102,37 @@ module _ (c : Course) (g : IsGoodCourse c) where
     mutez = g.whole.mutez;
   }
 
+  rated_whole : (rate : ℕ) → IsWhole (record (c.world) { rate = Some rate })
+  rated_whole rate = record {
+    good = record {
+      sound = record {
+        form = record {
+          chain = g.whole.good.sound.form.chain;
+          level = g.whole.good.sound.form.level;
+          moment = g.whole.good.sound.form.moment;
+          accounts = g.whole.good.sound.form.accounts;
+          accounts_in_order = g.whole.good.sound.form.accounts_in_order;
+          contracts = g.whole.good.sound.form.contracts;
+          contracts_in_order = g.whole.good.sound.form.contracts_in_order;
+          log = g.whole.good.sound.form.log;
+        };
+        contracts = g.whole.good.sound.contracts;
+        minted = g.whole.good.sound.minted;
+        mutez = g.whole.good.sound.mutez;
+      };
+      waits = g.whole.good.waits;
+      tickets = g.whole.good.tickets;
+    };
+    mutez = g.whole.mutez;
+  }
+
+  profile_good : (rate : ℕ) → StaysGood c.groups c.world.granted 0 (profile_step c rate)
+  profile_good rate = by (c.at_head && is_none c.world.rate)
+    where
+      by : (b : Bool) → StaysGood c.groups c.world.granted 0 (if b then goes_on (with_rate c rate) [] else stops Rattle.rules_files.specs.course.Course.BadOrder)
+      by true = (record { whole = rated_whole rate; charged = g.charged; new = g.new }, nothing_more c.groups, nothing_more c.world.granted, none)
+      by false = tt
+
   block_good : (level : ℕ) (moment : ℤ) → level < 2 ^ 32 → is_moment moment ≡ true →
       StaysGood c.groups c.world.granted 0 (block_step c level moment)
   block_good level moment l m = by (is_later c.world level moment)
@@ -147,7 +179,8 @@ module _ (c : Course) (g : IsGoodCourse c) where
 
 pub courses_stay_good : CoursesStayGood
 courses_stay_good c (Chain id level moment) g few s = tt
-courses_stay_good c (Costs table) g few s = costs_good c g c.only_chain table
+courses_stay_good c (Profile rate) g few s = profile_good c g rate
+courses_stay_good c (Costs table) g few s = costs_good c g c.at_head table
 courses_stay_good c (Account who mutez) g few s = grant_good c g who mutez (granted_to c.world who mutez) s.0 refl
 courses_stay_good c (Block level moment) g few s = block_good c g level moment s.0 s.1
 courses_stay_good c (Group source contents) g few s =

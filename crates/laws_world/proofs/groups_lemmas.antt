@@ -1,6 +1,7 @@
 pub mod GroupLaws
 pub mod Foundings
 pub mod Taken
+pub mod Growth
 pub mod Accounts
 pub mod Calls
 pub mod Transfers

@@ -48,6 +48,9 @@ pub const MOST_GAS: i128 = 10_000_000_000;
 /// How much gas a part of a price in a table of costs may be (this host's own).
 pub const MOST_PRICE: i128 = 1_000_000;
 
+/// The most mutez that a byte of storage may cost (this host's own).
+pub const MOST_RATE: u64 = 1_000_000;
+
 /// The most mutez (Octez "Operations").
 pub const MOST_MUTEZ: u64 = (1 << 63) - 1;
 

@@ -35,7 +35,7 @@ const STANDARD: Price = Price {
 /// price, whose base and coefficient are 1.
 #[derive(Debug, Drop)]
 pub struct Costs {
-    listed: [Option<Price>; 96],
+    listed: [Option<Price>; 98],
 }
 
 /// The location of the first row of a table that is unknown, repeated or out of range.
@@ -58,7 +58,7 @@ impl Costs {
     pub fn standard() -> Costs
         ensures { listed result ≡ nothing_listed }
     {
-        Costs { listed: [None; 96] }
+        Costs { listed: [None; 98] }
     }
 
     /// The price of a kind.
@@ -84,7 +84,7 @@ impl Costs {
 // The place of a kind among all kinds.
 fn place_of(kind: Kind) -> usize
     ensures value { result ≡ place kind }
-    ensures within { result < 96 }
+    ensures within { result < 98 }
 {
     kind as usize
 }

@@ -9,7 +9,7 @@ use mich_base::Text;
 use rules_data::gas::Kind;
 
 /// Each kind beside its name, in the order of the bytes of the names.
-static KINDS: [(&str, Kind); 96] = [
+static KINDS: [(&str, Kind); 98] = [
     ("ABS", Kind::Abs),
     ("ADD", Kind::Add),
     ("ADDRESS", Kind::Address),
@@ -18,6 +18,7 @@ static KINDS: [(&str, Kind); 96] = [
     ("APPLY", Kind::Apply),
     ("BALANCE", Kind::Balance),
     ("BLAKE2B", Kind::Blake2b),
+    ("BYTES", Kind::Bytes),
     ("CAR", Kind::Car),
     ("CAST", Kind::Cast),
     ("CDR", Kind::Cdr),
@@ -68,6 +69,7 @@ static KINDS: [(&str, Kind); 96] = [
     ("MAP", Kind::Map),
     ("MEM", Kind::Mem),
     ("MUL", Kind::Mul),
+    ("NAT", Kind::Nat),
     ("NEG", Kind::Neg),
     ("NEQ", Kind::Neq),
     ("NEVER", Kind::Never),

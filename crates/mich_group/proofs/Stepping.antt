@@ -1,5 +1,5 @@
 -- One operation of those that wait.
-use Rattle.std.proofs.Common.{◌≡◌, ℕ, List, [], ◌∷◌, ◌++◌, map, refl, ap, ◌∙◌, subst, Err}
+use Rattle.std.proofs.Common.{◌≡◌, ℕ, List, [], ◌∷◌, ◌++◌, map, Option, Some, None, refl, ap, ◌∙◌, subst, Err}
 use Rattle.std.specs.Prelude.{reverse}
 use Rattle.std.proofs.lemmas.List.{map-append}
 use Rattle.rules_code.specs.steps.Failure.{Failure}
@@ -9,7 +9,7 @@ use Rattle.rules_world.specs.world.Application.{apply}
 use Rattle.mich_bigmap.specs.Extended.{Extends}
 use Rattle.mich_machine.specs.Calls.{counts_of}
 use Rattle.mich_interpreter.specs.declared.state.Counts.{Counts}
-use Rattle.mich_operations.specs.Going.{Begins, IsApplied, EndsAs, WithMemory}
+use Rattle.mich_operations.specs.Going.{Begins, IsApplied, EndsAs, WithMemory, effects_of, grown}
 use Rattle.mich_operations.specs.declared.applied.Applied.{Applied}
 use Rattle.mich_operations.specs.declared.applied.ApplyError.{ApplyError}
 use Rattle.mich_operations.specs.declared.applied.ApplyError.TheVariants as one
@@ -18,7 +18,7 @@ use Rattle.mich_ops.specs.View.{effect, failure}
 use Rattle.mich_ops.specs.declared.failure.Failure.{Failure as Failed}
 use Rattle.mich_ops.specs.declared.receipt.Effect.{Effect as Done}
 use Rattle.mich_world.specs.World.{World}
-use Rattle.mich_group.specs.Trees.{Goes, IsStep, IsFailed, StepsAs, StepsTo, OnStep}
+use Rattle.mich_group.specs.Trees.{Goes, IsStep, IsFailed, StepsAs, StepsTo, OnStep, with_growth}
 use Rattle.mich_group.specs.Waiting.{sent, sent_by, all_sent, AreHanded}
 use Rattle.mich_group.specs.declared.waiting.Sent.{Sent}
 use Rattle.mich_group.proofs.Sending.{all_sent_last, all_sent_more, sent_later}
@@ -38,19 +38,23 @@ goes_last start w s contents v whole ss x counts e g =
 
 -- ---- it was applied
 
+growth_told : (d : Done) (g : Option Done) → map effect (with_growth d g) ≡ effect d ∷ grown g
+growth_told d (Some x) = refl
+growth_told d None = refl
+
 pub stepped : (s : Setting) (w : PlainWorld) (waiting others : List Waiting) (op : Waiting) (gas left : ℕ) (counts : PlainCounts) (v : World) (old new : Counts) (a : Applied) (ss : List Sent) (before after : List Done) →
     waiting ≡ op ∷ others → IsApplied (apply s w op gas counts) v left old new a →
-    all_sent v.store.bases.present ss ≡ map (Rattle.mich_operations.specs.Going.issued_by v.store.bases.present a.by) a.emitted ++ others → after ≡ before ++ a.effect ∷ [] →
+    all_sent v.store.bases.present ss ≡ map (Rattle.mich_operations.specs.Going.issued_by v.store.bases.present a.by) a.emitted ++ others → after ≡ before ++ with_growth a.effect a.growth →
     IsStep s w waiting gas counts v left (counts_of new) ss before after
 stepped s w waiting others op gas left counts v old new a ss before after e i sent done = record {
   op = op;
   others = others;
   first = e;
-  behind = record { world = i.world; emitted = map (Rattle.mich_operations.specs.Going.issued_by v.store.bases.present a.by) a.emitted; effects = effect a.effect ∷ []; gas = left; counts = counts_of new };
+  behind = record { world = i.world; emitted = map (Rattle.mich_operations.specs.Going.issued_by v.store.bases.present a.by) a.emitted; effects = effects_of a; gas = left; counts = counts_of new };
   same = i.same;
   stands = i.stands;
   sent = sent;
-  done = ap (map effect) done ∙ map-append effect before (a.effect ∷ []);
+  done = ap (map effect) done ∙ map-append effect before (with_growth a.effect a.growth) ∙ ap (λ t. map effect before ++ t) (growth_told a.effect a.growth);
   units = refl;
   counted = refl;
 }

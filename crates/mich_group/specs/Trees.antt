@@ -1,5 +1,5 @@
 -- Operations with all that they emit, on their way and at their end (Octez "Operations", the order of internal operations).
-use Rattle.std.specs.Prelude.{◌≡◌, ◌≤◌, ◌+◌, ◌-◌, ℕ, List, [], ◌∷◌, ◌++◌, map, Result, Ok, Err, Bool, true, false}
+use Rattle.std.specs.Prelude.{◌≡◌, ◌≤◌, ◌+◌, ◌-◌, ℕ, Option, Some, None, List, [], ◌∷◌, ◌++◌, map, Result, Ok, Err, Bool, true, false}
 use Rattle.rules_world.specs.world.Receipts.{Effect}
 use Rattle.rules_world.specs.world.Groups.{setting_of}
 use Rattle.rules_world.specs.world.World.{World as PlainWorld}
@@ -26,6 +26,11 @@ use Rattle.mich_group.specs.Waiting.{all_sent}
 use Rattle.mich_group.specs.declared.tree.TreeError.{TreeError}
 use Rattle.mich_group.specs.declared.tree.TreeError.TheVariants as tree
 use Rattle.mich_group.specs.declared.waiting.Sent.{Sent}
+
+-- what an operation did, and the growth of its contract
+abbrev pub with_growth : Done → Option Done → List Done
+with_growth done (Some growth) = done ∷ growth ∷ []
+with_growth done None = done ∷ []
 
 -- ---- on its way
 

@@ -1,12 +1,12 @@
 // The next operation.
-ghost use Rattle.std.specs.Prelude.{◌≡◌, ◌∷◌, [], Ok, true, false, IfOk, OnOk};
+ghost use Rattle.std.specs.Prelude.{◌≡◌, ◌∷◌, ◌++◌, [], Ok, true, false, IfOk, OnOk};
 ghost use Rattle.mich_machine.specs.Calls.{IsHosting};
 ghost use Rattle.mich_world.specs.Marks.{KeepsWorld};
-ghost use Rattle.mich_group.specs.Trees.{Acts, NoneWaits, SomeGoing, Steps, OnStep, alone};
+ghost use Rattle.mich_group.specs.Trees.{Acts, NoneWaits, SomeGoing, Steps, OnStep, alone, with_growth};
 ghost use Rattle.mich_group.specs.Waiting.{AreHanded, all_sent};
 
 use crate::waiting::{Sent, send};
-use mich_base::Rows;
+use mich_base::{Memory, Rows};
 use mich_forms::KeyHash;
 use mich_gas::{Costs, Meter};
 use mich_machine::{Bodies, Counts};
@@ -14,6 +14,17 @@ use mich_operations::{ApplyError, apply_action, apply_issued};
 use mich_ops::{Action, Effect};
 use mich_world::World;
 use std::alloc::Global;
+
+// Adds what an operation did, and the growth of its contract.
+fn tell(effects: &mut Rows<Effect>, done: Effect, growth: Option<Effect>) -> Result<(), Memory>
+    ensures { IfOk result (λ _. effects.new ≡ effects.old ++ with_growth done growth) }
+{
+    effects.push(done)?;
+    if let Some(grew) = growth {
+        effects.push(grew)?;
+    }
+    Ok(())
+}
 
 #[tactic(auto, using(crate::proofs::Stepping::begins_with, crate::proofs::Sending::handed_each))]
 // Applies the action that a source orders, before which nothing waits.
@@ -39,7 +50,7 @@ pub(crate) fn apply_first(
     ensures keeps { OnStep result (KeepsWorld world.old world.new) }
 {
     let applied = apply_action(alloc, world, costs, source, meter, counts, bodies, action)?;
-    effects.push(applied.effect)?;
+    tell(effects, applied.effect, applied.growth)?;
     send(waiting, applied.by, applied.emitted)?;
     Ok(())
 }
@@ -81,7 +92,7 @@ pub(crate) fn apply_next(
         next.by,
         next.operation,
     )?;
-    effects.push(applied.effect)?;
+    tell(effects, applied.effect, applied.growth)?;
     send(waiting, applied.by, applied.emitted)?;
     Ok(true)
 }

@@ -59,7 +59,7 @@ use Rattle.mich_world.specs.Marks.{KeepsWorld}
 use Rattle.mich_world.specs.Standing.{StandsFor}
 use Rattle.mich_world.specs.World.{World, with_funds, with_ledger}
 use Rattle.mich_world.proofs.ForCallers.{balance_or_none_is, moves_agree, ledger_lent}
-use Rattle.mich_operations.specs.Going.{EndsAs, KeepsContracts, WithMemory, issued_by}
+use Rattle.mich_operations.specs.Going.{EndsAs, KeepsContracts, WithMemory, grown, issued_by}
 use Rattle.mich_operations.specs.Transfers.{IsSent, transaction}
 use Rattle.mich_operations.specs.declared.applied.Applied.{Applied}
 use Rattle.mich_operations.specs.declared.applied.ApplyError.{ApplyError}
@@ -145,9 +145,9 @@ module _ (v : World) (w : PlainWorld) (from : Place) (to : List ℕ) (amount : �
 
     pub sends_ticket : (z : World) (entry : List ℕ) (argument : Argument) (gas : ℕ) (counts : Counts) (literal : Node) (a : Applied) → z ≡ with_ledger y z.ledger →
         Moves (implicit_place to) (λ j. amount_of j (held t)) y.ledger.books.present z.ledger.books.present → tree literal ≡ canonical x →
-        a.effect ≡ effect.Transfer from (record { place = place.Implicit to; entrypoint = entry }) amount literal [] → a.emitted ≡ [] →
+        a.effect ≡ effect.Transfer from (record { place = place.Implicit to; entrypoint = entry }) amount literal [] → a.emitted ≡ [] → a.growth ≡ None →
         EndsAs (with_taken (Some x) w (transaction from (place.Implicit to) entry amount argument) gas (counts_of counts)) z gas counts counts (Ok a)
-    sends_ticket z entry argument gas counts literal a e m printed done nothing = record {
+    sends_ticket z entry argument gas counts literal a e m printed done nothing alone = record {
       world = received w (T entry argument) x;
       stands = subst (λ (u : World). StandsFor u (with_ticket next to (Some (held t)))) (sym e) (credits_agree y next z.ledger to (held t) next_stands next_form key there_now ticket_amount m);
       same = ap (λ o. account_outcome o w (T entry argument) x gas (counts_of counts))
@@ -155,7 +155,7 @@ module _ (v : World) (w : PlainWorld) (from : Place) (to : List ℕ) (amount : �
           ∙ (λ i. applied (record {
             world = received w (T entry argument) x;
             emitted = map (issued_by z.store.bases.present a.by) (sym nothing i);
-            effects = (ap (λ n. Transfer (place_bytes from) (spelled_address (implicit_place to) entry) amount n []) (sym printed) ∙ ap effect_of (sym done)) i ∷ [];
+            effects = (ap (λ n. Transfer (place_bytes from) (spelled_address (implicit_place to) entry) amount n []) (sym printed) ∙ ap effect_of (sym done)) i ∷ grown (sym alone i);
             gas = gas;
             counts = counts_of counts;
           }));

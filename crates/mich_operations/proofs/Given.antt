@@ -1,5 +1,5 @@
 -- Tickets that a source gives.
-use Rattle.std.proofs.Common.{◌≡◌, ℕ, ℤ, ◌+ℤ◌, ◌≤ℤ◌, ◌<ℤ◌, List, [], ◌∷◌, map, Bool, true, false, Ok, Err, refl, sym, ap, ◌∙◌, subst, is_some, arith}
+use Rattle.std.proofs.Common.{◌≡◌, ℕ, ℤ, ◌+ℤ◌, ◌≤ℤ◌, ◌<ℤ◌, List, [], ◌∷◌, map, Bool, true, false, None, Ok, Err, refl, sym, ap, ◌∙◌, subst, is_some, arith}
 use Rattle.std.specs.Prelude.{if◌then◌else◌, int_lt, neg_ℤ}
 use Rattle.std.specs.List.{AllByRecursion}
 use Rattle.std.specs.Str.{bytes_eq}
@@ -41,7 +41,7 @@ use Rattle.mich_world.specs.Standing.{StandsFor}
 use Rattle.mich_world.specs.World.{World, with_funds, with_ledger}
 use Rattle.mich_world.proofs.ForCallers.{moves_agree}
 use Rattle.mich_operations.specs.Gifts.{IsGiven, IsTakenFrom, gift, tickets_of}
-use Rattle.mich_operations.specs.Going.{EndsAs, issued_by}
+use Rattle.mich_operations.specs.Going.{EndsAs, grown, issued_by}
 use Rattle.mich_operations.specs.declared.applied.Applied.{Applied}
 use Rattle.mich_operations.specs.declared.applied.ApplyError.{ApplyError}
 use Rattle.mich_operations.specs.declared.applied.ApplyError.TheVariants.{Failed, Memory}
@@ -137,9 +137,9 @@ module _ (v : World) (w : PlainWorld) (who : List ℕ) (id : TicketId) (n : ℤ)
               (credits_agree z settled x.ledger hash t settled_stands (moved_moves gone (implicit_place who) (implicit_place hash) 0 (orderly_of gone gone_may.sound)).orderly.form key there positive comes))
 
           pub gives_account : (prices : Listed) (group : ℕ) (name : List ℕ) (gas : ℕ) (counts : Counts) (a : Applied) → name ≡ default_name
-              → effect_of a.effect ≡ give_effect (setting_of prices group who) (gift t (place.Implicit hash) name) [] → a.emitted ≡ []
+              → effect_of a.effect ≡ give_effect (setting_of prices group who) (gift t (place.Implicit hash) name) [] → a.emitted ≡ [] → a.growth ≡ None
               → EndsAs (give_account (setting_of prices group who) w (gift t (place.Implicit hash) name) gas (counts_of counts)) x gas counts counts (Ok a)
-          gives_account prices group name gas counts a named did nothing =
+          gives_account prices group name gas counts a named did nothing alone =
               let g = gift t (place.Implicit hash) name in
               let s = setting_of prices group who in
               record {
@@ -150,7 +150,7 @@ module _ (v : World) (w : PlainWorld) (who : List ℕ) (id : TicketId) (n : ℤ)
                     ∙ (λ i. applied (record {
                       world = after;
                       emitted = map (issued_by x.store.bases.present a.by) (sym nothing i);
-                      effects = sym did i ∷ [];
+                      effects = sym did i ∷ grown (sym alone i);
                       gas = gas;
                       counts = counts_of counts;
                     }));

@@ -4,6 +4,7 @@ use Rattle.std.specs.Prelude.{nat_lt, option_map}
 use Rattle.std.specs.declared.option.Option.{Option}
 use Rattle.std.proofs.lemmas.List.Elements.{All-head}
 use Rattle.laws_world.proofs.operations.ForCallers.{new_length}
+use Rattle.laws_world.proofs.runs.ForCallers.{orderly_of}
 use Rattle.rules_code.specs.evaluation.Operations.{origination}
 use Rattle.rules_code.specs.evaluation.Surroundings.{Contract as PlainContract}
 use Rattle.rules_data.specs.forms.Spelling.{contract_place}
@@ -44,11 +45,12 @@ use Rattle.mich_world.specs.Storages.{owner_of}
 use Rattle.mich_world.specs.World.{World}
 use Rattle.mich_world.specs.declared.contract.Contract.{Contract}
 use Rattle.mich_world.proofs.ForCallers.{world_same}
-use Rattle.mich_operations.specs.Foundings.{IsPayer, founding}
+use Rattle.mich_operations.specs.Foundings.{IsFounding, founding}
 use Rattle.mich_operations.specs.Going.{Begins, EndsAs, WithMemory, issued_by}
 use Rattle.mich_operations.specs.declared.applied.Applied.{Applied}
 use Rattle.mich_operations.specs.declared.applied.ApplyError.{ApplyError}
 use Rattle.mich_operations.specs.declared.applied.ApplyError.TheVariants.{Failed, Memory}
+use Rattle.mich_operations.proofs.Foundings.{founded_form}
 use Rattle.mich_operations.proofs.Paying.{ends_along, charged_paid}
 
 -- ---- contracts that a contract makes
@@ -82,20 +84,23 @@ module _ (v : World) (w : PlainWorld) (s : Setting) (by : List ℕ) (number : �
         installs_fit v w hash storage first.1.0.0.storage b.stands ticketless formed twenty first.1.0.3
         (originations_may_run w (contract_place by) delegate amount (script_node script) (val_in bs storage) hash b.next.behind b.next.going.good)
 
-    pub pays_for : IsPayer v w (place.Contract by)
-    pays_for = record {
-      stands = b.stands;
-      form = b.next.going.good.sound.form;
-      payer = (All-head (IsGoodWaiting w) waits b.next.behind b.next.going.good.waits).0;
-    }
+    pub pays_for : IsFounding v w s.source (place.Contract by) (founding bs (place.Contract by) hash amount script storage)
+    pays_for =
+        let first = All-head (IsGoodWaiting w) waits b.next.behind b.next.going.good.waits in
+        record {
+          payer = record { stands = b.stands; form = b.next.going.good.sound.form; payer = first.0 };
+          form = founded_form w (founding bs (place.Contract by) hash amount script storage) (orderly_of w b.next.going.good.sound) twenty
+              b.next.going.fresh.absent.0 first.1.0;
+          key = b.next.setting.source;
+        }
 
   module _ (x : World) (gas left : ℕ) (counts : Counts) (r : Result Applied ApplyError) (paid : nat_lt gas (cost s.prices price.Origination 0) ≡ false) (rest : left ≡ gas - cost s.prices price.Origination 0) where
-    pub makes : delegate ≡ None → EndsAs (found_contract w (founding bs (place.Contract by) hash amount script storage) left (counts_of counts)) x left counts counts r →
+    pub makes : delegate ≡ None → EndsAs (found_contract s w (founding bs (place.Contract by) hash amount script storage) left (counts_of counts)) x left counts counts r →
         EndsAs (apply s w (issued_by bs by op) gas (counts_of counts)) x left counts counts r
     makes none h =
-        ends_along (apply s w (issued_by bs by op) gas (counts_of counts)) (found_contract w (founding bs (place.Contract by) hash amount script storage) left (counts_of counts)) x left counts counts r
+        ends_along (apply s w (issued_by bs by op) gas (counts_of counts)) (found_contract s w (founding bs (place.Contract by) hash amount script storage) left (counts_of counts)) x left counts counts r
         (charged_paid s.prices price.Origination gas left _ paid rest
-        ∙ ap (λ (d : Option (List ℕ)). unless_delegated d w (founding bs (place.Contract by) hash amount script storage) left (counts_of counts)) none)
+        ∙ ap (λ (d : Option (List ℕ)). unless_delegated s d w (founding bs (place.Contract by) hash amount script storage) left (counts_of counts)) none)
         h
 
 -- ---- events

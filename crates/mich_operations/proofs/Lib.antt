@@ -1,5 +1,6 @@
 pub mod Hosting
 pub mod Paying
+pub mod Growths
 pub mod Whole
 pub mod Foundings
 pub mod Issuing

@@ -14,14 +14,14 @@ use Rattle.rules_data.specs.values.Tickets.{tickets}
 use Rattle.rules_data.specs.values.Val.{Val}
 use Rattle.rules_world.specs.world.Arguments.{literal_in}
 use Rattle.rules_world.specs.world.Contents.{Originate}
-use Rattle.rules_world.specs.world.Forms.{IsSmall}
-use Rattle.rules_world.specs.world.Good.{IsGoodWaiting}
-use Rattle.rules_world.specs.world.Originations.{Founding, found_contract, founding_of, one_more, with_script, with_storage}
+use Rattle.rules_world.specs.world.Forms.{IsSmall, IsWorld}
+use Rattle.rules_world.specs.world.Good.{FitsIn, IsGoodWaiting}
+use Rattle.rules_world.specs.world.Originations.{Founding, found_contract, founded, founding_of, one_more, with_script, with_storage}
 use Rattle.rules_world.specs.world.Outcomes.{Setting, Outcome, Counts as PlainCounts, ordered}
 use Rattle.rules_world.specs.world.World.{World as PlainWorld}
 use Rattle.laws_world.proofs.accounts.ForCallers.{literal_empty, literal_fits}
 use Rattle.laws_world.proofs.operations.ForCallers.{new_length}
-use Rattle.laws_world.proofs.runs.ForCallers.{script_code}
+use Rattle.laws_world.proofs.runs.ForCallers.{orderly_of, script_code}
 use Rattle.laws_data.specs.types.Laws.{IsWellFormed}
 use Rattle.mich_base.specs.TypeView.{kind}
 use Rattle.mich_bigmap.specs.Bases.{Bases}
@@ -46,11 +46,12 @@ use Rattle.mich_tickets.specs.Carrying.{MayEnter}
 use Rattle.mich_world.specs.Holders.{contract_at}
 use Rattle.mich_world.specs.Storages.{owner_of}
 use Rattle.mich_world.specs.World.{World}
-use Rattle.mich_operations.specs.Foundings.{IsPayer, IsStorageOf, founding}
+use Rattle.mich_operations.specs.Foundings.{IsFounding, IsPayer, IsStorageOf, founding}
 use Rattle.mich_operations.specs.Going.{Begins, EndsAs}
 use Rattle.mich_operations.specs.declared.applied.Applied.{Applied}
 use Rattle.mich_operations.specs.declared.applied.ApplyError.{ApplyError}
 use Rattle.mich_operations.specs.declared.applied.ApplyError.TheVariants.{Failed, Memory}
+use Rattle.mich_operations.proofs.Foundings.{founded_form}
 use Rattle.mich_operations.proofs.Issuing.{some_none}
 use Rattle.mich_operations.proofs.Paying.{ends_along, ends_failed}
 use Rattle.mich_operations.proofs.Whole.{whole_stands}
@@ -104,6 +105,24 @@ module _ (v : World) (w : PlainWorld) (s : Setting) (balance : ℕ) (t u : Tree)
     payer = implicit_is s.source b.next.setting.source;
   }
 
+  -- for a contract of this script and storage
+  pub source_founds : (p : PlainScript) (a : Kind) → script t ≡ found p → p.storage ≡ a → (bs : Bases) (k : Script) (x : Value) (hash : List ℕ) →
+      literal_in w a u ≡ found (val x) → val_in bs x ≡ val x → script_node k ≡ t → hash ≡ new_contract s.group counts.originations →
+      IsFounding v w s.source (place.Implicit s.source) (founding bs (place.Implicit s.source) hash balance k x)
+  source_founds p a read stored bs k x hash e same node made =
+      let few = few_originations in
+      let room : counts.originations < 2 ^ 32 = omega (arith, few) in
+      let founds : founding bs (place.Implicit s.source) hash balance k x ≡ founding_of s counts balance t (val x)
+      = (λ i. record { sender = implicit_place s.source; hash = made i; balance = balance; script = node i; storage = same i }) in
+      record {
+        payer = source_pays;
+        form = subst (λ (f : Founding). IsWorld (founded w f)) (sym founds)
+            (founded_form w (founding_of s counts balance t (val x)) (orderly_of w b.next.going.good.sound) (new_length s.group counts.originations)
+            (b.next.going.fresh.later counts.originations (le_same counts.originations) room)
+            (p, read, its_fields.1, subst (λ (g : Kind). FitsIn w g (val x)) (sym stored) (literal_fits w a u (val x) e small_storage)));
+        key = b.next.setting.source;
+      }
+
   -- its storage holds no ticket
   pub storage_enters : (a : Kind) (x : Value) → literal_in w a u ≡ found (val x) → IsWhole a x → AreFormed x → HoldNoTickets v.store.bases.present →
       MayEnter (owner_of (new_contract s.group counts.originations)) v.ledger.books.present (tickets (val x))
@@ -130,16 +149,16 @@ module _ (w : PlainWorld) (s : Setting) (balance : ℕ) (t u : Tree) (x : World)
 
     pub ends_founded : (bs : Bases) (mid new : Counts) (k : Script) (value : Value) (hash : List ℕ) (r : Result Applied ApplyError) → literal_in w a u ≡ found (val value) →
         val_in bs value ≡ val value → script_node k ≡ t → hash ≡ new_contract s.group old.originated → mid.group ≡ old.group → counts_of mid ≡ one_more (counts_of old) →
-        EndsAs (found_contract w (founding bs (place.Implicit s.source) hash balance k value) gas (counts_of mid)) x gas mid new r →
+        EndsAs (found_contract s w (founding bs (place.Implicit s.source) hash balance k value) gas (counts_of mid)) x gas mid new r →
         EndsAs (with_script (script t) s w balance t u gas (counts_of old)) x gas old new r
     ends_founded bs mid new k value hash r e same node made group one h =
         let founds : founding bs (place.Implicit s.source) hash balance k value ≡ founding_of s (counts_of old) balance t (val value)
         = (λ i. record { sender = implicit_place s.source; hash = made i; balance = balance; script = node i; storage = same i }) in
-        ends_along (with_script (script t) s w balance t u gas (counts_of old)) (found_contract w (founding bs (place.Implicit s.source) hash balance k value) gas (counts_of mid)) x gas old new r
+        ends_along (with_script (script t) s w balance t u gas (counts_of old)) (found_contract s w (founding bs (place.Implicit s.source) hash balance k value) gas (counts_of mid)) x gas old new r
         (reads_storage ∙ ap (λ (f : Found Val). with_storage f s w balance t gas (counts_of old)) e
-        ∙ ap (λ (f : Founding). found_contract w f gas (one_more (counts_of old))) (sym founds)
-        ∙ ap (λ (n : PlainCounts). found_contract w (founding bs (place.Implicit s.source) hash balance k value) gas n) (sym one))
-        (counted_one (found_contract w (founding bs (place.Implicit s.source) hash balance k value) gas (counts_of mid)) x gas old mid new r group h)
+        ∙ ap (λ (f : Founding). found_contract s w f gas (one_more (counts_of old))) (sym founds)
+        ∙ ap (λ (n : PlainCounts). found_contract s w (founding bs (place.Implicit s.source) hash balance k value) gas n) (sym one))
+        (counted_one (found_contract s w (founding bs (place.Implicit s.source) hash balance k value) gas (counts_of mid)) x gas old mid new r group h)
 
 -- ---- the type of a storage
 
@@ -171,4 +190,5 @@ module _ (w : PlainWorld) (s : Setting) (balance : ℕ) (t u : Tree) (x : World)
   ends_unstored (Failed (failures.IllTyped l)) h = absurd h
   ends_unstored (Failed failures.UnregisteredDelegate) h = absurd h
   ends_unstored (Failed failures.TicketShort) h = absurd h
+  ends_unstored (Failed failures.CannotPayBurn) h = absurd h
   ends_unstored Memory h = tt

@@ -48,7 +48,7 @@ use Rattle.mich_world.specs.Holders.{may_receive, moved, balance_or_none as bala
 use Rattle.mich_world.specs.Standing.{StandsFor}
 use Rattle.mich_world.specs.World.{World, with_funds}
 use Rattle.mich_world.proofs.ForCallers.{balance_or_none_is, moves_agree}
-use Rattle.mich_operations.specs.Going.{Begins, EndsAs, issued_by}
+use Rattle.mich_operations.specs.Going.{Begins, EndsAs, grown, issued_by}
 use Rattle.mich_operations.specs.Transfers.{AreBetween, transaction}
 use Rattle.mich_operations.specs.declared.applied.Applied.{Applied}
 use Rattle.mich_operations.specs.declared.applied.ApplyError.{ApplyError}
@@ -106,11 +106,11 @@ module _ (u : World) (w : PlainWorld) (from : Place) (to entry : List ℕ) (amou
       ends_failed _ v gas counts counts f balance_too_low
       (ap (λ o. account_outcome o w t x gas (counts_of counts)) (low_fails w t x some (subst (λ n. n < amount) balance_here low))) h
 
-  pub pays : (v : World) (literal : Node) (a : Applied) → a.effect ≡ effect.Transfer from (record { place = place.Implicit to; entrypoint = entry }) amount literal [] → a.emitted ≡ [] → amount ≢ 0 → as_ticket x ≡ None → may_receive u.funds.present from ≡ true → amount ≤ balance_in u.funds.present from →
+  pub pays : (v : World) (literal : Node) (a : Applied) → a.effect ≡ effect.Transfer from (record { place = place.Implicit to; entrypoint = entry }) amount literal [] → a.emitted ≡ [] → a.growth ≡ None → amount ≢ 0 → as_ticket x ≡ None → may_receive u.funds.present from ≡ true → amount ≤ balance_in u.funds.present from →
       v ≡ with_funds u v.funds → v.funds.present ≡ moved u.funds.present from (place.Implicit to) amount → tree literal ≡ canonical x →
       EndsAs (with_taken (Some x) w t gas (counts_of counts)) v gas counts counts
       (Ok a)
-  pays v literal a done nothing some plain there enough e m printed = record {
+  pays v literal a done nothing alone some plain there enough e m printed = record {
     world = received w t x;
     stands = subst (λ o. StandsFor v (with_ticket (rules.moved w t.sender t.destination amount) (key_hash_in t.destination) o)) (sym plain)
         (moves_agree u v w from (place.Implicit to) amount b.stands b.form b.sender b.receiver there refl e m);
@@ -118,7 +118,7 @@ module _ (u : World) (w : PlainWorld) (from : Place) (to entry : List ℕ) (amou
         ∙ (λ i. applied (record {
           world = received w t x;
           emitted = map (issued_by v.store.bases.present a.by) (sym nothing i);
-          effects = (ap (λ n. Transfer t.sender (spelled_address t.destination entry) amount n []) (sym printed) ∙ ap effect_of (sym done)) i ∷ [];
+          effects = (ap (λ n. Transfer t.sender (spelled_address t.destination entry) amount n []) (sym printed) ∙ ap effect_of (sym done)) i ∷ grown (sym alone i);
           gas = gas;
           counts = counts_of counts;
         }));

@@ -10,22 +10,25 @@ use Rattle.rules_data.specs.gas.Prices.{Listed}
 use Rattle.rules_code.specs.steps.Changes.{Change as PlainChange}
 use Rattle.rules_code.specs.steps.Environment.{Environment}
 use Rattle.rules_code.specs.steps.Failure.{balance_too_low}
+use Rattle.rules_code.specs.typing.Nodes.{script}
 use Rattle.rules_data.specs.values.Canonical.{canonical}
 use Rattle.rules_data.specs.values.Val.{Val}
 use Rattle.rules_world.specs.world.Arguments.{Argument, value}
 use Rattle.rules_world.specs.world.Balances.{balance_or_none, moved}
 use Rattle.rules_world.specs.world.Forms.{IsWorld}
+use Rattle.rules_world.specs.world.Good.{Stores}
 use Rattle.rules_world.specs.world.Groups.{setting_of}
-use Rattle.rules_world.specs.world.Outcomes.{Setting, Counts as PlainCounts, Outcome, applied, failed, stuck, issued}
+use Rattle.rules_world.specs.world.Growth.{growing}
+use Rattle.rules_world.specs.world.Outcomes.{Setting, Counts as PlainCounts, Success, Outcome, applied, failed, stuck, issued}
 use Rattle.rules_world.specs.world.Receipts.{Effect, Transfer}
 use Rattle.rules_world.specs.world.RunLaws.{IsCall}
 use Rattle.rules_world.specs.world.Runs.{Call, environment_of, Finished as PlainFinished, Ended, finished, run_failed, run_stuck, run_in, waiting_of, with_effect, run}
 use Rattle.rules_world.specs.world.Targets.{Target}
 use Rattle.rules_world.specs.world.Transfers.{transfer_effect, if_covered}
-use Rattle.rules_world.specs.world.World.{World as PlainWorld, contract_at as plain_contract_at}
+use Rattle.rules_world.specs.world.World.{World as PlainWorld, contract_at as plain_contract_at, with_contract}
 use Rattle.laws_world.proofs.accounts.ForCallers.{Extends}
 use Rattle.laws_world.specs.runs.RunEnds.{IsFinished as IsFinishedRun, EndsWell}
-use Rattle.laws_world.proofs.runs.ForCallers.{runs_end_well, extends_replaced}
+use Rattle.laws_world.proofs.runs.ForCallers.{contract_length, contract_stores, extends_replaced, is_met, orderly, orderly_contract, orderly_log, runs_end_well}
 use Rattle.mich_base.specs.View.{tree}
 use Rattle.mich_base.specs.declared.node.Node.{Node}
 use Rattle.mich_bigmap.specs.Bases.{Bases}
@@ -58,12 +61,14 @@ use Rattle.mich_world.specs.Standing.{plain, StandsFor}
 use Rattle.mich_world.specs.World.{World, with_funds}
 use Rattle.mich_world.specs.declared.contract.Contract.{Contract}
 use Rattle.mich_world.proofs.ForCallers.{balance_or_none_is, moves_agree}
-use Rattle.mich_operations.specs.Calls.{call_of, covered, IsReady, IsDue}
-use Rattle.mich_operations.specs.Going.{EndsAs, KeepsContracts, WithMemory, issued_by}
+use Rattle.mich_operations.specs.Calls.{before_growth, call_of, covered, IsReady, IsDue}
+use Rattle.mich_operations.specs.Going.{EndsAs, IsApplied, KeepsContracts, WithMemory, grown, issued_by}
+use Rattle.mich_operations.specs.Growths.{IsGrowing}
 use Rattle.mich_operations.specs.Transfers.{transaction}
 use Rattle.mich_operations.specs.declared.applied.Applied.{Applied}
 use Rattle.mich_operations.specs.declared.applied.ApplyError.{ApplyError}
 use Rattle.mich_operations.specs.declared.applied.ApplyError.TheVariants.{Failed, Memory}
+use Rattle.mich_operations.proofs.Growths.{growing_stops}
 use Rattle.mich_operations.proofs.Paying.{ends_along, ends_failed}
 
 -- ---- contracts that are there
@@ -162,18 +167,18 @@ module _ (v : World) (w : PlainWorld) (costs : Costs) (counts : Counts) (source 
     same_changes (c ∷ cs) = (λ i. same_change c i ∷ same_changes cs i)
 
     pub ran : (effect : List PlainChange → Effect) (gas left : ℕ) (z : World) (new : Counts) (done : Finished) (a : Applied) →
-        effect_of a.effect ≡ effect (map change_of done.changes) → a.by ≡ to → a.emitted ≡ done.returned →
+        effect_of a.effect ≡ effect (map change_of done.changes) → a.by ≡ to → a.emitted ≡ done.returned → a.growth ≡ None →
         is_some (contract_at v.funds.present to) ≡ true →
         machine.IsFinished (run_of v w (listed costs) counts gas argument env t) z left counts new done →
-        EndsAs (run s w call gas (counts_of counts) effect) z left counts new (Ok a)
-    ran effect gas left z new done a did by emitted there h = record {
+        EndsAs (before_growth s w call gas (counts_of counts) effect) z left counts new (Ok a)
+    ran effect gas left z new done a did by emitted alone there h = record {
       world = h.world;
       stands = h.stands;
       same = ap (with_effect t.hash effect) (sym (run_is gas) ∙ h.same)
           ∙ (λ i. applied (record {
             world = h.world;
             emitted = (emits z.store.bases.present done.returned ∙ (λ j. map (issued_by z.store.bases.present (sym by j)) (sym emitted j))) i;
-            effects = (ap effect (same_changes done.changes) ∙ sym did) i ∷ [];
+            effects = (ap effect (same_changes done.changes) ∙ sym did) i ∷ grown (sym alone i);
             gas = left;
             counts = counts_of new;
           }));
@@ -184,13 +189,69 @@ module _ (v : World) (w : PlainWorld) (costs : Costs) (counts : Counts) (source 
 
     pub ran_failed : (effect : List PlainChange → Effect) (gas left : ℕ) (z : World) (new : Counts) (f : Why) →
         machine.EndsAs (run_of v w (listed costs) counts gas argument env t) z left counts new (Err (errors.Failed f)) →
-        EndsAs (run s w call gas (counts_of counts) effect) z left counts new (Err (Failed f))
+        EndsAs (before_growth s w call gas (counts_of counts) effect) z left counts new (Err (Failed f))
     ran_failed effect gas left z new f h = by (run_in (environment_of s w call) s w t x gas (counts_of counts)) (subst (λ (o : Ended). machine.EndsAs o z left counts new (Err (errors.Failed f))) (run_is gas) h)
       where
         by : (o : Ended) → machine.EndsAs o z left counts new (Err (errors.Failed f)) → EndsAs (with_effect t.hash effect o) z left counts new (Err (Failed f))
         by (run_failed why) g = g
         by (finished e) g = absurd g
         by run_stuck g = absurd g
+
+-- ---- one that ran, with the growth behind it
+
+-- the world behind an operation that was applied
+abbrev world_in : PlainWorld → Outcome → PlainWorld
+world_in w (applied a) = a.world
+world_in w (failed why) = w
+world_in w stuck = w
+
+module _ (w : PlainWorld) (s : Setting) (c : Call) (counts : PlainCounts) (called : IsCall (environment_of s w c) s w c.target c.argument counts) where
+  finished_form : (f : PlainFinished) → IsFinishedRun s w c.target c.argument counts f → IsWorld f.world
+  finished_form f is =
+      let t = c.target in
+      let o = orderly (environment_of s w c) s w t c.argument counts called in
+      let m = is_met (environment_of s w c) s w t c.argument counts called in
+      let d : PlainContract = record is.before { storage = is.storage } in
+      let one : Some m.contract ≡ Some is.before = sym m.there ∙ is.there in
+      let same : m.contract ≡ is.before = cc in
+      let stores : Stores w d.script d.storage
+      = (t.script, ap (λ (k : PlainContract). script k.script) (sym same) ∙ m.read, (contract_stores w o t.hash is.before is.there).2, is.fits) in
+      let more = extends_replaced w t.hash d is.before is.there refl in
+      subst IsWorld (sym is.world)
+      (orderly_log (with_contract w t.hash d) f.changes
+      (orderly_contract w t.hash d o (contract_length w o t.hash is.before is.there) more stores) is.changes).form
+
+  form_behind : (effect : List PlainChange → Effect) (gas : ℕ) (b : Success) → before_growth s w c gas counts effect ≡ applied b → IsWorld b.world
+  form_behind effect gas b e =
+      by (run_in (environment_of s w c) s w c.target c.argument gas counts)
+      (runs_end_well (environment_of s w c) s w c.target c.argument gas counts called) e
+    where
+      by : (r : Ended) → EndsWell s w c.target c.argument counts r → with_effect c.target.hash effect r ≡ applied b → IsWorld b.world
+      by (finished f) h e = subst IsWorld (ap (world_in w) e) (finished_form f h)
+      by (run_failed why) h e = absurd cc
+      by run_stuck h e = absurd h
+
+module _ (v : World) (w : PlainWorld) (s : Setting) (counts : PlainCounts) (from : Place) (to name : List ℕ) (amount : ℕ) (argument : Value) (t : Target)
+    (ready : IsReady v w s counts from to name amount argument t) where
+  abbrev go : Call
+  go = call_of from amount t (val_in v.store.bases.present argument)
+
+  pub grows_on : (effect : List PlainChange → Effect) (gas left : ℕ) (z : World) (old new : Counts) (a : Applied) →
+      IsApplied (before_growth s w go gas counts effect) z left old new a → IsGrowing (before_growth s w go gas counts effect) z s.source left old new a
+  grows_on effect gas left z old new a h = record {
+    applied = h;
+    form = form_behind w s go counts ready.call effect gas _ h.same;
+    key = ready.call.environment.source;
+  }
+
+  pub runs_on : (effect : List PlainChange → Effect) (gas left : ℕ) (y : World) (old new : Counts) (by : List ℕ) (r : Result Applied ApplyError) → by ≡ to →
+      EndsAs (growing s by (before_growth s w go gas counts effect)) y left old new r → EndsAs (run s w go gas counts effect) y left old new r
+  runs_on effect gas left y old new by r is h =
+      subst (λ (q : List ℕ). EndsAs (growing s q (before_growth s w go gas counts effect)) y left old new r) (is ∙ sym ready.hash) h
+
+  pub runs_not : (effect : List PlainChange → Effect) (gas left : ℕ) (y : World) (old new : Counts) (e : ApplyError) →
+      EndsAs (before_growth s w go gas counts effect) y left old new (Err e) → EndsAs (run s w go gas counts effect) y left old new (Err e)
+  runs_not effect gas left y old new e h = growing_stops s t.hash (before_growth s w go gas counts effect) y left old new e h
 
 -- what a transfer to a contract did
 pub transfer_told : (from : Place) (to name : List ℕ) (amount : ℕ) (x : Val) (literal : Node) (changes : List Change) → tree literal ≡ canonical x →
@@ -208,6 +269,11 @@ pub with_memory : {A B : Type 0} (r : Result Applied ApplyError) → (A → B) �
 with_memory (Ok a) g h = g h
 with_memory (Err (Failed f)) g h = g h
 with_memory (Err Memory) g h = h
+
+pub memory_either : {A : Type 0} (r : Result Applied ApplyError) → A → WithMemory r A
+memory_either (Ok a) h = h
+memory_either (Err (Failed f)) h = h
+memory_either (Err Memory) h = tt
 
 pub contracts_then : (u v w : World) (r : Result Applied ApplyError) → KeepsContracts u v → IfOk r (λ _. KeepsContracts v w) → IfOk r (λ _. KeepsContracts u w)
 contracts_then u v w (Ok a) g h = λ hash there. h hash (g hash there)

@@ -17,7 +17,7 @@ use Rattle.rules_world.specs.world.Groups.{setting_of}
 use Rattle.rules_world.specs.world.Outcomes.{Setting, ordered, Counts, Outcome}
 use Rattle.rules_world.specs.world.Receipts.{Effect}
 use Rattle.rules_world.specs.world.RunLaws.{IsCall}
-use Rattle.rules_world.specs.world.Runs.{Call, environment_of, run}
+use Rattle.rules_world.specs.world.Runs.{Call, environment_of, run_in, with_effect}
 use Rattle.rules_world.specs.world.Targets.{Target, met, missing, search}
 use Rattle.rules_world.specs.world.Transfers.{Transaction, delivered, if_covered, transfer_effect}
 use Rattle.rules_world.specs.world.World.{World as PlainWorld}
@@ -57,6 +57,10 @@ ReadAs w hash name t (Err Memory) = Unit {0}
 -- a place calls an entrypoint, which has the mutez already
 abbrev pub call_of : Place → ℕ → Target → Val → Call
 call_of from amount t x = record { target = t; sender = place_bytes from; amount = amount; argument = x }
+
+-- an operation whose effect is a run, before the growth of its contract is charged
+abbrev pub before_growth : Setting → PlainWorld → Call → ℕ → Counts → (List Change → Effect) → Outcome
+before_growth s w c gas counts effect = with_effect c.target.hash effect (run_in (environment_of s w c) s w c.target c.argument gas counts)
 
 -- a transfer whose argument has this value: where the sender has the mutez they move, and the contract runs
 abbrev pub covered : Setting → PlainWorld → Transaction → Target → Val → ℕ → Counts → Outcome
@@ -103,13 +107,13 @@ IsAround v source from to amount env =
 
 -- ---- how they end
 
--- a contract that is ready runs as the definitions say, and so its run is told
+-- a contract that is ready runs as the definitions say, and so its run is told, before its growth is charged
 abbrev pub Runs : Listed → List ℕ → Place → List ℕ → List ℕ → ℕ → Value → (List Change → Effect)
     → World → ℕ → CodeCounts → World → ℕ → CodeCounts → Result Applied ApplyError → Type 0
 Runs prices source from to name amount argument effect v gas counts new left after r =
     (w : PlainWorld) (t : Target) → IsReadyIn v w prices counts source from to name amount argument t
     → EndsAs
-    (run (setting_in prices counts source) w (call_of from amount t (val_in v.store.bases.present argument)) gas (counts_of counts) effect)
+    (before_growth (setting_in prices counts source) w (call_of from amount t (val_in v.store.bases.present argument)) gas (counts_of counts) effect)
     new left counts after r
 
 -- as a transfer

@@ -3,12 +3,13 @@ use Rattle.std.specs.Prelude.{◌≡◌, ℕ, true, List, Result, Ok, Err}
 use Rattle.rules_text.specs.nodes.Tree.{Tree}
 use Rattle.rules_code.specs.instructions.Arguments.{Found, found, fault}
 use Rattle.rules_data.specs.gas.Prices.{Listed}
-use Rattle.rules_data.specs.forms.Spelling.{is_place}
+use Rattle.rules_data.specs.forms.Spelling.{is_key_hash, is_place}
 use Rattle.rules_code.specs.typing.Nodes.{script}
 use Rattle.rules_data.specs.values.Val.{Val}
 use Rattle.rules_world.specs.world.Forms.{IsWorld}
 use Rattle.rules_world.specs.world.Contents.{Originate}
-use Rattle.rules_world.specs.world.Originations.{Founding, found_contract, with_script}
+use Rattle.rules_world.specs.world.Groups.{setting_of}
+use Rattle.rules_world.specs.world.Originations.{Founding, found_contract, founded, with_script}
 use Rattle.rules_world.specs.world.Outcomes.{ordered}
 use Rattle.rules_world.specs.world.World.{World as PlainWorld}
 use Rattle.mich_bigmap.specs.Bases.{Bases}
@@ -46,11 +47,17 @@ pub record IsPayer (v : World) (w : PlainWorld) (from : Place) : Type 0 where
   pub form : IsWorld w
   pub payer : is_place (place_bytes from) ≡ true
 
--- a contract is made, whose balance a place pays
-abbrev pub Founds : World → Place → Founding → World → Result Applied ApplyError → Type 0
-Founds v from f new r =
-    (w : PlainWorld) (gas : ℕ) (counts : Counts) → IsPayer v w from
-    → EndsAs (found_contract w f gas (counts_of counts)) new gas counts counts r
+-- and the world with the contract has the form of worlds, which a source pays for
+pub record IsFounding (v : World) (w : PlainWorld) (source : List ℕ) (from : Place) (f : Founding) : Type 0 where
+  pub payer : IsPayer v w from
+  pub form : IsWorld (founded w f)
+  pub key : is_key_hash source ≡ true
+
+-- a contract is made, whose balance a place pays, and what it takes is charged to the source
+abbrev pub Founds : World → List ℕ → Place → Founding → World → Result Applied ApplyError → Type 0
+Founds v source from f new r =
+    (prices : Listed) (w : PlainWorld) (gas group : ℕ) (counts : Counts) → IsFounding v w source from f
+    → EndsAs (found_contract (setting_of prices group source) w f gas (counts_of counts)) new gas counts counts r
 
 -- where a group comes to an origination, and its price is paid, it ends as the definitions say
 abbrev pub Originates : List ℕ → ℕ → Tree → Tree → World → Counts → World → Counts → Result Applied ApplyError → Type 0

@@ -1,5 +1,5 @@
 -- One operation of a group, and how its application ends (Octez "Operations", internal operations).
-use Rattle.std.specs.Prelude.{◌≡◌, ◌≤◌, ℕ, true, is_some, List, [], ◌∷◌, map, Result, Ok, Err}
+use Rattle.std.specs.Prelude.{◌≡◌, ◌≤◌, ℕ, true, is_some, Option, Some, None, List, [], ◌∷◌, map, Result, Ok, Err}
 use Rattle.std.specs.Borrow.{Bor}
 use Rattle.std.specs.List.{AllByRecursion}
 use Rattle.rules_data.specs.gas.Prices.{Listed}
@@ -8,6 +8,7 @@ use Rattle.rules_data.specs.values.Val.{Val}
 use Rattle.rules_data.specs.forms.Spelling.{contract_place}
 use Rattle.rules_world.specs.world.Application as rules
 use Rattle.rules_world.specs.world.Groups.{setting_of}
+use Rattle.rules_world.specs.world.Receipts.{Effect}
 use Rattle.rules_world.specs.world.World.{World as PlainWorld}
 use Rattle.rules_world.specs.world.Outcomes.{Setting, Waiting, issued, Counts as PlainCounts, Outcome, applied, failed}
 use Rattle.laws_world.specs.runs.Going.{IsSetting, IsGoing}
@@ -20,6 +21,7 @@ use Rattle.mich_machine.specs.Calls.{counts_of, issued_in, IsHanded}
 use Rattle.mich_interpreter.specs.declared.state.Counts.{Counts}
 use Rattle.mich_ops.specs.Told.{told}
 use Rattle.mich_ops.specs.View.{effect, failure}
+use Rattle.mich_ops.specs.declared.receipt.Effect.{Effect as Done}
 use Rattle.mich_world.specs.Holders.{contract_at}
 use Rattle.mich_world.specs.Standing.{StandsFor}
 use Rattle.mich_world.specs.World.{World}
@@ -59,6 +61,14 @@ BeginsIn v w prices counts source op = Begins v w (setting_in prices counts sour
 
 -- ---- behind it
 
+-- what it did, and the growth of its contract
+abbrev pub grown : Option Done → List Effect
+grown (Some growth) = effect growth ∷ []
+grown None = []
+
+abbrev pub effects_of : Applied → List Effect
+effects_of a = effect a.effect ∷ grown a.growth
+
 -- It was applied: the world stands for the world behind it; what it did, what it emitted, and the gas and the counts that are left are
 -- those of the definitions.
 pub record IsApplied (o : Outcome) (v : World) (gas : ℕ) (old new : Counts) (a : Applied) : Type 0 where
@@ -68,7 +78,7 @@ pub record IsApplied (o : Outcome) (v : World) (gas : ℕ) (old new : Counts) (a
       o ≡ applied (record {
         world = world;
         emitted = map (issued_by v.store.bases.present a.by) a.emitted;
-        effects = effect a.effect ∷ [];
+        effects = effects_of a;
         gas = gas;
         counts = counts_of new;
       })

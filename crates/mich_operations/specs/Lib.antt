@@ -3,3 +3,4 @@ pub mod Transfers
 pub mod Foundings
 pub mod Calls
 pub mod Gifts
+pub mod Growths

@@ -68,6 +68,7 @@ fn moved(
     argument: Node,
 ) -> Applied
     ensures effect { result.effect ≡ effect.Transfer from.now (record { place = place.Implicit to.now; entrypoint = entry.now }) amount argument [] }
+    ensures growth { result.growth ≡ None }
     ensures emitted { result.emitted ≡ [] }
 {
     let address = Address {
@@ -76,6 +77,7 @@ fn moved(
     };
     Applied {
         effect: Effect::Transfer(*from, address, amount, argument, Rows::new(alloc)),
+        growth: None,
         by: [0; 20],
         emitted: Rows::new(alloc),
     }

@@ -5,11 +5,12 @@ use mich_base::{Memory, Rows};
 use mich_instr::Issued;
 use mich_ops::{Effect, Failure};
 
-/// What an operation that was applied did, and the operations that it emitted, in order, with the 20 bytes of the contract that issued
-/// them; where there are none these say nothing.
+/// What an operation that was applied did, the growth of its contract where that was charged, and the operations that it emitted, in
+/// order, with the 20 bytes of the contract that issued them; where there are none these say nothing.
 #[derive(Drop)]
 pub struct Applied {
     pub effect: Effect,
+    pub growth: Option<Effect>,
     pub by: [u8; 20],
     pub emitted: Rows<Issued>,
 }

@@ -121,6 +121,7 @@ pub(crate) fn give_account(
     )?;
     Ok(Applied {
         effect,
+        growth: None,
         by: [0; 20],
         emitted: Rows::new(alloc),
     })

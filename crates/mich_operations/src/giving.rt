@@ -1,5 +1,5 @@
 // Gifts that a source orders.
-ghost use Rattle.std.specs.Prelude.{◌≡◌, true, is_some, IfOk};
+ghost use Rattle.std.specs.Prelude.{◌≡◌, None, true, is_some, IfOk};
 ghost use Rattle.rules_code.specs.instructions.Same as same;
 ghost use Rattle.rules_data.specs.types.Kind as kinds;
 ghost use Rattle.rules_world.specs.world.Targets.{Target, search};
@@ -21,6 +21,7 @@ ghost use Rattle.mich_operations.specs.Going.{BeginsIn, KeepsContracts, WithMemo
 
 use crate::applied::{Applied, ApplyError};
 use crate::gifts::{gave, give_account, take};
+use crate::growing::with_growth;
 use crate::offering::spelled_id;
 use crate::running::surroundings;
 use mich_base::{Link, Node, Ty};
@@ -66,7 +67,7 @@ pub(crate) fn wants(
     Ok(())
 }
 
-// A contract runs with the ticket that a source gave it.
+// A contract runs with the ticket that a source gave it; its growth is still to be charged.
 fn run_gift(
     alloc: Global,
     world: &mut World,
@@ -86,6 +87,8 @@ fn run_gift(
     requires there { is_some (contract_at world.old.funds.present to.now) ≡ true }
     requires formed { AreFormed argument }
     requires based { HasBases world.old.store.bases.present argument }
+    ensures by { IfOk result (λ a. a.by ≡ to.now) }
+    ensures growth { IfOk result (λ a. a.growth ≡ None) }
     ensures ends { RunsGift costs.entry source.entry id.entry amount to.entry name.entry argument world.old meter.old counts.old world.new meter.new counts.new result }
     ensures hosting { IfOk result (λ _. IsHosting world.new) }
     ensures bases { IfOk result (λ _. Extends world.old.store.bases.present world.new.store.bases.present) }
@@ -110,6 +113,7 @@ fn run_gift(
             )?;
             Ok(Applied {
                 effect,
+                growth: None,
                 by: *to,
                 emitted: returned,
             })
@@ -144,9 +148,10 @@ fn give_contract(
     wants(world, to, name, &id.ty)?;
     let ticket = take(alloc, world, source, id, amount)?;
     let argument = Value::Ticket(Link::new(alloc, ticket)?);
-    run_gift(
+    let ran = run_gift(
         alloc, world, costs, source, meter, counts, bodies, id, amount, to, name, argument,
-    )
+    )?;
+    with_growth(alloc, world, source, ran)
 }
 
 // Gives a place so many tickets of an issuer that the source holds, whose type and content nodes spell.

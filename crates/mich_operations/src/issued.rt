@@ -73,6 +73,7 @@ pub fn apply_issued(
             found(
                 alloc,
                 world,
+                source,
                 &Place::Contract(by),
                 hash,
                 amount,

@@ -11,6 +11,7 @@ mod crediting;
 mod founding;
 mod gifts;
 mod giving;
+mod growing;
 mod issued;
 mod offering;
 mod originating;

@@ -87,6 +87,7 @@ pub(crate) fn originate(
     found(
         alloc,
         world,
+        source,
         &from,
         hash,
         balance,

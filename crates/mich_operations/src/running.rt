@@ -1,5 +1,5 @@
 // Contracts that are called.
-ghost use Rattle.std.specs.Prelude.{◌≡◌, is_some, true, IfOk};
+ghost use Rattle.std.specs.Prelude.{◌≡◌, None, is_some, true, IfOk};
 ghost use Rattle.rules_world.specs.world.Targets.{Target};
 ghost use Rattle.rules_world.specs.world.World.{World as PlainWorld};
 ghost use Rattle.mich_bigmap.specs.Extended.{Extends};
@@ -13,6 +13,7 @@ ghost use Rattle.mich_operations.specs.Calls.{CallsContract, IsAround, IsDueIn, 
 ghost use Rattle.mich_operations.specs.Going.{KeepsContracts, WithMemory};
 
 use crate::applied::{Applied, ApplyError};
+use crate::growing::with_growth;
 use crate::printing::printed;
 use mich_forms::{Address, Entrypoint, KeyHash, Place};
 use mich_gas::{Costs, Meter};
@@ -47,7 +48,7 @@ pub(crate) fn surroundings(
     }
 }
 
-// A contract runs, which has the mutez already.
+// A contract runs, which has the mutez already; its growth is still to be charged.
 fn run_contract(
     alloc: Global,
     world: &mut World,
@@ -67,6 +68,8 @@ fn run_contract(
     requires there { is_some (contract_at world.old.funds.present to.now) ≡ true }
     requires formed { AreFormed argument }
     requires based { HasBases world.old.store.bases.present argument }
+    ensures by { IfOk result (λ a. a.by ≡ to.now) }
+    ensures growth { IfOk result (λ a. a.growth ≡ None) }
     ensures ends { RunsContract costs.entry source.entry from.entry to.entry name.entry amount argument world.old meter.old counts.old world.new meter.new counts.new result }
     ensures hosting { IfOk result (λ _. IsHosting world.new) }
     ensures bases { IfOk result (λ _. Extends world.old.store.bases.present world.new.store.bases.present) }
@@ -85,6 +88,7 @@ fn run_contract(
             };
             Ok(Applied {
                 effect: Effect::Transfer(*from, address, amount, literal, done.changes),
+                growth: None,
                 by: *to,
                 emitted: done.returned,
             })
@@ -121,9 +125,13 @@ pub(crate) fn call_contract(
     ensures keeps { WithMemory result (KeepsWorld world.old world.new) }
 {
     match world.move_mutez(*from, Place::Contract(*to), amount) {
-        Ok(()) => run_contract(
-            alloc, world, costs, source, meter, counts, bodies, from, to, name, amount, argument,
-        ),
+        Ok(()) => {
+            let ran = run_contract(
+                alloc, world, costs, source, meter, counts, bodies, from, to, name, amount,
+                argument,
+            )?;
+            with_growth(alloc, world, source, ran)
+        }
         Err(MoveError::BalanceTooLow) => {
             abandon(argument);
             Err(ApplyError::Failed(Failure::BalanceTooLow))

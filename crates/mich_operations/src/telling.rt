@@ -29,6 +29,7 @@ pub(crate) fn tell(
     let literal = printed(alloc, world.store(), value)?;
     Ok(Applied {
         effect: Effect::Event(Place::Contract(by), tag, node, literal),
+        growth: None,
         by,
         emitted: Rows::new(alloc),
     })

@@ -53,6 +53,7 @@ effect (effects.Give sender to issuer ty content amount changes) =
     r.Give (place_bytes sender) (address_bytes to) (place_bytes issuer) (tree ty) (tree content) amount (map change changes)
 effect (effects.Origination sender address amount) = r.Origination (place_bytes sender) (place_bytes address) amount
 effect (effects.Event sender tag ty value) = r.Event (place_bytes sender) tag (tree ty) (tree value)
+effect (effects.Storage address bytes burn) = r.Storage (place_bytes address) bytes burn
 
 abbrev pub failure : Failure → Told
 failure (failures.FailedWith ty value) = shown (tree ty) (tree value)
@@ -73,6 +74,7 @@ failure (failures.IllTyped location) = plain (f.ill_typed location)
 failure (failures.BadStorage location) = plain (f.bad_storage location)
 failure failures.UnregisteredDelegate = plain f.unregistered_delegate
 failure failures.TicketShort = plain f.ticket_short
+failure failures.CannotPayBurn = plain f.cannot_pay_burn
 
 abbrev pub status : Status → ToldStatus
 status (statuses.Applied gas done) = t.Applied gas (map effect done)

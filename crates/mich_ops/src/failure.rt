@@ -41,4 +41,6 @@ pub enum Failure {
     UnregisteredDelegate,
     /// The source holds fewer tickets.
     TicketShort,
+    /// The group's source has less than what is burnt where a contract grew.
+    CannotPayBurn,
 }

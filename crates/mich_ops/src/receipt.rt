@@ -46,4 +46,6 @@ pub enum Effect {
     Origination(Place, Place, u64),
     /// A sender told a value of a type under a tag.
     Event(Place, Text, Node, Node),
+    /// A contract grew by so many bytes, for which so much was burnt.
+    Storage(Place, u64, u64),
 }

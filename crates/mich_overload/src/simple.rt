@@ -79,7 +79,7 @@ pub enum CollectionRow {
     GetAndUpdateBigMap,
 }
 
-/// Arithmetic: numbers are int, nat and timestamp, amounts are mutez.
+/// Arithmetic: numbers are int, nat and timestamp, amounts are mutez; and numbers as bytes.
 #[derive(Debug, Drop)]
 pub enum NumberRow {
     AddNumbers,
@@ -95,6 +95,10 @@ pub enum NumberRow {
     Isnat,
     Lsl,
     Lsr,
+    NatToBytes,
+    IntToBytes,
+    BytesToNat,
+    BytesToInt,
 }
 
 /// Truth values and bits, and comparison.

@@ -10,7 +10,6 @@ use Rattle.rules_text.specs.text.Text.{Leads, EndsAt, IsNode}
 use Rattle.mich_text.proofs.ForCallers.{no_sign, one_statement, no_fault_at_node, no_node_at_end}
 use Rattle.rules_audit.specs.Lines.{Line, line_of}
 use Rattle.rules_audit.specs.Form.{Form, bad_form, ended, Holds, Tells, can_follow, IsForm, audit_limit, pieces, pieces_of}
-use Rattle.rules_audit.specs.Verdicts.{Verdict}
 use Rattle.rules_audit.specs.Audits.{verdict_on}
 use Rattle.rules_files.specs.commands.Answers.{Answer}
 use Rattle.rules_files.specs.commands.Audits.{IsAuditAnswer, verdict_answer}

@@ -16,7 +16,7 @@ use Rattle.rules_text.specs.text.Text.{Leads, IsLimit, IsNode, IsEnd}
 use Rattle.rules_text.specs.text.Token.{Token}
 use Rattle.rules_text.specs.declared.text.Shape.TheVariants.{Semicolon}
 use Rattle.rules_files.specs.workload.Workload.{first_key_hash, second_key_hash, maker, keeper, second_account, maker_script, keeper_script, beginning, next, content, amount, call, calls, scenario}
-use Rattle.rules_files.specs.statements.Statements.{Statement, Chain, Costs, Account, Block, Group, form}
+use Rattle.rules_files.specs.statements.Statements.{Statement, Chain, Profile, Costs, Account, Block, Group, form}
 use Rattle.rules_files.specs.commands.Places.{Placed, IsNodeAt, IsEndAt, AreStatements}
 use Rattle.rules_files.specs.commands.Replay.{IsReplay, Closes, Run, going, stopped, stuck_run, run_all, continued, taken, State}
 use Rattle.rules_world.specs.world.Groups.{Settled, group}
@@ -112,6 +112,7 @@ form_in (Some s) = form (ended_tree (finish s) (Tree.seq Trees.none))
 abbrev is_group : Option Statement → Bool
 is_group None = false
 is_group (Some (Chain id level moment)) = false
+is_group (Some (Profile rate)) = false
 is_group (Some (Costs table)) = false
 is_group (Some (Account who mutez)) = false
 is_group (Some (Block level moment)) = false
@@ -347,6 +348,7 @@ module _ (ss : List Placed) (place : ℕ) (rs : List Receipt) (c : Course) (agai
   by_form : (o : Option Statement) → is_group o ≡ true → GoesOrStuck (run_all (taken rs (Some c) place o) ss)
   by_form None e = absurd cc
   by_form (Some (Chain id level moment)) e = absurd cc
+  by_form (Some (Profile rate)) e = absurd cc
   by_form (Some (Costs table)) e = absurd cc
   by_form (Some (Account who mutez)) e = absurd cc
   by_form (Some (Block level moment)) e = absurd cc

@@ -1,9 +1,8 @@
 -- Laws of what a file comes to.
-use Rattle.std.specs.Prelude.{◌≡◌, ◌≢◌, ◌≤◌, ◌<◌, ℕ, ◌+◌, ◌-ℤ◌, List, [], ◌∷◌, ◌++◌, length, Some, None}
+use Rattle.std.specs.Prelude.{◌≡◌, ◌≢◌, ◌≤◌, ◌<◌, ℕ, ◌-ℤ◌, List, [], ◌++◌, length, None}
 use Rattle.std.specs.declared.option.Option.{Option}
 use Rattle.rules_text.specs.nodes.Limits.{file_limit, most_mutez}
 use Rattle.rules_files.specs.commands.Places.{Placed, AreStatements, IsEndAt}
-use Rattle.rules_files.specs.statements.Statements.{Statement, form}
 use Rattle.rules_data.specs.values.Tickets.{Identity}
 use Rattle.rules_world.specs.world.Balances.{supply}
 use Rattle.rules_world.specs.world.Holdings.{held, minted_ever, burnt_ever}
@@ -13,7 +12,7 @@ use Rattle.rules_files.specs.commands.Answers.{Answer}
 use Rattle.rules_files.specs.commands.Commands.{Command, IsTold, IsAnswer}
 use Rattle.rules_files.specs.commands.Codec.{IsCodecAnswer}
 use Rattle.rules_text.specs.nodes.Tree.{Tree}
-use Rattle.laws_files.specs.Laws as course
+use Rattle.laws_files.specs.Files.{granted_in}
 
 -- ---- answers
 
@@ -35,17 +34,7 @@ KeepsAnswer command file more answer = file_limit < length file → IsCodecAnswe
 
 -- ---- mutez
 
--- what a statement grants
-abbrev pub granted_by : Option Statement → ℕ
-granted_by None = 0
-granted_by (Some s) = course.granted_by s
-
--- what the accounts among statements are granted
-abbrev pub granted_in : List Placed → ℕ
-granted_in [] = 0
-granted_in (s ∷ ss) = granted_by (form s.node) + granted_in ss
-
--- whatever file ends in a world, its balances and fees are together what its accounts were granted, at most 2^63 - 1
+-- whatever file ends in a world, its balances, fees and burns are together what its accounts were granted, at most 2^63 - 1
 abbrev pub ConservesMutez : Type 0
 ConservesMutez = (file : List ℕ) (done : Replay) (w : World) → IsReplay file done → done.ending ≡ State w
     → (ss : List Placed) × (to : ℕ) × AreStatements file 0 ss to × IsEndAt file to × (supply w ≡ granted_in ss) × (supply w ≤ most_mutez)

@@ -26,7 +26,7 @@ pub fn no_group_is_stuck()
     ensures { NoGroupIsStuck }
 {}
 
-/// Mutez is neither made nor lost: at the end of a file, balances and fees are together what its accounts were granted.
+/// Mutez is neither made nor lost: at the end of a file, balances, fees and burns are together what its accounts were granted.
 pub fn mutez_is_conserved()
     ensures { ConservesMutez }
 {}

@@ -19,7 +19,7 @@ use Rattle.std.proofs.lemmas.Map.Made.{lookup-map_values}
 use Rattle.rules_text.specs.nodes.Tree.{Tree, int}
 use Rattle.rules_code.specs.evaluation.Contracts.{hash_in}
 use Rattle.rules_data.specs.forms.Spelling.{implicit_place, is_contract, is_key_hash, is_place}
-use Rattle.rules_world.specs.lines.Nodes.{account_node, contract_node, line, number, over, state_nodes, ticket_fields, ticket_node}
+use Rattle.rules_world.specs.lines.Nodes.{account_node, burn_nodes, contract_node, line, number, over, state_nodes, ticket_fields, ticket_node}
 use Rattle.rules_data.specs.values.Tickets.{Identity}
 use Rattle.rules_world.specs.world.Balances.{supply}
 use Rattle.rules_world.specs.world.Forms.{IsWorld, IsAccount, IsHolding}
@@ -110,30 +110,34 @@ module _ {X : Type 0} (f : List ℕ → X → Tree) (g : List ℕ → Option X) 
 
 -- the nodes of the contracts of these keys
 abbrev pub contracts_nodes : Bases → Holders → List (List ℕ) → List Tree
-contracts_nodes bs h keys = flat_map (λ hash. one_node (λ c. contract_node (hash, plain bs c)) (contract_at h hash)) keys
+contracts_nodes bs h keys = flat_map (λ hash. one_node (λ c. contract_node h.rate (hash, plain bs c)) (contract_at h hash)) keys
 
 keys_in : (bs : Bases) (cs : List (List ℕ × Contract)) → keys_of (map (contract_in bs) cs) ≡ keys_of cs
 keys_in bs [] = refl
 keys_in bs (c ∷ cs) = ap (λ (ks : List (List ℕ)). c.0 ∷ ks) (keys_in bs cs)
 
-contracts_same : (bs : Bases) (cs : List (List ℕ × Contract)) → AllByRecursion (λ c. contract_node (c.0, plain bs c.1) ≡ contract_node (contract_in bs c)) cs
-contracts_same bs [] = tt
-contracts_same bs (c ∷ cs) = (refl, contracts_same bs cs)
+contracts_same : (bs : Bases) (rate : Option ℕ) (cs : List (List ℕ × Contract)) →
+    AllByRecursion (λ c. contract_node rate (c.0, plain bs c.1) ≡ contract_node rate (contract_in bs c)) cs
+contracts_same bs rate [] = tt
+contracts_same bs rate (c ∷ cs) = (refl, contracts_same bs rate cs)
 
 map_map : {X Y : Type 0} (f : Y → Tree) (g : X → Y) (xs : List X) → map (λ x. f (g x)) xs ≡ map f (map g xs)
 map_map f g [] = refl
 map_map f g (x ∷ xs) = ap (λ (ts : List Tree). f (g x) ∷ ts) (map_map f g xs)
 
 pub all_contracts : (v : World) (w : PlainWorld) → IsAtRest v w
-    → contracts_nodes v.store.bases.present v.funds.present (keys_of v.funds.present.contracts) ≡ map contract_node w.contracts
+    → contracts_nodes v.store.bases.present v.funds.present (keys_of v.funds.present.contracts) ≡ map (contract_node w.rate) w.contracts
 all_contracts v w r =
-    keys_nodes (contract_at v.funds.present) (λ hash c. contract_node (hash, plain bs c)) (λ c. contract_node (contract_in bs c)) (λ c. c) v.funds.present.contracts
-    (each_found v.funds.present.contracts sorted) (contracts_same bs v.funds.present.contracts)
-    ∙ map_map contract_node (contract_in bs) v.funds.present.contracts
-    ∙ ap (map contract_node) (sym r.stands.those.contracts)
+    keys_nodes (contract_at v.funds.present) (λ hash c. contract_node rate (hash, plain bs c)) (λ c. contract_node rate (contract_in bs c)) (λ c. c) v.funds.present.contracts
+    (each_found v.funds.present.contracts sorted) (contracts_same bs rate v.funds.present.contracts)
+    ∙ map_map (contract_node rate) (contract_in bs) v.funds.present.contracts
+    ∙ (λ i. map (contract_node (sym r.stands.those.rate i)) (sym r.stands.those.contracts i))
   where
     bs : Bases
     bs = v.store.bases.present
+
+    rate : Option ℕ
+    rate = v.funds.present.rate
 
     sorted : IsStrictlySortedBy (slice_cmp nat_cmp) (keys_of v.funds.present.contracts)
     sorted = subst (IsStrictlySortedBy (slice_cmp nat_cmp)) (ap keys_of r.stands.those.contracts ∙ keys_in bs v.funds.present.contracts)
@@ -307,33 +311,37 @@ map_append : (f : Tree → List ℕ) (xs ys : List Tree) → map f xs ++ map f y
 map_append f [] ys = refl
 map_append f (x ∷ xs) ys = ap (λ (ts : List (List ℕ)). f x ∷ ts) (map_append f xs ys)
 
--- all balances and fees
+-- all balances, fees and burns
 pub total_same : (v : World) (w : PlainWorld) → StandsFor v w → total v.funds.present ≡ supply w
 total_same v w s = total_is v.funds.present v.store.bases.present v.ledger.books.present w s.those
 
 pub all_lines : (v : World) (w : PlainWorld) (tickets : List Tree) (a b c d : List (List ℕ)) → IsAtRest v w
-    → a ≡ map line (map account_node w.accounts) → b ≡ a ++ map line (map contract_node w.contracts) → c ≡ b ++ map line tickets
+    → a ≡ map line (map account_node w.accounts) → b ≡ a ++ map line (map (contract_node w.rate) w.contracts) → c ≡ b ++ map line tickets
     → tickets ≡ map (ticket_node w) (identities w.log)
-    → d ≡ c ++ map line (over (codes "Fees") (number v.funds.present.fees ∷ []) ∷ over (codes "Supply") (number (total v.funds.present) ∷ []) ∷ [])
+    → d ≡ c ++ map line (over (codes "Fees") (number v.funds.present.fees ∷ [])
+    ∷ (burn_nodes v.funds.present.rate v.funds.present.storage_burn ++ over (codes "Supply") (number (total v.funds.present) ∷ []) ∷ []))
     → d ≡ map line (state_nodes w)
 all_lines v w tickets a b c d r ea eb ec et ed =
     ed
-    ∙ ap (λ x. x ++ map line (sums v.funds.present.fees (total v.funds.present))) (ec ∙ ap (λ x. x ++ map line tickets) (eb ∙ ap (λ x. x ++ map line contracts) ea))
-    ∙ append_assoc (map line accounts ++ map line contracts) (map line tickets) (map line (sums v.funds.present.fees (total v.funds.present)))
-    ∙ append_assoc (map line accounts) (map line contracts) (map line tickets ++ map line (sums v.funds.present.fees (total v.funds.present)))
-    ∙ ap (λ x. map line accounts ++ (map line contracts ++ x)) (map_append line tickets (sums v.funds.present.fees (total v.funds.present)))
-    ∙ ap (λ x. map line accounts ++ x) (map_append line contracts (tickets ++ sums v.funds.present.fees (total v.funds.present)))
-    ∙ map_append line accounts (contracts ++ (tickets ++ sums v.funds.present.fees (total v.funds.present)))
-    ∙ (λ i. map line (accounts ++ (contracts ++ (et i ++ sums (sym r.stands.those.fees i) (total_same v w r.stands i)))))
+    ∙ ap (λ x. x ++ map line here) (ec ∙ ap (λ x. x ++ map line tickets) (eb ∙ ap (λ x. x ++ map line contracts) ea))
+    ∙ append_assoc (map line accounts ++ map line contracts) (map line tickets) (map line here)
+    ∙ append_assoc (map line accounts) (map line contracts) (map line tickets ++ map line here)
+    ∙ ap (λ x. map line accounts ++ (map line contracts ++ x)) (map_append line tickets here)
+    ∙ ap (λ x. map line accounts ++ x) (map_append line contracts (tickets ++ here))
+    ∙ map_append line accounts (contracts ++ (tickets ++ here))
+    ∙ (λ i. map line (accounts ++ (contracts ++ (et i ++ sums (sym r.stands.those.rate i) (sym r.stands.those.fees i) (sym r.stands.those.storage_burn i) (total_same v w r.stands i)))))
   where
     accounts : List Tree
     accounts = map account_node w.accounts
 
     contracts : List Tree
-    contracts = map contract_node w.contracts
+    contracts = map (contract_node w.rate) w.contracts
 
-    sums : ℕ → ℕ → List Tree
-    sums fees all = over (codes "Fees") (number fees ∷ []) ∷ over (codes "Supply") (number all ∷ []) ∷ []
+    sums : Option ℕ → ℕ → ℕ → ℕ → List Tree
+    sums rate fees burn all = over (codes "Fees") (number fees ∷ []) ∷ (burn_nodes rate burn ++ over (codes "Supply") (number all ∷ []) ∷ [])
+
+    here : List Tree
+    here = sums v.funds.present.rate v.funds.present.fees v.funds.present.storage_burn (total v.funds.present)
 
 -- ---- one text
 

@@ -27,6 +27,7 @@ failure_told (f.ill_typed location) = refl
 failure_told (f.bad_storage location) = refl
 failure_told f.unregistered_delegate = refl
 failure_told f.ticket_short = refl
+failure_told f.cannot_pay_burn = refl
 
 status_told : (s : Status) → told_status_node (told_status s) ≡ status_node s
 status_told (Applied gas effects) = refl

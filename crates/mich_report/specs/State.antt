@@ -3,7 +3,7 @@ use Rattle.std.specs.List.Sorted.{IsStrictlySortedBy}
 use Rattle.std.specs.Map.{keys_of}
 use Rattle.std.specs.Prelude.{◌≡◌, ◌≤ℤ◌, ◌-ℤ◌, ℕ, ℤ, pos, List, [], ◌∷◌, ◌++◌, codes, map}
 use Rattle.rules_text.specs.nodes.Tree.{Tree, int}
-use Rattle.rules_world.specs.lines.Nodes.{account_node, line, number, over, ticket_fields}
+use Rattle.rules_world.specs.lines.Nodes.{account_node, burn_nodes, line, number, over, ticket_fields}
 use Rattle.rules_data.specs.values.Tickets.{Identity}
 use Rattle.rules_world.specs.world.Good.{IsGood}
 use Rattle.rules_world.specs.world.World.{World as PlainWorld}
@@ -62,6 +62,7 @@ line_of who balance holdings = line (account_node (who, record { balance = balan
 abbrev pub account_lines : PlainWorld → List (List ℕ)
 account_lines w = map line (map account_node w.accounts)
 
--- those of the fees and of all mutez
+-- those of the fees, of what was burnt for storage, and of all mutez
 abbrev pub sum_lines : Holders → List (List ℕ)
-sum_lines h = map line (over (codes "Fees") (number h.fees ∷ []) ∷ over (codes "Supply") (number (total h) ∷ []) ∷ [])
+sum_lines h =
+    map line (over (codes "Fees") (number h.fees ∷ []) ∷ (burn_nodes h.rate h.storage_burn ++ over (codes "Supply") (number (total h) ∷ []) ∷ []))

@@ -48,6 +48,12 @@ pub(crate) fn effect_node(alloc: Global, done: &Effect) -> Result<Node, Memory>
             fields.push(copy_node(alloc, value)?)?;
             application(alloc, b"Event", fields)
         }
+        Effect::Storage(address, bytes, burn) => {
+            fields.push(place_node(alloc, address)?)?;
+            fields.push(number_node(*bytes))?;
+            fields.push(number_node(*burn))?;
+            application(alloc, b"Storage", fields)
+        }
     }
 }
 

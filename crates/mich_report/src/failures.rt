@@ -49,5 +49,6 @@ pub(crate) fn failure_node(alloc: Global, why: &Failure) -> Result<Node, Memory>
         Failure::BadStorage(location) => located(alloc, b"BadStorage", *location),
         Failure::UnregisteredDelegate => bare(alloc, b"UnregisteredDelegate"),
         Failure::TicketShort => bare(alloc, b"TicketShort"),
+        Failure::CannotPayBurn => bare(alloc, b"CannotPayBurn"),
     }
 }

@@ -3,7 +3,7 @@ ghost use Rattle.std.specs.List.{AllByRecursion, flat_map};
 ghost use Rattle.std.specs.List.Sorted.{IsStrictlySortedBy};
 ghost use Rattle.std.specs.Map.{keys_of};
 ghost use Rattle.std.specs.Prelude.{◌≡◌, ◌<ℤ◌, ◌≤ℤ◌, ℤ, pos, List, ◌++◌, IfOk, map};
-ghost use Rattle.rules_world.specs.lines.Nodes.{contract_node, held_node, line, state_nodes};
+ghost use Rattle.rules_world.specs.lines.Nodes.{burn_nodes, contract_node, held_node, line, state_nodes};
 ghost use Rattle.rules_data.specs.values.Canonical.{canonical};
 ghost use Rattle.rules_data.specs.values.Tickets.{Identity};
 ghost use Rattle.rules_world.specs.world.World.{World as PlainWorld};
@@ -78,31 +78,35 @@ fn storage_node(alloc: Global, store: &Store, storage: &Value) -> Result<Node, M
     value_node(alloc, &storage)
 }
 
-// A contract with its balance and its storage.
+// A contract with its balance, its storage, and where there is a rate the bytes that it has paid for.
 fn contract_line(
     alloc: Global,
     store: &Store,
+    rate: Option<u64>,
     hash: &[u8; 20],
     contract: &Contract,
 ) -> Result<Text, Memory>
-    ensures { IfOk result (λ t. t ≡ line (contract_node (hash.now, plain store.now.bases.present contract.now))) }
+    ensures { IfOk result (λ t. t ≡ line (contract_node rate (hash.now, plain store.now.bases.present contract.now))) }
 {
     let mut fields = Nodes::new(alloc);
     fields.push(place_node(alloc, &Place::Contract(*hash))?)?;
     fields.push(number_node(contract.balance))?;
     fields.push(storage_node(alloc, store, &contract.storage)?)?;
+    if rate.is_some() {
+        fields.push(number_node(contract.paid))?;
+    }
     let node = application(alloc, b"Contract", fields)?;
     node_line(alloc, &node)
 }
 
 /// Contracts by their bytes.
 pub(crate) fn add_contracts(alloc: Global, world: &World, lines: &mut Texts) -> Result<(), Memory>
-    ensures { (w : PlainWorld) → IsAtRest world.now w → IfOk result (λ _. lines.new ≡ lines.old ++ map line (map contract_node w.contracts)) }
+    ensures { (w : PlainWorld) → IsAtRest world.now w → IfOk result (λ _. lines.new ≡ lines.old ++ map line (map (contract_node w.rate) w.contracts)) }
 {
     let keys = world.contract_keys(alloc)?;
     'contracts: for hash in keys.as_slice() {
         if let Some(contract) = world.contract(hash) {
-            lines.push(contract_line(alloc, world.store(), hash, contract)?)?;
+            lines.push(contract_line(alloc, world.store(), world.rate(), hash, contract)?)?;
         }
     }
     Ok(())
@@ -142,20 +146,32 @@ fn add_tickets(
     Ok(())
 }
 
-/// The fees that were taken, and all mutez.
+// What was burnt for storage, where there is a rate.
+fn add_burn(alloc: Global, world: &World, lines: &mut Texts) -> Result<(), Memory>
+    ensures { IfOk result (λ _. lines.new ≡ lines.old ++ map line (burn_nodes world.now.funds.present.rate world.now.funds.present.storage_burn)) }
+{
+    if world.rate().is_some() {
+        let burn = over_one(alloc, b"StorageBurn", number_node(world.storage_burn()))?;
+        lines.push(node_line(alloc, &burn)?)?;
+    }
+    Ok(())
+}
+
+/// The fees that were taken, what was burnt for storage, and all mutez.
 pub(crate) fn add_sums(alloc: Global, world: &World, lines: &mut Texts) -> Result<(), Memory>
     ensures { IfOk result (λ _. lines.new ≡ lines.old ++ sum_lines world.now.funds.present) }
 {
     let fees = over_one(alloc, b"Fees", number_node(world.fees()))?;
     lines.push(node_line(alloc, &fees)?)?;
+    add_burn(alloc, world, lines)?;
     let supply = over_one(alloc, b"Supply", number_node(world.supply()))?;
     lines.push(node_line(alloc, &supply)?)?;
     Ok(())
 }
 
 /// The lines of a world that stands for a good one, in which nothing waits: its accounts with the tickets that they hold, its contracts
-/// with their storages, all tickets that were ever minted, the fees, and all mutez (this host's own). Memory where there is no room for
-/// them.
+/// with their storages, all tickets that were ever minted, the fees, what was burnt for storage, and all mutez (this host's own).
+/// Memory where there is no room for them.
 pub fn state_lines(alloc: Global, world: &World) -> Result<Texts, Memory>
     requires { (w : PlainWorld) × IsAtRest world.now w }
     ensures { (w : PlainWorld) → IsAtRest world.now w → IfOk result (λ lines. lines ≡ map line (state_nodes w)) }

@@ -4,7 +4,7 @@ use Rattle.std.specs.Prelude.{ℤ, codes}
 use Rattle.rules_text.specs.nodes.Limits.{most_mutez}
 use Rattle.rules_text.specs.nodes.Tree.{Tree}
 use Rattle.rules_world.specs.world.Contents.{Content}
-use Rattle.rules_files.specs.statements.Statements.{◌>>=◌, nodes_of, chain_of, account_of, block_of, costs_of, content_by, number_of, gas_of}
+use Rattle.rules_files.specs.statements.Statements.{◌>>=◌, nodes_of, chain_of, account_of, block_of, costs_of, profile_of, content_by, number_of, gas_of}
 use Rattle.mich_base.specs.Counted.{IsNotEmpty, IsNotOne, IsNotTwo, IsNotThree}
 use Rattle.mich_base.specs.View.{tree, trees}
 use Rattle.mich_base.specs.declared.node.Node.{Node}
@@ -28,6 +28,12 @@ block_fields [] h = refl
 block_fields (a ∷ []) h = refl
 block_fields (a ∷ b ∷ []) h = absurd h
 block_fields (a ∷ b ∷ c ∷ ns) h = refl
+
+pub profile_fields : (ns : List Node) → IsNotTwo ns → profile_of (nodes_of (trees ns)) ≡ None
+profile_fields [] h = refl
+profile_fields (a ∷ []) h = refl
+profile_fields (a ∷ b ∷ []) h = absurd h
+profile_fields (a ∷ b ∷ c ∷ ns) h = refl
 
 pub group_fields : (ns : List Node) → IsNotOne ns → IsNoSource (nodes_of (trees ns))
 group_fields [] h contents = refl

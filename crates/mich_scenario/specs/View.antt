@@ -18,6 +18,7 @@ contents_said cs = map content cs
 
 abbrev pub said : Statement → statements.Statement
 said (code.Chain id level moment) = statements.Chain id level moment
+said (code.Profile rate) = statements.Profile rate
 said (code.Costs table) = statements.Costs (tree table)
 said (code.Account key_hash mutez) = statements.Account key_hash mutez
 said (code.Block level moment) = statements.Block level moment

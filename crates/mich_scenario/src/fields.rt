@@ -9,7 +9,7 @@ use mich_base::Node;
 use mich_forms::{ChainId, Entrypoint, KeyHash, Place};
 
 // A number from one to another.
-fn within(node: &Node, low: i128, high: i128) -> Option<i128>
+pub(crate) fn within(node: &Node, low: i128, high: i128) -> Option<i128>
     ensures { result ≡ within low high (tree node.now) }
 {
     match node {

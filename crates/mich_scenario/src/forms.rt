@@ -1,16 +1,18 @@
 // The forms of statements.
 ghost use Rattle.std.specs.Prelude.{◌≡◌, ◌^◌, ℕ, [], Some, None, option_map, MatchOption};
 ghost use Rattle.rules_text.specs.nodes.Tree.{prim, seq};
-ghost use Rattle.rules_files.specs.statements.Statements.{account_of, block_of, chain_of, contents_of, content_by, costs_of, counted, each_content, form, group_of, named, nodes_of, statement_by};
+ghost use Rattle.rules_files.specs.statements.Statements.{account_of, block_of, chain_of, contents_of, content_by, costs_of, counted, each_content, form, group_of, named, nodes_of, profile_of, statement_by};
 ghost use Rattle.mich_base.specs.View.{tree, trees};
 ghost use Rattle.mich_ops.specs.View.{content};
 ghost use Rattle.mich_scenario.specs.View.{IsForm, IsNoPlain, IsNoSequence, IsNoSource, IsSource, contents_said, said};
 
 use crate::actions::content_by;
 use crate::error::FormError;
-use crate::fields::{chain_id, key_hash, moment, number};
+use crate::fields::{chain_id, key_hash, moment, number, within};
 use crate::statement::Statement;
-use mich_base::{App, MOST_CONTENTS, MOST_LEVEL, MOST_MUTEZ, Node, Nodes, Rows, Text, copy_node};
+use mich_base::{
+    App, MOST_CONTENTS, MOST_LEVEL, MOST_MUTEZ, MOST_RATE, Node, Nodes, Rows, Text, copy_node,
+};
 use mich_forms::KeyHash;
 use mich_gas::is_table;
 use mich_ops::{Content, Group};
@@ -54,6 +56,19 @@ fn block(fields: &Nodes) -> Option<Statement>
     let level = number(level, MOST_LEVEL)?;
     let moment = moment(moment_node)?;
     Some(Statement::Block(level as u32, moment))
+}
+
+// 2 rate
+#[tactic(auto, using(crate::proofs::Counts::profile_fields))]
+fn profile(fields: &Nodes) -> Option<Statement>
+    ensures { option_map said result ≡ profile_of (nodes_of (trees fields.now)) }
+{
+    let Some((version, rate)) = fields.both() else {
+        return None;
+    };
+    let _version = within(version, 2, 2)?;
+    let rate = number(rate, MOST_RATE)?;
+    Some(Statement::Profile(rate))
 }
 
 // { Cost NAME base coefficient ; .. }
@@ -174,6 +189,8 @@ fn statement_by(alloc: Global, name: &[u8], fields: Nodes) -> Result<Statement, 
 {
     if name == b"Chain".as_slice() {
         chain(&fields).ok_or(FormError::BadStatement)
+    } else if name == b"Profile".as_slice() {
+        profile(&fields).ok_or(FormError::BadStatement)
     } else if name == b"Costs".as_slice() {
         costs(fields).ok_or(FormError::BadStatement)
     } else if name == b"Account".as_slice() {
@@ -187,7 +204,7 @@ fn statement_by(alloc: Global, name: &[u8], fields: Nodes) -> Result<Statement, 
     }
 }
 
-/// The statement that a node is: `Chain id level moment`, `Costs { Cost NAME base coefficient ; .. }`, `Account key_hash mutez`,
+/// The statement that a node is: `Chain id level moment`, `Profile 2 rate`, `Costs { Cost NAME base coefficient ; .. }`, `Account key_hash mutez`,
 /// `Block level moment`, or `Group source { content ; .. }` of 1 to 1,000 contents, each `Originate fee gas balance script
 /// storage`, `Call fee gas amount destination "entrypoint" argument` or `Give fee gas issuer type content amount destination
 /// "entrypoint"`, with amounts in mutez and moments in seconds. BadStatement of another node; Memory where there is no room for

@@ -8,6 +8,8 @@ use mich_ops::Group;
 pub enum Statement {
     /// The chain's identity, its level, and its moment in seconds.
     Chain(ChainId, u32, i64),
+    /// How many mutez are burnt for a byte of storage.
+    Profile(u64),
     /// A table of prices, as its node.
     Costs(Node),
     /// A new account with so much mutez.

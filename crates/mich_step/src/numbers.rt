@@ -1,6 +1,8 @@
 // Arithmetic.
 ghost use Rattle.std.specs.Prelude.{◌≡◌, ◌<◌, ◌≤ℤ◌, ◌^◌, pos, drop, IfOk, IfSome, unsigned_abs, option_map, ◌*◌};
 ghost use Rattle.rules_data.specs.numbers.Limits.{mutez_or_limit};
+ghost use Rattle.rules_data.specs.numbers.Bytes.{natural_bytes, integer_bytes};
+ghost use Rattle.rules_data.specs.values.Val.{bytes};
 ghost use Rattle.rules_code.specs.instructions.Straight as i;
 ghost use Rattle.rules_code.specs.steps.Step.{Step, within_limit};
 ghost use Rattle.rules_code.specs.steps.Numbers.{give_amount, natural, number_step, quotient};
@@ -10,8 +12,8 @@ ghost use Rattle.mich_stack.specs.Views.{Sight, seen, values, plain};
 ghost use Rattle.mich_stack.specs.Ends.{Fits, IsKept, Keeps};
 ghost use Rattle.mich_step.specs.Ends.{SuitsNumbers};
 
-use mich_base::{Link, MOST_MUTEZ, Memory, Rows};
-use mich_num::{NumFault, abs, add, ediv, mul, neg, shl, shr, sub};
+use mich_base::{Bytes, Link, MOST_MUTEZ, Memory, Rows};
+use mich_num::{NumFault, abs, add, ediv, from_bytes, mul, neg, shl, shr, sub, to_bytes};
 use mich_overload::NumberRow;
 use mich_stack::{StepError, optional_value, past, put, split_top, two_on_top};
 use mich_term::Value;
@@ -269,6 +271,79 @@ fn shift_right(stack: &mut Rows<Value>) -> Result<(), StepError>
     }
 }
 
+// The bytes of a number that isn't negative.
+fn nat_bytes(alloc: Global, n: u128) -> Result<Value, Memory>
+    requires { n < 2 ^ 127 }
+    ensures { IfOk result (λ v. (big : Sight) → seen big v ≡ bytes (natural_bytes n)) }
+{
+    let word = to_bytes(n as i128, false);
+    Ok(Value::Bytes(Bytes::from_slice(alloc, &word.bytes[..word.len as usize])?))
+}
+
+// The bytes of a number in two's complement.
+fn int_bytes(alloc: Global, x: i128) -> Result<Value, Memory>
+    ensures { IfOk result (λ v. (big : Sight) → seen big v ≡ bytes (integer_bytes x)) }
+{
+    let word = to_bytes(x, true);
+    Ok(Value::Bytes(Bytes::from_slice(alloc, &word.bytes[..word.len as usize])?))
+}
+
+fn nat_to_bytes(alloc: Global, stack: &mut Rows<Value>) -> Result<(), StepError>
+    requires { Fits (number_step i.nat_to_bytes) stack.old }
+    ensures { Keeps (number_step i.nat_to_bytes) stack.old stack.new result }
+{
+    let Some((Value::Number(x), _)) = split_top(stack.as_slice()) else {
+        unreachable!()
+    };
+    let value = nat_bytes(alloc, size(*x))?;
+    put(stack, 1, value)?;
+    Ok(())
+}
+
+fn int_to_bytes(alloc: Global, stack: &mut Rows<Value>) -> Result<(), StepError>
+    requires { Fits (number_step i.int_to_bytes) stack.old }
+    ensures { Keeps (number_step i.int_to_bytes) stack.old stack.new result }
+{
+    let Some((Value::Number(x), _)) = split_top(stack.as_slice()) else {
+        unreachable!()
+    };
+    let value = int_bytes(alloc, *x)?;
+    put(stack, 1, value)?;
+    Ok(())
+}
+
+fn bytes_to_nat(stack: &mut Rows<Value>) -> Result<(), StepError>
+    requires { Fits (number_step i.bytes_to_nat) stack.old }
+    ensures { Keeps (number_step i.bytes_to_nat) stack.old stack.new result }
+{
+    let Some((Value::Bytes(b), _)) = split_top(stack.as_slice()) else {
+        unreachable!()
+    };
+    match from_bytes(b.as_slice(), false) {
+        Ok(z) => {
+            put(stack, 1, Value::Number(z))?;
+            Ok(())
+        }
+        Err(fault) => Err(StepError::Failed(past(fault))),
+    }
+}
+
+fn bytes_to_int(stack: &mut Rows<Value>) -> Result<(), StepError>
+    requires { Fits (number_step i.bytes_to_int) stack.old }
+    ensures { Keeps (number_step i.bytes_to_int) stack.old stack.new result }
+{
+    let Some((Value::Bytes(b), _)) = split_top(stack.as_slice()) else {
+        unreachable!()
+    };
+    match from_bytes(b.as_slice(), true) {
+        Ok(z) => {
+            put(stack, 1, Value::Number(z))?;
+            Ok(())
+        }
+        Err(fault) => Err(StepError::Failed(past(fault))),
+    }
+}
+
 /// What arithmetic makes of a stack (Michelson reference, "Operations on integers and natural numbers", "Operations on Mutez" and
 /// "Operations on timestamps").
 pub fn number_step(alloc: Global, row: &NumberRow, stack: &mut Rows<Value>) -> Result<(), StepError>
@@ -290,5 +365,9 @@ pub fn number_step(alloc: Global, row: &NumberRow, stack: &mut Rows<Value>) -> R
         NumberRow::Isnat => isnat(alloc, stack),
         NumberRow::Lsl => shift_left(stack),
         NumberRow::Lsr => shift_right(stack),
+        NumberRow::NatToBytes => nat_to_bytes(alloc, stack),
+        NumberRow::IntToBytes => int_to_bytes(alloc, stack),
+        NumberRow::BytesToNat => bytes_to_nat(stack),
+        NumberRow::BytesToInt => bytes_to_int(stack),
     }
 }

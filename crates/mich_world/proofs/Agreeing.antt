@@ -62,7 +62,7 @@ total_is h bs b w t =
     = ap (λ (es : List (List ℕ × ℕ)). sum_by (λ (n : ℕ). n) (values_of es)) (sym t.accounts) ∙ seen_sum (λ (x : Account). x.balance) (λ (n : ℕ). n) w.accounts in
     let c : sum_by (λ (x : Contract). x.balance) (values_of h.contracts) ≡ sum_by (λ (x : PlainContract). x.balance) (values_of w.contracts)
     = sym (ap (λ (es : List (List ℕ × PlainContract)). sum_by (λ (x : PlainContract). x.balance) (values_of es)) t.contracts ∙ seen_sum (plain bs) (λ (x : PlainContract). x.balance) h.contracts) in
-    λ i. a i + c i + sym t.fees i
+    λ i. a i + c i + sym t.fees i + sym t.storage_burn i
 
 -- ---- balances
 
@@ -90,7 +90,7 @@ balance_or_none_is h bs b w p t v = ap (λ (o : Option ℕ). unwrap_or o 0) (bal
 -- ---- writes
 
 abbrev repriced : ℕ → PlainContract → PlainContract
-repriced n c = record { balance = n; script = c.script; storage = c.storage }
+repriced n c = record c { balance = n }
 
 -- what an account holds doesn't change with its balance
 same_account : (c : Bool) (o p : Option Account) (n : ℕ) (id : Identity) → (c ≡ true → o ≡ p)
@@ -110,7 +110,9 @@ account_write h bs b w who n t =
       accounts = seen_insert (λ (x : Account). x.balance) by_bytes w.accounts who a ∙ ap (λ (es : List (List ℕ × ℕ)). insert_entry by_bytes es who n) t.accounts;
       contracts = t.contracts;
       fees = t.fees;
+      storage_burn = t.storage_burn;
       granted = t.granted;
+      rate = t.rate;
       held = λ id owner v. t.held id owner v ∙ by_owner id owner (is_implicit owner);
       minted = t.minted;
       burnt = t.burnt;
@@ -159,7 +161,9 @@ module _ (h : Holders) (bs : Bases) (b : Books) (w : PlainWorld) (hash : List �
         contracts = ap (λ (es : List (List ℕ × PlainContract)). changed_at test es (repriced n)) t.contracts
             ∙ sym (seen_changed (plain bs) test (rebalanced n) (repriced n) (λ x. refl) h.contracts);
         fees = t.fees;
+        storage_burn = t.storage_burn;
         granted = t.granted;
+        rate = t.rate;
         held = λ id owner v. t.held id owner v ∙ by_owner id owner (is_implicit owner);
         minted = t.minted;
         burnt = t.burnt;
@@ -226,7 +230,9 @@ fee_is h bs b w who fee t s v =
       accounts = l.accounts;
       contracts = l.contracts;
       fees = ap (λ (n : ℕ). n + fee) t.fees;
+      storage_burn = l.storage_burn;
       granted = l.granted;
+      rate = l.rate;
       held = l.held;
       minted = l.minted;
       burnt = l.burnt;

@@ -53,7 +53,7 @@ pub stored_installed : (from : Place) (hash : List ℕ) (n : ℕ) (script : _) (
 stored_installed from hash n script given v w i a =
     let new = w.store.bases.present in
     let h = v.funds.present in
-    let c : Contract = record { balance = n; script = script; storage = i.storage } in
+    let c : Contract = record { balance = n; paid = 0; script = script; storage = i.storage } in
     subst (λ (k : Holders). All new k) (sym i.funds)
     (all_inserted (IsStored new) by_bytes (with_balance h from _).contracts hash c
     (all_balance new h from _ (all_extended v.store.bases.present new h.contracts i.lays.others a))

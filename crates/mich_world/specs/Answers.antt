@@ -1,12 +1,12 @@
 -- What the calls answer, and what becomes of the holders then.
-use Rattle.std.specs.Prelude.{◌≡◌, ◌+◌, ◌<◌, ◌≤◌, ℕ, true, false, is_some, List, Result, Ok, Err}
+use Rattle.std.specs.Prelude.{◌≡◌, ◌+◌, ◌<◌, ◌≤◌, ℕ, true, false, is_some, unwrap_or, List, Result, Ok, Err}
 use Rattle.rules_text.specs.nodes.Limits.{most_mutez}
 use Rattle.mich_forms.specs.declared.places.Place.{Place}
 use Rattle.mich_forms.specs.declared.places.Place.TheVariants as place
 use Rattle.mich_instr.specs.declared.instr.Script.{Script}
 use Rattle.mich_term.specs.declared.value.Value.{Value}
 use Rattle.mich_base.specs.undo.History.{History}
-use Rattle.mich_world.specs.Holders.{Holders, account_at, balance_or_none, may_receive, moved, fee_taken, endowed}
+use Rattle.mich_world.specs.Holders.{Holders, account_at, contract_at, balance_or_none, may_receive, moved, fee_taken, owed, storage_paid, endowed}
 use Rattle.mich_world.specs.Marks.{IsSame}
 use Rattle.mich_world.specs.Storages.{Installs}
 use Rattle.mich_world.specs.World.{World}
@@ -40,6 +40,16 @@ IsFee who fee old new (Ok _) =
 IsFee who fee old new (Err move.BalanceTooLow) = (balance_or_none old.present (place.Implicit who) < fee) × (new ≡ old)
 IsFee who fee old new (Err move.NoContract) = ⊥
 IsFee who fee old new (Err move.Memory) = new ≡ old
+
+-- a contract of this size pays at a rate for what it grew by
+abbrev pub IsPayment : ℕ → List ℕ → ℕ → List ℕ → History Holders → History Holders → Result ℕ MoveError → Type 0
+IsPayment rate hash size who old new (Ok burn) =
+    (burn ≡ unwrap_or (owed rate size (contract_at old.present hash)) 0) × (burn ≤ balance_or_none old.present (place.Implicit who))
+    × (new.present ≡ storage_paid old.present hash size who (owed rate size (contract_at old.present hash)))
+IsPayment rate hash size who old new (Err move.BalanceTooLow) =
+    (balance_or_none old.present (place.Implicit who) < unwrap_or (owed rate size (contract_at old.present hash)) 0) × (new ≡ old)
+IsPayment rate hash size who old new (Err move.NoContract) = ⊥
+IsPayment rate hash size who old new (Err move.Memory) = new ≡ old
 
 -- a contract is made
 abbrev pub IsInstall : {U : Type 0} → Place → List ℕ → ℕ → Script → Value → World → World → Result U MoveError → Type 0

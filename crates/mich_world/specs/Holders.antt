@@ -1,6 +1,6 @@
--- Who holds mutez: accounts and contracts; with the fees that were taken, and all that was granted (Octez "Accounts and
--- addresses", "Operations").
-use Rattle.std.specs.Prelude.{ℕ, ◌+◌, ◌-◌, ◌≤◌, Bool, true, is_some, option_map, unwrap_or, Option, List, []}
+-- Who holds mutez: accounts and contracts; with the fees that were taken, what was burnt for storage, all that was granted, and the
+-- mutez that a byte of storage costs, if it costs any (Octez "Accounts and addresses", "Operations").
+use Rattle.std.specs.Prelude.{◌≡◌, ℕ, ◌+◌, ◌-◌, ◌*◌, ◌≤◌, nat_lt, Bool, true, is_some, option_map, unwrap_or, Option, Some, None, List, [], if◌then◌else◌}
 use Rattle.std.specs.declared.cmp.Ordering.{Ordering}
 use Rattle.std.specs.Ordering.{nat_cmp}
 use Rattle.std.specs.Cmp.Lexicographic.{slice_cmp}
@@ -19,10 +19,18 @@ pub record Holders : Type 0 where
   pub accounts : List (List ℕ × ℕ)
   pub contracts : List (List ℕ × Contract)
   pub fees : ℕ
+  pub storage_burn : ℕ
   pub granted : ℕ
+  pub rate : Option ℕ
 
 abbrev pub no_holders : Holders
-no_holders = record { accounts = []; contracts = []; fees = 0; granted = 0 }
+no_holders = record { accounts = []; contracts = []; fees = 0; storage_burn = 0; granted = 0; rate = None }
+
+-- neither an account nor a contract is there, and no rate was set
+pub record IsNew (h : Holders) : Type 0 where
+  pub accounts : h.accounts ≡ []
+  pub contracts : h.contracts ≡ []
+  pub rate : h.rate ≡ None
 
 abbrev pub by_bytes : List ℕ → List ℕ → Ordering
 by_bytes = slice_cmp nat_cmp
@@ -60,7 +68,7 @@ abbrev pub all_balances : List (List ℕ × Contract) → ℕ
 all_balances cs = sum_by (λ c. c.balance) (values_of cs)
 
 abbrev pub total : Holders → ℕ
-total h = sum_by (λ n. n) (values_of h.accounts) + all_balances h.contracts + h.fees
+total h = sum_by (λ n. n) (values_of h.accounts) + all_balances h.contracts + h.fees + h.storage_burn
 
 -- no more is there than was granted, and that is no more than an amount may be
 pub record IsSound (h : Holders) : Type 0 where
@@ -70,29 +78,35 @@ pub record IsSound (h : Holders) : Type 0 where
 -- ---- writes
 
 abbrev pub with_account : Holders → List ℕ → ℕ → Holders
-with_account h who mutez =
-    record { accounts = insert_entry by_bytes h.accounts who mutez; contracts = h.contracts; fees = h.fees; granted = h.granted }
+with_account h who mutez = record h { accounts = insert_entry by_bytes h.accounts who mutez }
 
 abbrev pub with_contract : Holders → List ℕ → Contract → Holders
-with_contract h hash c =
-    record { accounts = h.accounts; contracts = insert_entry by_bytes h.contracts hash c; fees = h.fees; granted = h.granted }
+with_contract h hash c = record h { contracts = insert_entry by_bytes h.contracts hash c }
 
 abbrev pub rebalanced : ℕ → Contract → Contract
-rebalanced mutez c = record { balance = mutez; script = c.script; storage = c.storage }
+rebalanced mutez c = record c { balance = mutez }
+
+abbrev pub repaid : ℕ → Contract → Contract
+repaid bytes c = record c { paid = bytes }
 
 abbrev pub restored : Value → Contract → Contract
-restored storage c = record { balance = c.balance; script = c.script; storage = storage }
+restored storage c = record c { storage = storage }
 
 -- with a contract, if it is there, changed
 abbrev pub with_change : (Contract → Contract) → Holders → List ℕ → Holders
-with_change f h hash =
-    record { accounts = h.accounts; contracts = changed_at (is_at (by_bytes hash)) h.contracts f; fees = h.fees; granted = h.granted }
+with_change f h hash = record h { contracts = changed_at (is_at (by_bytes hash)) h.contracts f }
 
 abbrev pub with_fees : Holders → ℕ → Holders
-with_fees h mutez = record { accounts = h.accounts; contracts = h.contracts; fees = mutez; granted = h.granted }
+with_fees h mutez = record h { fees = mutez }
+
+abbrev pub with_storage_burn : Holders → ℕ → Holders
+with_storage_burn h mutez = record h { storage_burn = mutez }
 
 abbrev pub with_granted : Holders → ℕ → Holders
-with_granted h mutez = record { accounts = h.accounts; contracts = h.contracts; fees = h.fees; granted = mutez }
+with_granted h mutez = record h { granted = mutez }
+
+abbrev pub with_rate : Holders → Option ℕ → Holders
+with_rate h rate = record h { rate = rate }
 
 -- ---- moves
 
@@ -114,6 +128,20 @@ moved h from to mutez = with_more (with_less h from mutez) to mutez
 -- a fee goes from an account to the fees
 abbrev pub fee_taken : Holders → List ℕ → ℕ → Holders
 fee_taken h who fee = with_fees (with_less h (place.Implicit who) fee) (h.fees + fee)
+
+-- mutez go from an account to what was burnt for storage
+abbrev pub burnt : Holders → List ℕ → ℕ → Holders
+burnt h who mutez = with_storage_burn (with_less h (place.Implicit who) mutez) (h.storage_burn + mutez)
+
+-- what is burnt at a rate for a contract that has this size; nothing where it is no larger than it has paid for
+abbrev pub owed : ℕ → ℕ → Option Contract → Option ℕ
+owed rate size (Some c) = if nat_lt c.paid size then Some ((size - c.paid) * rate) else None
+owed rate size None = None
+
+-- a contract has paid for its size, and an account pays the burn
+abbrev pub storage_paid : Holders → List ℕ → ℕ → List ℕ → Option ℕ → Holders
+storage_paid h hash size who (Some burn) = with_change (repaid size) (burnt h who burn) hash
+storage_paid h hash size who None = h
 
 -- an account is made with this balance
 abbrev pub endowed : Holders → List ℕ → ℕ → Holders

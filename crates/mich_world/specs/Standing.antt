@@ -20,7 +20,7 @@ purse a = (a.0, a.1.balance)
 
 -- a contract, with its big maps seen in the store
 abbrev pub plain : Bases → Contract → PlainContract
-plain bs c = record { balance = c.balance; script = script_node c.script; storage = val_in bs c.storage }
+plain bs c = record { balance = c.balance; paid = c.paid; script = script_node c.script; storage = val_in bs c.storage }
 
 abbrev pub contract_in : Bases → List ℕ × Contract → List ℕ × PlainContract
 contract_in bs c = (c.0, plain bs c.1)
@@ -30,7 +30,9 @@ pub record AreThose (h : Holders) (bs : Bases) (b : Books) (w : PlainWorld) : Ty
   pub accounts : map purse w.accounts ≡ h.accounts
   pub contracts : w.contracts ≡ map (contract_in bs) h.contracts
   pub fees : w.fees ≡ h.fees
+  pub storage_burn : w.storage_burn ≡ h.storage_burn
   pub granted : w.granted ≡ h.granted
+  pub rate : w.rate ≡ h.rate
   -- what each owner holds, and the totals
   pub held : (id : Identity) (owner : List ℕ) → is_place owner ≡ true → held_of b id owner ≡ held_by w id owner
   pub minted : (id : Identity) → minted_of b id ≡ minted_ever w id

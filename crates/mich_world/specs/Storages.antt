@@ -76,7 +76,7 @@ pub record SamePlace (old new : World) : Type 0 where
 -- a contract is made: a place pays its balance, its storage is settled in the store, and it holds the tickets of the storage
 pub record Installs (from : Place) (hash : List ℕ) (mutez : ℕ) (script : Script) (given : Value) (old new : World) : Type 0 where
   pub storage : Value
-  pub funds : new.funds.present ≡ founded old.funds.present from hash (record { balance = mutez; script = script; storage = storage })
+  pub funds : new.funds.present ≡ founded old.funds.present from hash (record { balance = mutez; paid = 0; script = script; storage = storage })
   pub settles : Settles old.store.bases.present new.store.bases.present given storage
   pub lays : Lays old.store new.store
   pub enters : Enters (owner_of hash) (tickets (val given)) old.ledger.books.present new.ledger.books.present

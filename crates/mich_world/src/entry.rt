@@ -14,13 +14,17 @@ pub(crate) enum Change {
     Balance([u8; 20], u64),
     /// The storage of a contract.
     Storage([u8; 20], Value),
+    /// The bytes that a contract has paid for.
+    Paid([u8; 20], u64),
     /// The fees that were taken.
     Fees(u64),
+    /// What was burnt for storage.
+    StorageBurn(u64),
     /// All that was granted.
     Granted(u64),
 }
 
-/// A write, and all balances and the fees before it.
+/// A write, and all mutez before it.
 #[derive(Drop)]
 pub(crate) struct Entry {
     pub(crate) change: Change,

@@ -1,14 +1,14 @@
-// Accounts and contracts, fees and grants, with a journal by which writes are taken back.
-ghost use Rattle.std.specs.Prelude.{◌≡◌, ◌+◌, ◌-◌, ◌≤◌, true, is_some, option_map, unwrap_or, IfOk, OnErr};
+// Accounts and contracts, fees, burns and grants, with a journal by which writes are taken back.
+ghost use Rattle.std.specs.Prelude.{◌≡◌, ◌+◌, ◌-◌, ◌≤◌, true, Some, is_some, option_map, unwrap_or, IfOk, OnErr};
 ghost use Rattle.mich_base.specs.undo.History.{height_of, grown, stepped_back, rewound, kept};
-ghost use Rattle.mich_world.specs.Holders.{IsSound, account_at, contract_at, balance_at, balance_in, balance_or_none, total, with_account, with_contract, rebalanced, restored, with_change, with_fees, with_granted};
+ghost use Rattle.mich_world.specs.Holders.{IsNew, IsSound, account_at, contract_at, balance_at, balance_in, balance_or_none, total, with_account, with_contract, rebalanced, repaid, restored, with_change, with_fees, with_granted, with_rate, with_storage_burn};
 ghost use Rattle.mich_world.specs.Journal.{no_history};
 
 use crate::contract::Contract;
 use crate::entry::{Change, Entry};
 use crate::maps::{
     Accounts, Contracts, account, account_back, contract_balance, put_account, put_contract,
-    swap_balance, swap_storage,
+    swap_balance, swap_paid, swap_storage,
 };
 use mich_base::Memory;
 use mich_base::undo::{note, put_back};
@@ -18,14 +18,17 @@ use std::alloc::Global;
 use std::collections::BTreeMap;
 use std::marker::Model;
 
-/// Balances of accounts, contracts, the fees taken and all that was granted, in mutez, with a journal of writes.
+/// Balances of accounts, contracts, the fees taken, what was burnt for storage and all that was granted, in mutez, and the rate of
+/// storage, with a journal of writes.
 #[derive(Drop)]
 pub(crate) struct Funds {
     accounts: Accounts,
     contracts: Contracts,
     fees: u64,
+    storage_burn: u64,
     granted: u64,
-    // all balances and the fees
+    rate: Option<u64>,
+    // all balances, the fees and what was burnt
     supply: u64,
     journal: Vec<Entry>,
 }
@@ -39,9 +42,9 @@ impl Model for Funds {
 
     ghost coded = { history_code };
 
-    ghost view = { λ f. history (record { accounts = f.accounts.entries; contracts = f.contracts.entries; fees = f.fees; granted = f.granted }) f.journal.items };
+    ghost view = { λ f. history (record { accounts = f.accounts.entries; contracts = f.contracts.entries; fees = f.fees; storage_burn = f.storage_burn; granted = f.granted; rate = f.rate }) f.journal.items };
 
-    ghost invariant = { λ f. AreSound (record { accounts = f.accounts.entries; contracts = f.contracts.entries; fees = f.fees; granted = f.granted }) f.supply f.journal.items };
+    ghost invariant = { λ f. AreSound (record { accounts = f.accounts.entries; contracts = f.contracts.entries; fees = f.fees; storage_burn = f.storage_burn; granted = f.granted; rate = f.rate }) f.supply f.journal.items };
 }
 
 impl Funds {
@@ -53,10 +56,27 @@ impl Funds {
             accounts: BTreeMap::new(alloc),
             contracts: BTreeMap::new(alloc),
             fees: 0,
+            storage_burn: 0,
             granted: 0,
+            rate: None,
             supply: 0,
             journal: Vec::new(alloc),
         }
+    }
+
+    // Sets what a byte of storage costs, before there is anybody; takes no memory.
+    pub(crate) fn set_rate(&mut self, rate: u64)
+        requires { IsNew self.old.present }
+        ensures { self.new.present ≡ with_rate self.old.present (Some rate) }
+    {
+        self.rate = Some(rate);
+    }
+
+    // What a byte of storage costs.
+    pub(crate) fn rate(&self) -> Option<u64>
+        ensures { result ≡ self.now.present.rate }
+    {
+        self.rate
     }
 
     // How many entries the journal has.
@@ -107,6 +127,14 @@ impl Funds {
         self.fees
     }
 
+    // What was burnt for storage.
+    pub(crate) fn storage_burn(&self) -> u64
+        ensures value { result ≡ self.now.present.storage_burn }
+        ensures sound { IsSound self.now.present }
+    {
+        self.storage_burn
+    }
+
     // All that was granted.
     pub(crate) fn granted(&self) -> u64
         ensures value { result ≡ self.now.present.granted }
@@ -115,7 +143,7 @@ impl Funds {
         self.granted
     }
 
-    // All balances and the fees.
+    // All balances, the fees and what was burnt.
     pub(crate) fn supply(&self) -> u64
         ensures { result ≡ total self.now.present }
     {
@@ -164,6 +192,27 @@ impl Funds {
         Ok(())
     }
 
+    // Writes what was burnt for storage.
+    pub(crate) fn write_storage_burn(&mut self, burn: u64) -> Result<(), Memory>
+        requires { total (with_storage_burn self.old.present burn) ≤ self.old.present.granted }
+        ensures new { IfOk result (λ _. self.new ≡ grown self.old (with_storage_burn self.old.present burn)) }
+        ensures unchanged { OnErr result (self.new ≡ self.old) }
+    {
+        self.journal.reserve(1)?;
+        let supply = self.supply;
+        let old = self.storage_burn;
+        self.storage_burn = burn;
+        self.supply = supply - old + burn;
+        note(
+            &mut self.journal,
+            Entry {
+                change: Change::StorageBurn(old),
+                supply,
+            },
+        );
+        Ok(())
+    }
+
     // Writes all that was granted.
     pub(crate) fn write_granted(&mut self, granted: u64) -> Result<(), Memory>
         requires { IsSound (with_granted self.old.present granted) }
@@ -200,6 +249,26 @@ impl Funds {
                 Entry {
                     change: Change::Balance(*hash, old),
                     supply,
+                },
+            );
+        }
+        Ok(())
+    }
+
+    // Writes how many bytes a contract that is there has paid for.
+    pub(crate) fn write_paid(&mut self, hash: &[u8; 20], paid: u64) -> Result<(), Memory>
+        requires { is_some (contract_at self.old.present hash.now) ≡ true }
+        ensures new { IfOk result (λ _. self.new ≡ grown self.old (with_change (repaid paid) self.old.present hash.now)) }
+        ensures total { total self.new.present ≡ total self.old.present }
+        ensures unchanged { OnErr result (self.new ≡ self.old) }
+    {
+        self.journal.reserve(1)?;
+        if let Some(old) = swap_paid(&mut self.contracts, hash, paid) {
+            note(
+                &mut self.journal,
+                Entry {
+                    change: Change::Paid(*hash, old),
+                    supply: self.supply,
                 },
             );
         }
@@ -270,7 +339,11 @@ impl Funds {
                 let undone = swap_storage(&mut self.contracts, &hash, old);
                 drop(undone);
             }
+            Change::Paid(hash, old) => {
+                swap_paid(&mut self.contracts, &hash, old);
+            }
             Change::Fees(old) => self.fees = old,
+            Change::StorageBurn(old) => self.storage_burn = old,
             Change::Granted(old) => self.granted = old,
         }
     }

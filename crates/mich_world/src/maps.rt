@@ -4,7 +4,7 @@ ghost use Rattle.std.specs.BTreeMap.{is_at, insert_entry};
 ghost use Rattle.std.specs.List.{sum_by};
 ghost use Rattle.std.specs.Map.{lookup, values_of};
 ghost use Rattle.mich_base.specs.undo.Undone.{undone, changed_at};
-ghost use Rattle.mich_world.specs.Holders.{all_balances, balance_in, by_bytes, rebalanced, restored};
+ghost use Rattle.mich_world.specs.Holders.{all_balances, balance_in, by_bytes, rebalanced, repaid, restored};
 ghost use Rattle.mich_world.specs.Before.{accounts_before};
 
 use crate::contract::Contract;
@@ -95,6 +95,23 @@ pub(crate) fn swap_balance(contracts: &mut Contracts, hash: &[u8; 20], mutez: u6
         Some(contract) => {
             let old = contract.balance;
             contract.balance = mutez;
+            Some(old)
+        }
+        None => None,
+    }
+}
+
+// Exchanges the bytes that a contract has paid for, where it is there; takes no memory.
+pub(crate) fn swap_paid(contracts: &mut Contracts, hash: &[u8; 20], paid: u64) -> Option<u64>
+    ensures new { contracts.new.entries ≡ changed_at (is_at (by_bytes hash.now)) contracts.old.entries (repaid paid) }
+    ensures back { IfSome result (λ old. changed_at (is_at (by_bytes hash.now)) contracts.new.entries (repaid old) ≡ contracts.old.entries) }
+    ensures there { is_some result ≡ is_some (lookup (is_at (by_bytes hash.now)) contracts.old.entries) }
+    ensures sum { all_balances contracts.new.entries ≡ all_balances contracts.old.entries }
+{
+    match contracts.get_mut(hash) {
+        Some(contract) => {
+            let old = contract.paid;
+            contract.paid = paid;
             Some(old)
         }
         None => None,

@@ -3,8 +3,8 @@ ghost use Rattle.std.specs.Prelude.{◌≡◌, ◌+◌, ◌≤◌, true, false, 
 ghost use Rattle.rules_text.specs.nodes.Limits.{most_mutez};
 ghost use Rattle.mich_forms.specs.declared.places.Place.TheVariants as place;
 ghost use Rattle.mich_base.specs.undo.History.{grown, Keeps};
-ghost use Rattle.mich_world.specs.Answers.{IsGrant, IsMove, IsFee};
-ghost use Rattle.mich_world.specs.Holders.{IsSound, account_at, contract_at, balance_or_none, may_receive, total, with_balance, with_less, moved, fee_taken, endowed, founded, committed};
+ghost use Rattle.mich_world.specs.Answers.{IsGrant, IsMove, IsFee, IsPayment};
+ghost use Rattle.mich_world.specs.Holders.{IsSound, account_at, contract_at, balance_or_none, may_receive, total, with_balance, with_less, moved, fee_taken, endowed, owed, storage_paid, founded, committed};
 
 use crate::contract::Contract;
 use crate::errors::{GrantError, MoveError};
@@ -130,6 +130,69 @@ impl Funds {
             return Err(MoveError::Memory);
         }
         Ok(())
+    }
+
+    // A burn goes from an account to all that was burnt, and a contract has paid for so many bytes.
+    #[tactic(auto, using(mich_base::proofs::undo_lemmas::ForCallers::keeps_to, mich_base::proofs::undo_lemmas::ForCallers::keeps_equal, mich_base::proofs::undo_lemmas::ForCallers::keeps_trans))]
+    fn pay_burn(
+        &mut self,
+        hash: &[u8; 20],
+        size: u64,
+        payer: KeyHash,
+        burn: u64,
+    ) -> Result<(), Memory>
+        requires there { is_some (contract_at self.old.present hash.now) ≡ true }
+        requires enough { burn ≤ balance_or_none self.old.present (place.Implicit payer) }
+        ensures paid { IfOk result (λ _. self.new.present ≡ storage_paid self.old.present hash.now size payer (Some burn)) }
+        ensures total { IfOk result (λ _. total self.new.present ≡ total self.old.present) }
+        ensures keeps { Keeps self.old self.new }
+    {
+        let burnt = self.storage_burn();
+        self.pay(&Place::Implicit(payer), burn)?;
+        self.write_storage_burn(burnt + burn)?;
+        self.write_paid(hash, size)?;
+        Ok(())
+    }
+
+    // What is burnt for a contract that has a size. None where it is no larger than it has paid for.
+    fn owed(&self, hash: &[u8; 20], size: u64, rate: u64) -> Option<u128>
+        ensures { result ≡ owed rate size (contract_at self.now.present hash.now) }
+    {
+        match self.contract(hash) {
+            Some(contract) if contract.paid < size => {
+                Some((size - contract.paid) as u128 * rate as u128)
+            }
+            _ => None,
+        }
+    }
+
+    // A contract pays for its size, all or nothing.
+    #[tactic(auto, using(mich_base::proofs::undo_lemmas::ForCallers::keeps_same))]
+    pub(crate) fn pay_storage(
+        &mut self,
+        hash: &[u8; 20],
+        size: u64,
+        payer: KeyHash,
+        rate: u64,
+    ) -> Result<u64, MoveError>
+        requires { is_some (contract_at self.old.present hash.now) ≡ true }
+        ensures answer { IsPayment rate hash.now size payer self.old self.new result }
+        ensures total { total self.new.present ≡ total self.old.present }
+        ensures keeps { Keeps self.old self.new }
+    {
+        let Some(burn) = self.owed(hash, size, rate) else {
+            return Ok(0);
+        };
+        if (self.balance_or_none(&Place::Implicit(payer)) as u128) < burn {
+            return Err(MoveError::BalanceTooLow);
+        }
+        let burn = burn as u64;
+        let height = self.height();
+        if self.pay_burn(hash, size, payer, burn).is_err() {
+            self.undo_to(height);
+            return Err(MoveError::Memory);
+        }
+        Ok(burn)
     }
 
     // Mutez go from one place to another.

@@ -46,6 +46,7 @@ impl World {
         let storage = settle_all(alloc, &mut self.store, storage)?;
         let contract = Contract {
             balance: amount,
+            paid: 0,
             script,
             storage,
         };

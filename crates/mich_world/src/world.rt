@@ -1,9 +1,9 @@
 // The world.
 ghost use Rattle.std.specs.Borrow.{sem};
-ghost use Rattle.std.specs.Prelude.{◌≡◌, ◌+◌, true, [], OnOk, option_map};
+ghost use Rattle.std.specs.Prelude.{◌≡◌, ◌+◌, true, [], OnOk, option_map, is_some, unwrap_or, Some};
 ghost use Rattle.mich_base.specs.undo.History.{Keeps};
-ghost use Rattle.mich_world.specs.Answers.{IsGrant, IsMove, IsFee};
-ghost use Rattle.mich_world.specs.Holders.{balance_at, contract_at, may_receive, total};
+ghost use Rattle.mich_world.specs.Answers.{IsGrant, IsMove, IsFee, IsPayment};
+ghost use Rattle.mich_world.specs.Holders.{IsNew, balance_at, contract_at, may_receive, total, with_rate};
 ghost use Rattle.mich_world.specs.Lending.{LendsLedger, LendsStore};
 ghost use Rattle.mich_world.specs.Marks.{mark_of, at_mark, IsGood, KeepsWorld, IsSame};
 ghost use Rattle.mich_world.specs.World.{no_world, with_clock, with_funds};
@@ -74,6 +74,23 @@ impl World {
         (self.chain, self.level, self.moment)
     }
 
+    /// Sets how many mutez are burnt for a byte of storage, before there is anybody; takes no memory (Octez "Operations", storage fees
+    /// and burn).
+    pub fn set_rate(&mut self, rate: u64)
+        requires { IsNew self.old.funds.present }
+        ensures rate { self.new.funds.present ≡ with_rate self.old.funds.present (Some rate) }
+        ensures others { self.new ≡ with_funds self.old self.new.funds }
+    {
+        self.funds.set_rate(rate);
+    }
+
+    /// How many mutez are burnt for a byte of storage. None exactly where that wasn't set. It takes no memory.
+    pub fn rate(&self) -> Option<u64>
+        ensures { result ≡ self.now.funds.present.rate }
+    {
+        self.funds.rate()
+    }
+
     /// The balance at a place. None where there is no such account or contract. It takes no memory.
     pub fn balance(&self, place: Place) -> Option<u64>
         ensures { result ≡ balance_at self.now.funds.present place }
@@ -95,6 +112,13 @@ impl World {
         self.funds.fees()
     }
 
+    /// What was burnt for storage; takes no memory.
+    pub fn storage_burn(&self) -> u64
+        ensures { result ≡ self.now.funds.present.storage_burn }
+    {
+        self.funds.storage_burn()
+    }
+
     /// All that was granted; takes no memory.
     pub fn granted(&self) -> u64
         ensures { result ≡ self.now.funds.present.granted }
@@ -102,7 +126,7 @@ impl World {
         self.funds.granted()
     }
 
-    /// All balances and the fees; takes no memory.
+    /// All balances, the fees and what was burnt for storage; takes no memory.
     pub fn supply(&self) -> u64
         ensures { result ≡ total self.now.funds.present }
     {
@@ -145,6 +169,29 @@ impl World {
         ensures keeps { KeepsWorld self.old self.new }
     {
         self.funds.take_fee(who, fee)
+    }
+
+    #[tactic(auto, using(crate::proofs::Marks::world_funds))]
+    /// A contract that has a size in bytes pays for what it grew by since it last paid, at the rate that was set: an account pays the
+    /// burn, which is answered, 0 where it didn't grow. BalanceTooLow exactly where the account has less. After an error the world is
+    /// unchanged (Octez "Operations", storage fees and burn).
+    pub fn pay_storage(
+        &mut self,
+        hash: &[u8; 20],
+        size: u64,
+        payer: KeyHash,
+    ) -> Result<u64, MoveError>
+        requires there { is_some (contract_at self.old.funds.present hash.now) ≡ true }
+        requires rate { is_some self.old.funds.present.rate ≡ true }
+        ensures answer { IsPayment (unwrap_or self.old.funds.present.rate 0) hash.now size payer self.old.funds self.new.funds result }
+        ensures supply { total self.new.funds.present ≡ total self.old.funds.present }
+        ensures others { self.new ≡ with_funds self.old self.new.funds }
+        ensures keeps { KeepsWorld self.old self.new }
+    {
+        let Some(rate) = self.funds.rate() else {
+            unreachable!();
+        };
+        self.funds.pay_storage(hash, size, payer, rate)
     }
 
     /// The ledger of tickets; takes no memory.
@@ -193,7 +240,7 @@ impl World {
         }
     }
 
-    /// Takes the world back to a mark: accounts, contracts, fees, the ledger, the store and the clock are as they were. The ledger's
+    /// Takes the world back to a mark: accounts, contracts, fees, burns, the ledger, the store and the clock are as they were. The ledger's
     /// list of changes is empty. It takes no memory.
     pub fn undo_to(&mut self, mark: Mark)
         requires { IsGood mark self.old }

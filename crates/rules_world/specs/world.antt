@@ -14,6 +14,7 @@ pub mod Gives
 pub mod Application
 pub mod Trees
 pub mod Groups
+pub mod Growth
 pub mod Forms
 pub mod Good
 pub mod RunLaws

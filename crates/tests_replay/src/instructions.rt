@@ -76,6 +76,96 @@ fn are_runs(alloc: Global, runs: &[Run]) -> Result<(), Fail> {
     Ok(())
 }
 
+// Numbers as bytes.
+const SPELLED: [Run; 9] = [
+    (
+        "nat",
+        "bytes",
+        "CAR ; BYTES ; NIL operation ; PAIR",
+        "128",
+        "0x",
+        5,
+        Outcome::Leaves("0x80"),
+    ),
+    (
+        "int",
+        "bytes",
+        "CAR ; BYTES ; NIL operation ; PAIR",
+        "128",
+        "0x",
+        5,
+        Outcome::Leaves("0x0080"),
+    ),
+    (
+        "int",
+        "bytes",
+        "CAR ; BYTES ; NIL operation ; PAIR",
+        "-129",
+        "0x",
+        5,
+        Outcome::Leaves("0xff7f"),
+    ),
+    (
+        "nat",
+        "bytes",
+        "CAR ; BYTES ; NIL operation ; PAIR",
+        "0",
+        "0x01",
+        5,
+        Outcome::Leaves("0x"),
+    ),
+    (
+        "bytes",
+        "int",
+        "CAR ; INT ; NIL operation ; PAIR",
+        "0xff",
+        "0",
+        6,
+        Outcome::Leaves("-1"),
+    ),
+    (
+        "bytes",
+        "int",
+        "CAR ; INT ; NIL operation ; PAIR",
+        "0x",
+        "7",
+        5,
+        Outcome::Leaves("0"),
+    ),
+    (
+        "bytes",
+        "nat",
+        "CAR ; NAT ; NIL operation ; PAIR",
+        "0x00ff",
+        "0",
+        7,
+        Outcome::Leaves("255"),
+    ),
+    (
+        "bytes",
+        "int",
+        "CAR ; INT ; NIL operation ; PAIR",
+        "0x80000000000000000000000000000000",
+        "0",
+        21,
+        Outcome::Leaves("-170141183460469231731687303715884105728"),
+    ),
+    (
+        "bytes",
+        "nat",
+        "CAR ; NAT ; NIL operation ; PAIR",
+        "0x80000000000000000000000000000000",
+        "0",
+        19,
+        Outcome::Fails("IntegerLimit"),
+    ),
+];
+
+#[test]
+fn numbers_as_bytes(rt: HostRuntime) -> Result<(), Fail> {
+    are_runs(rt.alloc(), &SPELLED)
+}
+
 // Values, the order of the stack, and lambdas.
 const STACKS: [Run; 19] = [
     (

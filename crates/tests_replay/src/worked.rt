@@ -429,6 +429,42 @@ fn numbers(rt: HostRuntime) -> Result<(), Fail> {
     all_are_answered(rt.alloc(), "replay", &NUMBERS)
 }
 
+// Storage that is burnt for.
+const BURNS: [Row; 2] = [
+    (
+        "# Storage costs 3 mutez a byte. A contract is made, of 33 bytes; then its storage grows by two, and at last it is empty again.\n\
+            Chain 0x7a06a770 1 0;\n\
+            Profile 2 3;\n\
+            Account 0x000000000000000000000000000000000000000001 1000;\n\
+            Group 0x000000000000000000000000000000000000000001 { Originate 0 1 0 { parameter bytes ; storage bytes ; code { CAR ; NIL \
+            operation ; PAIR } } 0x };\n\
+            Group 0x000000000000000000000000000000000000000001 { Call 0 4 0 0x01000000000000000100000000000000000000000000 \"default\" \
+            0x0102 };\n\
+            Group 0x000000000000000000000000000000000000000001 { Call 0 4 0 0x01000000000000000100000000000000000000000000 \"default\" 0x \
+            };\n",
+        0,
+        "Group 1 { Applied 1 { Origination 0x00000000000000000000000000000000000000000001 0x01000000000000000100000000000000000000000000 0 \
+            ; Storage 0x01000000000000000100000000000000000000000000 33 99 } }\nGroup 2 { Applied 4 { Transfer \
+            0x00000000000000000000000000000000000000000001 0x01000000000000000100000000000000000000000000 0 0x0102 {} ; Storage \
+            0x01000000000000000100000000000000000000000000 2 6 } }\nGroup 3 { Applied 4 { Transfer \
+            0x00000000000000000000000000000000000000000001 0x01000000000000000100000000000000000000000000 0 0x {} } }\nAccount \
+            0x000000000000000000000000000000000000000001 895 {}\nContract 0x01000000000000000100000000000000000000000000 0 0x 35\nFees \
+            0\nStorageBurn 105\nSupply 1000\n",
+    ),
+    (
+        "Chain 0x7a06a770 1 0;Profile 2 3; Account 0x000000000000000000000000000000000000000001 98; Group \
+            0x000000000000000000000000000000000000000001 { Originate 0 1 0 { parameter bytes ; storage bytes ; code { CAR ; NIL operation \
+            ; PAIR } } 0x }; ",
+        0,
+        "Group 1 { Failed 0 CannotPayBurn }\nAccount 0x000000000000000000000000000000000000000001 98 {}\nFees 0\nStorageBurn 0\nSupply 98\n",
+    ),
+];
+
+#[test]
+fn burns(rt: HostRuntime) -> Result<(), Fail> {
+    all_are_answered(rt.alloc(), "replay", &BURNS)
+}
+
 // Views.
 const VIEWS: [Row; 3] = [
     (

@@ -1,8 +1,7 @@
-//! Tests of values, literals and packing, by public calls.
+//! Tests of values and their literals, by public calls.
 #![tactic(auto)]
 
 pub mod data;
-pub mod pack;
 #[cfg(test)]
 mod support;
 pub mod term;

@@ -1,10 +1,11 @@
-// What is burnt, and an empty big map.
+// What is burnt, an empty big map, and an identity of tickets.
 ghost use Rattle.std.specs.Prelude.{map};
 ghost use Rattle.mich_bigmap.specs.Formed.{IsFormed};
 ghost use Rattle.mich_term.specs.TicketView.{held};
 
-use mich_base::{Memory, Rows};
-use mich_term::{BigMap, Burner, Ticket};
+use mich_base::{Memory, Rows, Ty};
+use mich_forms::Place;
+use mich_term::{BigMap, Burner, Datum, Ticket, TicketId};
 use std::alloc::Global;
 
 // Keeps all that is burnt.
@@ -32,5 +33,14 @@ pub(crate) fn empty(alloc: Global) -> BigMap
         shares: true,
         base: None,
         overlay: Rows::new(alloc),
+    }
+}
+
+// A ticket's identity: nat content.
+pub(crate) fn identity(content: i128) -> TicketId {
+    TicketId {
+        issuer: Place::Contract([7; 20]),
+        ty: Ty::Nat,
+        content: Datum::Number(content),
     }
 }

@@ -8,6 +8,7 @@ use Rattle.std.specs.Int.{int_div_euclid, int_rem_euclid}
 use Rattle.std.proofs.lemmas.Int.{ints}
 use Rattle.rules_data.specs.numbers.Limits.{is_int, int_or_limit}
 use Rattle.rules_data.specs.numbers.Mutez.{mutez_difference}
+use Rattle.rules_data.specs.numbers.Bytes.{natural_bytes, integer_bytes, natural_in, integer_in}
 use Rattle.rules_data.specs.numbers.Bits.{bitwise_and, bitwise_or, bitwise_xor, complement}
 use Rattle.rules_data.specs.declared.types.Simple.{Simple}
 use Rattle.rules_data.specs.declared.types.Simple.TheVariants as s
@@ -30,7 +31,9 @@ use Rattle.rules_code.specs.steps.Step.{Step, kept, optional, within_limit}
 use Rattle.rules_code.specs.steps.Numbers.{give_number, natural, number_step, comparison, logic_step}
 use Rattle.rules_code.specs.typing.Fits.{Known, AllFit}
 use Rattle.laws_code.proofs.stacks.ForCallers.{positive}
-use Rattle.laws_code.proofs.steps.Steps.{IsNumeric, RowStep, StepFits, on_one_number, on_two_numbers, on_truth}
+use Rattle.laws_code.proofs.steps.Steps.{IsNumeric, RowStep, StepFits, on_one_number, on_two_numbers, on_truth, on_bytes}
+use Rattle.laws_code.proofs.steps.NumberBytes.{natural_short, integer_short}
+use Rattle.laws_code.proofs.steps.TextRows.{bytes_below}
 use Rattle.laws_code.proofs.steps.Ranges.{nat_low, nat_within, nat_sum, nat_product, nat_int, int_from, complement_int, quotient_nat, remainder_low, and_nat, or_nat, xor_nat, amount_high, amount_from}
 use Rattle.laws_code.proofs.steps.Arithmetic.{gives, limited, limited_amount, on_natural, amount_low, below_two, below_one, divides, amount_quotient, amount_remainder, amount_ratio, shift_left, shift_right}
 
@@ -191,6 +194,18 @@ module _ (w : Known) where
       (λ x y W hx hy hw. shift_left w A x y W hx hw)
   number_keeps i.lsr (ty.nat ∷ ty.nat ∷ A) V h = both s.Nat s.Nat ty.nat A V (number_step i.lsr) tt tt h
       (λ x y W hx hy hw. shift_right w A x y W hx hw)
+  number_keeps i.nat_to_bytes (ty.nat ∷ A) V h = one s.Nat ty.bytes A V (number_step i.nat_to_bytes) tt h
+      (λ x W hx hw. on_natural (λ x. RowStep w (v.number x ∷ W) (ty.bytes ∷ A) (number_step i.nat_to_bytes (v.number x ∷ W))) x
+      (nat_low x hx) (λ n. gives w (v.number (pos n) ∷ W) W ty.bytes A (v.bytes (natural_bytes n)) (natural_short n) hw
+      (λ id. refl) (below_one (pos n) W)))
+  number_keeps i.int_to_bytes (ty.int ∷ A) V h = one s.Int ty.bytes A V (number_step i.int_to_bytes) tt h
+      (λ x W hx hw. gives w (v.number x ∷ W) W ty.bytes A (v.bytes (integer_bytes x)) (integer_short x) hw (λ id. refl)
+      (below_one x W))
+  number_keeps i.bytes_to_nat (ty.bytes ∷ A) V h = on_bytes w (λ V. RowStep w V (ty.nat ∷ A) (number_step i.bytes_to_nat V))
+      s.Bytes A V tt h (λ b W hb hw. limited w (v.bytes b ∷ W) W s.Nat A (pos (natural_in b))
+      (λ e. nat_within (pos (natural_in b)) (omega (arith, ints)) e) hw (bytes_below w b W))
+  number_keeps i.bytes_to_int (ty.bytes ∷ A) V h = on_bytes w (λ V. RowStep w V (ty.int ∷ A) (number_step i.bytes_to_int V))
+      s.Bytes A V tt h (λ b W hb hw. limited w (v.bytes b ∷ W) W s.Int A (integer_in b) (λ e. e) hw (bytes_below w b W))
   number_keeps i.add_numbers (a ∷ b ∷ A) V h = tt
   number_keeps i.add_numbers (a ∷ []) V h = tt
   number_keeps i.add_numbers [] V h = tt

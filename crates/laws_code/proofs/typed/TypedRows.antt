@@ -97,6 +97,10 @@ number_types i.int (ty.nat ∷ A) h = ((tt, tt), h.1)
 number_types i.isnat (ty.int ∷ A) h = ((tt, tt), h.1)
 number_types i.lsl (ty.nat ∷ ty.nat ∷ A) h = ((tt, tt), h.1.1)
 number_types i.lsr (ty.nat ∷ ty.nat ∷ A) h = ((tt, tt), h.1.1)
+number_types i.nat_to_bytes (ty.nat ∷ A) h = ((tt, tt), h.1)
+number_types i.int_to_bytes (ty.int ∷ A) h = ((tt, tt), h.1)
+number_types i.bytes_to_nat (ty.bytes ∷ A) h = ((tt, tt), h.1)
+number_types i.bytes_to_int (ty.bytes ∷ A) h = ((tt, tt), h.1)
 number_types _ _ h = tt
 
 bools_types : (A : List Kind) → AllTypes A → ChangeTypes (of_bools A)

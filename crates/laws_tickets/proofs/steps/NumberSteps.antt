@@ -5,6 +5,7 @@ use Rattle.std.specs.List.{flat_map}
 use Rattle.std.proofs.lemmas.Bool.{and_parts}
 use Rattle.rules_data.specs.numbers.Limits.{int_or_limit}
 use Rattle.rules_data.specs.numbers.Integers.{division, shifted_left, shifted_right}
+use Rattle.rules_data.specs.numbers.Bytes.{natural_bytes, integer_bytes, natural_in, integer_in}
 use Rattle.rules_data.specs.numbers.Mutez.{mutez_sum, mutez_difference, mutez_product}
 use Rattle.rules_data.specs.types.Kind.{Kind}
 use Rattle.rules_data.specs.types.Kind as k
@@ -91,6 +92,16 @@ number_keeps i.lsl (t.nat ∷ t.nat ∷ A) (v.number x ∷ v.number y ∷ V) h =
 number_keeps i.lsr (t.nat ∷ t.nat ∷ A) (v.number x ∷ v.number y ∷ V) h =
     step_limit (shifted_right x y) (t.nat ∷ A) (v.number x ∷ v.number y ∷ V) (give_number V)
     (λ z. number_for t.nat A (v.number x ∷ v.number y ∷ V) z V tt h.1.1 refl)
+number_keeps i.nat_to_bytes (t.nat ∷ A) (v.number (pos x) ∷ V) h =
+    one_for t.bytes A (v.number (pos x) ∷ V) (v.bytes (natural_bytes x)) V refl refl h.1 refl
+number_keeps i.int_to_bytes (t.int ∷ A) (v.number x ∷ V) h =
+    one_for t.bytes A (v.number x ∷ V) (v.bytes (integer_bytes x)) V refl refl h.1 refl
+number_keeps i.bytes_to_nat (t.bytes ∷ A) (v.bytes b ∷ V) h =
+    step_limit (int_or_limit (pos (natural_in b))) (t.nat ∷ A) (v.bytes b ∷ V) (give_number V)
+    (λ z. number_for t.nat A (v.bytes b ∷ V) z V tt h.1 refl)
+number_keeps i.bytes_to_int (t.bytes ∷ A) (v.bytes b ∷ V) h =
+    step_limit (int_or_limit (integer_in b)) (t.int ∷ A) (v.bytes b ∷ V) (give_number V)
+    (λ z. number_for t.int A (v.bytes b ∷ V) z V tt h.1 refl)
 number_keeps _ _ _ h = tt
 
 -- ---- logic and comparison

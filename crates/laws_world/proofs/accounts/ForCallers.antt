@@ -6,5 +6,5 @@ pub use Rattle.laws_world.proofs.accounts.Holdings.{AreHoldings, credited_held, 
 pub use Rattle.laws_world.proofs.accounts.Identities.{alike_equal, equal_of, identity_total}
 pub use Rattle.laws_world.proofs.accounts.KindTexts.{texts_tell_types}
 pub use Rattle.laws_world.proofs.accounts.More.{Extends, all_waiting_more, contract_good_more, extends_trans, fits_in_more, operation_more, stores_more}
-pub use Rattle.laws_world.proofs.accounts.Mutez.{InOrder, IsOwner, account_supply, contract_balance, contract_supply, fees_conserve, grants_add_mutez, less_supply, more_supply, nobody, set_balance}
+pub use Rattle.laws_world.proofs.accounts.Mutez.{InOrder, IsOwner, account_supply, burns_conserve, contract_balance, contract_supply, fees_conserve, grants_add_mutez, less_supply, more_supply, nobody, set_balance}
 pub use Rattle.laws_world.proofs.accounts.ReadLiterals.{compared_fits, literal_empty, literal_fits}

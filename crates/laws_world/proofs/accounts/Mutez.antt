@@ -1,4 +1,4 @@
--- Mutez is conserved by moves and fees, and grants add to it.
+-- Mutez is conserved by moves, fees and burns, and grants add to it.
 use Rattle.std.proofs.Common.{◌≡◌, ◌≤◌, ℕ, ◌+◌, ◌-◌, nat_le, List, [], Bool, true, false, is_some, option_map, unwrap_or, None, Some, refl, ap, arith}
 use Rattle.std.specs.declared.option.Option.{Option}
 use Rattle.std.specs.Prelude.{if◌then◌else◌}
@@ -15,6 +15,7 @@ use Rattle.rules_data.specs.forms.Spelling.{is_implicit}
 use Rattle.rules_code.specs.evaluation.Contracts.{hash_in}
 use Rattle.rules_world.specs.world.World.{World, Account, key_hash_in, account_at, contract_at, account_or_none, no_account, with_account, with_contract}
 use Rattle.rules_world.specs.world.Balances.{Grant, supply, balance_or_none, with_balance, with_less, with_more, fee_taken, with_account_balance, with_contract_balance, Granted, Repeated, TooMuch, endowed}
+use Rattle.rules_world.specs.world.Growth.{burnt_from}
 use Rattle.rules_world.specs.world.Good.{IsGood}
 use Rattle.rules_world.specs.world.Laws.{GrantsAddMutez}
 
@@ -134,6 +135,22 @@ less_supply w place mutez order enough = by (is_implicit place) (contract_at w (
         let n = nobody w place (balance_or_none w place - mutez) is at in
         let same : supply (with_less w place mutez) ≡ supply w = ap supply n.0 in
         omega (arith, same, n.1, enough)
+
+burn_by : (w : World) (place : List ℕ) (mutez : ℕ) (b : Bool) (o : Option Contract) →
+    (if b then with_account_balance w (key_hash_in place) mutez else with_contract_balance w (hash_in place) mutez o).storage_burn
+    ≡ w.storage_burn
+burn_by w place mutez true o = refl
+burn_by w place mutez false None = refl
+burn_by w place mutez false (Some c) = refl
+
+-- and to the burn
+pub burns_conserve : (w : World) (place : List ℕ) (mutez : ℕ) → InOrder w → mutez ≤ balance_or_none w place →
+    supply (burnt_from w place mutez) ≡ supply w
+burns_conserve w place mutez order enough =
+    let less = less_supply w place mutez order enough in
+    let burn : (with_less w place mutez).storage_burn ≡ w.storage_burn =
+    burn_by w place (balance_or_none w place - mutez) (is_implicit place) (contract_at w (hash_in place)) in
+    omega (arith, less, burn)
 
 pub more_supply : (w : World) (place : List ℕ) (mutez : ℕ) → InOrder w → IsOwner w place (is_implicit place) →
     supply (with_more w place mutez) ≡ supply w + mutez

@@ -31,6 +31,7 @@ use Rattle.laws_world.proofs.runs.ForCallers.{runs_end_well, in_order, moved_mov
 use Rattle.laws_world.proofs.accounts.ForCallers.{minted_append, burnt_append, one_in, Extends, fits_in_more, operation_more, all_waiting_more, IsOwner, contract_supply}
 use Rattle.laws_world.proofs.operations.ForCallers.{fresh_emitted, made_emitted}
 use Rattle.laws_world.proofs.groups_lemmas.Taken.{IsTaken, taken_on, balance_within}
+use Rattle.laws_world.proofs.groups_lemmas.Growth.{growing_keeps}
 
 -- ---- places of contracts
 
@@ -171,9 +172,11 @@ module _ (start : World) (s : Setting) (setting : IsSetting s) (contents : ℕ) 
       IsMet w c.target → FitsIn w c.target.entry.kind c.argument → is_place c.sender ≡ true → c.amount ≤ most_mutez →
       KeepsGoing start s contents waiting (run s w c gas counts effect)
   run_keeps w c gas waiting counts effect taken is_met fits sender amount =
-      by (run_in (environment_of s w c) s w c.target c.argument gas counts)
+      growing_keeps start s contents c.target.hash waiting
+      (with_effect c.target.hash effect (run_in (environment_of s w c) s w c.target c.argument gas counts))
+      (by (run_in (environment_of s w c) s w c.target c.argument gas counts)
       (runs_end_well (environment_of s w c) s w c.target c.argument gas counts
-      (run_called w c waiting counts taken is_met fits sender amount))
+      (run_called w c waiting counts taken is_met fits sender amount)))
     where
       by : (e : Ended) → EndsWell s w c.target c.argument counts e →
           KeepsGoing start s contents waiting (with_effect c.target.hash effect e)

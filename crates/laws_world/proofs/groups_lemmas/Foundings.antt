@@ -32,6 +32,7 @@ use Rattle.laws_world.specs.runs.Going.{IsGoing, KeepsGoing, IsKept}
 use Rattle.laws_world.proofs.accounts.ForCallers.{one_in, Extends, extends_trans, stores_more, all_waiting_more, InOrder, contract_balance, less_supply, literal_fits, literal_empty}
 use Rattle.laws_world.proofs.runs.ForCallers.{less_moves, in_order, IsOrderly, none_elsewhere, extends_new, orderly_contract, held_contract, orderly_of, sound_again, minted_again, kept_then, keeps_charged}
 use Rattle.laws_world.proofs.operations.ForCallers.{new_length, take_group, fresh_made, fresh_next}
+use Rattle.laws_world.proofs.groups_lemmas.Growth.{growing_keeps}
 
 -- ---- one that comes to be
 
@@ -59,7 +60,7 @@ none_held a b c d e f = omega (arith, ints, e, f)
 founds : (w : World) (f : Founding) → IsOrderly w → f.balance ≤ balance_or_none w f.sender → length f.hash ≡ 20 →
     contract_at w f.hash ≡ None → Stores w f.script f.storage → IsFounded w (founded w f) f.hash f.storage
 founds w f o enough twenty absent stores =
-    let d : Contract = record { balance = f.balance; script = f.script; storage = f.storage } in
+    let d : Contract = record { balance = f.balance; paid = 0; script = f.script; storage = f.storage } in
     let x = with_less w f.sender f.balance in
     let less = less_moves w f.sender f.balance o in
     let none = less.none f.hash absent in
@@ -132,10 +133,11 @@ module _ (start : World) (s : Setting) (contents : ℕ) (w : World) (waiting : L
     where
       by : (delegate : Option (List ℕ)) → IsGoing start s.group contents w
           (issued sender (origination delegate amount t storage hash) ∷ waiting) counts → (left : ℕ) →
-          KeepsGoing start s contents waiting (unless_delegated delegate w
+          KeepsGoing start s contents waiting (unless_delegated s delegate w
           (record { sender = sender; hash = hash; balance = amount; script = t; storage = storage }) left counts)
       by (Some d) g left = tt
-      by None g left = founded_later sender None amount t storage hash left (nat_lt (balance_or_none w sender) amount) g refl
+      by None g left = growing_keeps start s contents hash waiting _
+          (founded_later sender None amount t storage hash left (nat_lt (balance_or_none w sender) amount) g refl)
 
   -- ---- by a content
 
@@ -187,9 +189,10 @@ module _ (start : World) (s : Setting) (contents : ℕ) (w : World) (waiting : L
       by_storage : (left : ℕ) (accepted : Script) → script t ≡ found accepted → (o : Found Val) →
           literal_in w accepted.storage u ≡ o → KeepsGoing start s contents waiting (with_storage o s w balance t left counts)
       by_storage left accepted is (found x) e =
-          founded_now balance t u x left (nat_lt (balance_or_none w (implicit_place s.source)) balance) g
+          growing_keeps start s contents (new_contract s.group counts.originations) waiting _
+          (founded_now balance t u x left (nat_lt (balance_or_none w (implicit_place s.source)) balance) g
           (accepted, is, action.1, literal_fits w accepted.storage u x e action.2)
-          (λ id. ap (amount_among id) (literal_empty w accepted.storage u x e)) refl
+          (λ id. ap (amount_among id) (literal_empty w accepted.storage u x e)) refl)
       by_storage left accepted is (fault l) e = tt
 
       by_script : (left : ℕ) (o : Found Script) → script t ≡ o →

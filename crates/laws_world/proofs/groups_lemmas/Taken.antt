@@ -39,6 +39,18 @@ none_over : (h a b : ℤ) → h +ℤ a ≡ b → h +ℤ (pos 0 +ℤ a) ≡ b
 none_over h a b e = omega (arith, ints, e)
 
 module _ (start : World) (group contents : ℕ) (w : World) (waiting : List Waiting) (counts : Counts) where
+  -- an operation has handed over all
+  pub taken_going : IsGoing start group contents w waiting counts → IsTaken start group contents w (λ id. pos 0) waiting counts
+  taken_going g = record {
+    sound = g.good.sound;
+    waits = g.good.waits;
+    tickets = λ id. none_over (held w id) (amount_waiting id waiting) _ (g.good.tickets id);
+    operations = g.operations;
+    originations = g.originations;
+    fresh = g.fresh;
+    kept = g.kept;
+  }
+
   pub taken_order : (action : Action) → IsGoing start group contents w (ordered action ∷ waiting) counts →
       IsTaken start group contents w (λ id. pos 0) waiting counts
   taken_order action g = record {

@@ -1,6 +1,6 @@
 -- What the proofs of the crates above may cite of this crate.
 pub use Rattle.laws_world.proofs.runs.Codes.{script_code}
-pub use Rattle.laws_world.proofs.runs.Moves.{account_balance, fee_moves, implicit_hash, in_order, less_moves, moved_moves, moved_supply}
+pub use Rattle.laws_world.proofs.runs.Moves.{OnlyMutez, account_balance, burn_moves, fee_moves, implicit_hash, in_order, less_moves, moved_moves, moved_supply, mutez_then, paid_moves, paid_supply}
 pub use Rattle.laws_world.proofs.runs.Runs.{runs_end, runs_end_well}
 pub use Rattle.laws_world.proofs.runs.Scripts.{IsMet, Searched, address_takes, entry_of_script, met_again, met_more, met_takes, searched}
 pub use Rattle.laws_world.proofs.runs.Steps.{kept_moved, kept_then, minted_again, orderly_of, sound_again, told_keeps}

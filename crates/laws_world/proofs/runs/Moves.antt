@@ -12,8 +12,9 @@ use Rattle.rules_code.specs.evaluation.Contracts.{hash_in}
 use Rattle.rules_world.specs.world.World.{World, Account, account_or_none, contract_at, with_contract, key_hash_in}
 use Rattle.rules_world.specs.world.Balances.{supply, balance_or_none, with_balance, with_account_balance, with_contract_balance, with_less, moved, fee_taken}
 use Rattle.rules_world.specs.world.Holdings.{amount_held, held}
-use Rattle.laws_world.proofs.accounts.ForCallers.{one_in, Extends, extends_trans, InOrder, IsOwner, less_supply, more_supply}
-use Rattle.laws_world.proofs.runs.Worlds.{IsOrderly, account_holdings, contract_stores, contract_length, orderly_account, orderly_contract, orderly_fees, extends_replaced, none_replaced, held_account, held_contract}
+use Rattle.rules_world.specs.world.Growth.{burnt_from, with_paid, paid_for}
+use Rattle.laws_world.proofs.accounts.ForCallers.{one_in, Extends, extends_trans, InOrder, IsOwner, contract_supply, less_supply, more_supply}
+use Rattle.laws_world.proofs.runs.Worlds.{IsOrderly, account_holdings, contract_stores, contract_length, orderly_account, orderly_contract, orderly_fees, orderly_burn, extends_replaced, none_replaced, held_account, held_contract}
 
 -- the world after a step in which contracts keep their scripts, none comes to be, and no ticket moves
 pub record OnlyMutez (w x : World) : Type 0 where
@@ -73,11 +74,11 @@ account_balance w who mutez o k =
       held = λ id. left_same _ (amount_held (account_or_none w who) id) _ (held_account w who a id o);
     }
 
-contract_balance : (w : World) (hash : List ℕ) (mutez : ℕ) (o : Option Contract) → IsOrderly w → contract_at w hash ≡ o →
-    OnlyMutez w (with_contract_balance w hash mutez o)
-contract_balance w hash mutez None o there = mutez_nothing w o
-contract_balance w hash mutez (Some c) o there =
-    let d : Contract = record c { balance = mutez } in
+-- a contract has another balance, or has paid for more bytes
+contract_set : (w : World) (hash : List ℕ) (mutez paid : ℕ) (c : Contract) → IsOrderly w → contract_at w hash ≡ Some c →
+    OnlyMutez w (with_contract w hash (record c { balance = mutez; paid = paid }))
+contract_set w hash mutez paid c o there =
+    let d : Contract = record c { balance = mutez; paid = paid } in
     let more = extends_replaced w hash d c there refl in
     record {
       orderly = orderly_contract w hash d o (contract_length w o hash c there) more (contract_stores w o hash c there);
@@ -88,12 +89,17 @@ contract_balance w hash mutez (Some c) o there =
       held = λ id. same id (held_contract w hash d id o);
     }
   where
-    same : (id : Identity) → held (with_contract w hash (record c { balance = mutez })) id +ℤ one_in
+    same : (id : Identity) → held (with_contract w hash (record c { balance = mutez; paid = paid })) id +ℤ one_in
         (λ (c : Contract). amount_in id c.storage) (contract_at w hash) ≡ held w id +ℤ amount_in id c.storage →
-        held (with_contract w hash (record c { balance = mutez })) id ≡ held w id
+        held (with_contract w hash (record c { balance = mutez; paid = paid })) id ≡ held w id
     same id h = left_same _ (amount_in id c.storage) _
-        (ap (λ o. held (with_contract w hash (record c { balance = mutez })) id +ℤ one_in
+        (ap (λ o. held (with_contract w hash (record c { balance = mutez; paid = paid })) id +ℤ one_in
         (λ (c : Contract). amount_in id c.storage) o) (sym there) ∙ h)
+
+contract_balance : (w : World) (hash : List ℕ) (mutez : ℕ) (o : Option Contract) → IsOrderly w → contract_at w hash ≡ o →
+    OnlyMutez w (with_contract_balance w hash mutez o)
+contract_balance w hash mutez None o there = mutez_nothing w o
+contract_balance w hash mutez (Some c) o there = contract_set w hash mutez c.paid c o there
 
 -- a balance is set
 pub balance_set : (w : World) (place : List ℕ) (mutez : ℕ) → IsOrderly w → OnlyMutez w (with_balance w place mutez)
@@ -126,7 +132,35 @@ fee_moves w from fee o =
       held = less.held;
     }
 
+pub burn_moves : (w : World) (from : List ℕ) (mutez : ℕ) → IsOrderly w → OnlyMutez w (burnt_from w from mutez)
+burn_moves w from mutez o =
+    let less = less_moves w from mutez o in
+    record {
+      orderly = orderly_burn (with_less w from mutez) (w.storage_burn + mutez) less.orderly;
+      more = less.more;
+      none = less.none;
+      log = less.log;
+      granted = less.granted;
+      held = less.held;
+    }
+
+-- a contract has paid for more bytes
+pub paid_moves : (w : World) (hash : List ℕ) (bytes : ℕ) → IsOrderly w → OnlyMutez w (paid_for w hash bytes)
+paid_moves w hash bytes o = by (contract_at w hash) refl
+  where
+    by : (c : Option Contract) → contract_at w hash ≡ c → OnlyMutez w (with_paid w hash bytes c)
+    by None there = mutez_nothing w o
+    by (Some c) there = contract_set w hash c.balance (c.paid + bytes) c o there
+
 -- ---- all mutez
+
+pub paid_supply : (w : World) (hash : List ℕ) (bytes : ℕ) → IsOrderly w → supply (paid_for w hash bytes) ≡ supply w
+paid_supply w hash bytes o = by (contract_at w hash) refl
+  where
+    by : (c : Option Contract) → contract_at w hash ≡ c → supply (with_paid w hash bytes c) ≡ supply w
+    by None there = refl
+    by (Some c) there =
+        let set = contract_supply w hash (record c { paid = c.paid + bytes }) c (in_order w o) there in omega (arith, set)
 
 -- somebody who is there stays there
 owner_kept : (w x : World) (place : List ℕ) (b : Bool) → Extends (contract_at w) (contract_at x) → IsOwner w place b →

@@ -174,6 +174,21 @@ orderly_fees w fees o = record {
   contracts = o.contracts;
 }
 
+pub orderly_burn : (w : World) (burn : ℕ) → IsOrderly w → IsOrderly (record w { storage_burn = burn })
+orderly_burn w burn o = record {
+  form = record {
+    chain = o.form.chain;
+    level = o.form.level;
+    moment = o.form.moment;
+    accounts = o.form.accounts;
+    accounts_in_order = o.form.accounts_in_order;
+    contracts = o.form.contracts;
+    contracts_in_order = o.form.contracts_in_order;
+    log = o.form.log;
+  };
+  contracts = o.contracts;
+}
+
 -- ---- tickets
 
 by_accounts : (id : Identity) (es : List (List ℕ × Account)) →

@@ -142,6 +142,10 @@ numbers_suit w i.abs A V c e h = tt
 numbers_suit w i.neg A V c e h = tt
 numbers_suit w i.int A V c e h = tt
 numbers_suit w i.isnat A V c e h = tt
+numbers_suit w i.nat_to_bytes A V c e h = tt
+numbers_suit w i.int_to_bytes A V c e h = tt
+numbers_suit w i.bytes_to_nat A V c e h = tt
+numbers_suit w i.bytes_to_int A V c e h = tt
 
 -- ---- tickets
 

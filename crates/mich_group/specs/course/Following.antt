@@ -1,5 +1,5 @@
 -- The course of the rules that one of the code follows, and how its steps end.
-use Rattle.std.specs.Prelude.{◌≡◌, ◌<◌, ◌^◌, ℕ, List, [], ◌∷◌, map, Option, Some, None, Result, Ok, Err}
+use Rattle.std.specs.Prelude.{◌≡◌, ◌<◌, ◌^◌, ℕ, true, List, [], ◌∷◌, map, Option, Some, None, Result, Ok, Err}
 use Rattle.laws_code.specs.evaluation.Laws.{IsCharged}
 use Rattle.laws_world.specs.runs.Worlds.{IsWhole}
 use Rattle.rules_files.specs.course.Course.{Course as PlainCourse, Step, goes_on, stops, BadOrder, BadCosts, RepeatedAccount, SupplyLimit}
@@ -20,7 +20,8 @@ pub record Follows (c : Course) (p : PlainCourse) : Type 0 where
   pub stands : StandsFor c.world p.world
   pub prices : listed c.costs ≡ p.prices
   pub groups : c.groups ≡ p.groups
-  pub only_chain : c.only_chain ≡ p.only_chain
+  pub at_head : c.at_head ≡ p.at_head
+  pub nobody : c.at_head ≡ true → (c.world.funds.present.accounts ≡ []) × (c.world.funds.present.contracts ≡ [])
   pub hosting : IsHosting c.world
   pub whole : IsWhole p.world
   pub charged : IsCharged p.prices
@@ -40,6 +41,12 @@ Goes (stops RepeatedAccount) c (Err error.RepeatedAccount) = Unit {0}
 Goes (stops SupplyLimit) c (Err error.SupplyLimit) = Unit {0}
 Goes step c (Err error.Memory) = Unit {0}
 Goes step c r = ⊥
+
+-- a statement that is refused leaves the course as it was; after want of memory nothing is said
+abbrev pub StaysRefused : Course → Course → Result (Option GroupReceipt) CourseError → Type 0
+StaysRefused old new (Ok r) = Unit {0}
+StaysRefused old new (Err error.Memory) = Unit {0}
+StaysRefused old new (Err why) = new ≡ old
 
 -- the first statement begins a course, or is refused
 abbrev pub Begins : Step → Result Course CourseError → Type 0

@@ -22,7 +22,7 @@ pub fn begin(alloc: Global, statement: &Statement) -> Result<Course, CourseError
             world: World::new(alloc, *id, *level, *moment),
             costs: Costs::standard(),
             groups: 0,
-            only_chain: true,
+            at_head: true,
         }),
         _ => Err(CourseError::BadOrder),
     }

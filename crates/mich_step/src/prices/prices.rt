@@ -78,10 +78,12 @@ fn number_price(row: &NumberRow) -> Kind
         NumberRow::Ediv => Kind::Ediv,
         NumberRow::Abs => Kind::Abs,
         NumberRow::Neg => Kind::Neg,
-        NumberRow::Int => Kind::Int,
+        NumberRow::Int | NumberRow::BytesToInt => Kind::Int,
         NumberRow::Isnat => Kind::Isnat,
         NumberRow::Lsl => Kind::Lsl,
         NumberRow::Lsr => Kind::Lsr,
+        NumberRow::NatToBytes | NumberRow::IntToBytes => Kind::Bytes,
+        NumberRow::BytesToNat => Kind::Nat,
     }
 }
 

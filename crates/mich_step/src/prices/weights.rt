@@ -3,8 +3,8 @@ ghost use Rattle.std.specs.Prelude.{◌≡◌, true, false, take, slice_get, opt
 ghost use Rattle.std.specs.List.{sum_by};
 ghost use Rattle.rules_code.specs.instructions.Straight as i;
 ghost use Rattle.rules_data.specs.values.Weight.{weight as whole};
-ghost use Rattle.rules_code.specs.steps.Costs.{weight_of, weight_found, stack_weight, collection_weight};
-ghost use Rattle.mich_overload.specs.View.{straight, stack_row, collection_row};
+ghost use Rattle.rules_code.specs.steps.Costs.{weight_of, weight_found, stack_weight, collection_weight, number_weight};
+ghost use Rattle.mich_overload.specs.View.{straight, stack_row, collection_row, number_row};
 ghost use Rattle.mich_overload.specs.Steps.{in_step, is_on_big_map};
 ghost use Rattle.mich_term.specs.Weights.{capped};
 ghost use Rattle.mich_stack.specs.Views.{Sight, seen, values};
@@ -13,8 +13,8 @@ ghost use Rattle.mich_step.specs.prices.Operands.{HasKey, HasOperands};
 use crate::collections::value_in;
 use crate::prices::texts::text_weight;
 use mich_base::{Memory, Rows};
-use mich_overload::{CollectionRow, Simple, StackRow};
-use mich_stack::{read_at, two_on_top};
+use mich_overload::{CollectionRow, NumberRow, Simple, StackRow};
+use mich_stack::{read_at, split_top, two_on_top};
 use mich_term::{Value, weight};
 use std::alloc::Global;
 
@@ -83,6 +83,19 @@ fn collection_weight(alloc: Global, row: &CollectionRow, stack: &Rows<Value>) ->
     }
 }
 
+// The bytes on top that are read as a number.
+fn number_weight(row: &NumberRow, stack: &Rows<Value>) -> u64
+    ensures { (big : Sight) → result ≡ capped (number_weight (number_row row.now) (values big stack.now)) }
+{
+    match row {
+        NumberRow::BytesToNat | NumberRow::BytesToInt => match split_top(stack.as_slice()) {
+            Some((Value::Bytes(bytes), _)) => bytes.as_slice().len() as u64,
+            _ => 0,
+        },
+        _ => 0,
+    }
+}
+
 /// What an instruction weighs on a stack that has the operands it is weighed by, up to 2^64-1. Memory where there is no room for a
 /// key. Not for instructions that pack, hash, look up or issue, or work on big maps (this host's cost table).
 pub fn weigh(alloc: Global, instr: &Simple, stack: &Rows<Value>) -> Result<u64, Memory>
@@ -93,6 +106,7 @@ pub fn weigh(alloc: Global, instr: &Simple, stack: &Rows<Value>) -> Result<u64, 
     match instr {
         Simple::Stack(row) => Ok(order_weight(row, stack)),
         Simple::Collections(row) => Ok(collection_weight(alloc, row, stack)?),
+        Simple::Numbers(row) => Ok(number_weight(row, stack)),
         Simple::Texts(row) => Ok(text_weight(row, stack)),
         Simple::Hashes(_) => unreachable!(),
         _ => Ok(0),

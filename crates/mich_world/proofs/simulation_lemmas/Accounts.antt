@@ -118,7 +118,9 @@ account_those h bs b c w who a more k t i there balance amounts m = record {
       ∙ account_same h bs b w who a.balance t i there balance;
   contracts = t.contracts;
   fees = t.fees;
+  storage_burn = t.storage_burn;
   granted = t.granted;
+  rate = t.rate;
   held = λ id o p. m.held id o ∙ by id o p (bytes_eq o (implicit_place who)) refl ∙ sym (account_holds w who a id o p);
   minted = λ id. ap (λ (x : Totals). x.minted) (m.totals id) ∙ t.minted id;
   burnt = λ id. ap (λ (x : Totals). x.burnt) (m.totals id) ∙ t.burnt id;
@@ -180,16 +182,18 @@ holder_there h bs b w who t those positive enough =
 -- ---- an account with another balance
 
 pub balance_those : (h k : Holders) (bs : Bases) (b : Books) (w : PlainWorld) (who : List ℕ) (n : ℕ) → is_key_hash who ≡ true → AreThose h bs b w
-    → k.accounts ≡ insert_entry by_bytes h.accounts who n → k.contracts ≡ h.contracts → k.fees ≡ h.fees → k.granted ≡ h.granted
+    → k.accounts ≡ insert_entry by_bytes h.accounts who n → k.contracts ≡ h.contracts → k.fees ≡ h.fees → k.storage_burn ≡ h.storage_burn → k.granted ≡ h.granted → k.rate ≡ h.rate
     → AreThose k bs b (with_account w who (record (account_or_none w who) { balance = n }))
-balance_those h k bs b w who n key t ea ec ef eg =
+balance_those h k bs b w who n key t ea ec ef eb eg er =
     let a : Account = record (account_or_none w who) { balance = n } in
     record {
       accounts = seen_insert (λ (x : Account). x.balance) by_bytes w.accounts who a
           ∙ ap (λ (es : List (List ℕ × ℕ)). insert_entry by_bytes es who n) t.accounts ∙ sym ea;
       contracts = t.contracts ∙ ap (map (contract_in bs)) (sym ec);
       fees = t.fees ∙ sym ef;
+      storage_burn = t.storage_burn ∙ sym eb;
       granted = t.granted ∙ sym eg;
+      rate = t.rate ∙ sym er;
       held = λ id o p. t.held id o p ∙ by id o p (bytes_eq o (implicit_place who)) refl ∙ sym (account_holds w who a id o p);
       minted = t.minted;
       burnt = t.burnt;

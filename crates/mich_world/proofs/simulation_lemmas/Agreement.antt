@@ -1,8 +1,12 @@
 -- What a world stands for after each call.
-use Rattle.std.proofs.Common.{◌≡◌, ◌||◌, ◌≤◌, ◌<◌, ◌+◌, ◌-◌, nat_le, ℕ, ℤ, pos, ◌+ℤ◌, ◌≤ℤ◌, List, [], ◌∷◌, ◌++◌, Bool, true, false, option_map, is_some, None, Some, refl, sym, ap, ◌∙◌, subst, arith}
+use Rattle.std.proofs.Common.{◌≡◌, ◌||◌, ◌≤◌, ◌<◌, ◌+◌, ◌-◌, nat_le, ℕ, ℤ, pos, ◌+ℤ◌, ◌≤ℤ◌, List, [], ◌∷◌, ◌++◌, length, map, Bool, true, false, option_map, is_some, None, Some, refl, sym, ap, ◌∙◌, subst, arith}
 use Rattle.std.specs.Prelude.{if◌then◌else◌, Result, Ok, Err}
 use Rattle.std.specs.declared.option.Option.{Option}
 use Rattle.std.specs.List.Sorted.{IsStrictlySortedBy}
+use Rattle.std.specs.BTreeMap.{is_at}
+use Rattle.std.specs.Str.{bytes_eq}
+use Rattle.std.proofs.lemmas.Cmp.{nat_list_cmp_total}
+use Rattle.std.proofs.lemmas.Slice.Eq.{bytes_eq-Decides}
 use Rattle.std.specs.Map.{keys_of}
 use Rattle.std.specs.List.{All, AllByRecursion}
 use Rattle.std.proofs.lemmas.Bool.{leb-true, le-leb}
@@ -11,11 +15,12 @@ use Rattle.rules_text.specs.nodes.Limits.{most_mutez}
 use Rattle.rules_code.specs.evaluation.Contracts.{hash_in}
 use Rattle.rules_code.specs.evaluation.Surroundings.{Contract as PlainContract}
 use Rattle.rules_data.specs.forms.Spelling.{implicit_place, contract_place, is_implicit, is_key_hash, is_place}
-use Rattle.rules_code.specs.steps.Changes.{Change, minted_in, burnt_in, identity_of}
+use Rattle.rules_code.specs.steps.Changes.{Change, minted_in, burnt_in, identity_of, amount_in}
 use Rattle.rules_data.specs.values.Tickets.{Identity, tickets}
 use Rattle.rules_data.specs.values.Val.{Val}
 use Rattle.rules_world.specs.world.Balances as rules
 use Rattle.rules_world.specs.world.Forms.{IsWorld, IsChange}
+use Rattle.rules_world.specs.world.Growth.{burnt_from, paid_for, with_paid}
 use Rattle.rules_world.specs.world.Holdings.{amount_held, held_by_account, held_by_contract, credited, debited}
 use Rattle.rules_world.specs.world.World.{World as PlainWorld, new_world, Account, account_at as plain_account_at, account_or_none, contract_at as plain_contract_at, with_contract, key_hash_in}
 use Rattle.laws_world.proofs.accounts.ForCallers.{minted_append, burnt_append}
@@ -28,20 +33,22 @@ use Rattle.mich_forms.specs.declared.places.Place.TheVariants as place
 use Rattle.mich_instr.specs.View.{script_node}
 use Rattle.mich_term.specs.ValueView.{val}
 use Rattle.mich_tickets.specs.Books.{Books, State}
+use Rattle.mich_tickets.specs.Sums.{held_of}
+use Rattle.mich_base.specs.undo.Undone.{changed_at}
 use Rattle.mich_base.specs.undo.History.{History}
 use Rattle.mich_world.specs.Answers.{IsGrant}
-use Rattle.mich_world.specs.Holders.{Holders, by_bytes, account_at, contract_at, balance_or_none, with_less, with_account, with_contract as with_code_contract, endowed, committed}
+use Rattle.mich_world.specs.Holders.{Holders, by_bytes, account_at, contract_at, balance_or_none, with_less, with_account, with_change, with_contract as with_code_contract, with_rate, burnt, endowed, committed, repaid, storage_paid}
 use Rattle.mich_world.specs.Marks.{mark_of}
-use Rattle.mich_world.specs.Standing.{plain, AreThose, StandsFor}
+use Rattle.mich_world.specs.Standing.{plain, contract_in, AreThose, StandsFor}
 use Rattle.mich_world.specs.Storages.{IsStored, stored_tickets}
 use Rattle.mich_world.specs.World.{World, with_funds, with_ledger}
 use Rattle.mich_world.specs.declared.contract.Contract.{Contract}
 use Rattle.mich_world.specs.declared.errors.GrantError.{GrantError}
 use Rattle.mich_world.specs.declared.errors.GrantError.TheVariants as grant
-use Rattle.mich_world.proofs.ForCallers.{less_is, undone_is, contracts_there}
-use Rattle.mich_world.specs.simulation.Laws.{NewWorldsAgree, ClocksAgree, ContractsAgree, AccountsAgree, ReceiversAgree, Grants, GrantsAgree, InstallsAgree, CommitsAgree, RunsAgree, RunsKeepStored, RunEndsAgree, CreditsAgree, DebitsAgree, SameWorldsAgree, MarksAgree, KeepingAgrees}
+use Rattle.mich_world.proofs.ForCallers.{less_is, undone_is, contracts_there, seen_changed, written_over}
+use Rattle.mich_world.specs.simulation.Laws.{NewWorldsAgree, ClocksAgree, RatesAgree, PaymentsAgree, ContractsAgree, AccountsAgree, ReceiversAgree, Grants, GrantsAgree, InstallsAgree, CommitsAgree, RunsAgree, RunsKeepStored, RunEndsAgree, CreditsAgree, DebitsAgree, SameWorldsAgree, MarksAgree, KeepingAgrees}
 use Rattle.mich_world.proofs.simulation_lemmas.Accounts.{keys_seen, account_is, account_held, credit_those, debit_those, balance_those, holder_there}
-use Rattle.mich_world.proofs.simulation_lemmas.Contracts.{contract_is, later, standing, balance_same, nobody, length_is, amounts, before_held, contract_those, made_held, replaced_held, made_contracts, replaced_contracts}
+use Rattle.mich_world.proofs.simulation_lemmas.Contracts.{contract_is, later, standing, balance_same, nobody, length_is, amounts, before_held, storage_held, contract_those, made_held, replaced_held, made_contracts, replaced_contracts}
 use Rattle.laws_data.proofs.forms_lemmas.ForCallers.{contract_is as contract_place_is, implicit_is}
 use Rattle.mich_world.proofs.simulation_lemmas.Owners.{place_length, implicit_of, hash_of}
 
@@ -56,7 +63,9 @@ new_worlds_agree chain level moment = record {
     accounts = refl;
     contracts = refl;
     fees = refl;
+    storage_burn = refl;
     granted = refl;
+    rate = refl;
     held = λ id o p. by id o (is_implicit o);
     minted = λ id. refl;
     burnt = λ id. refl;
@@ -78,7 +87,9 @@ clocks_agree v w level moment s = record {
     accounts = s.those.accounts;
     contracts = s.those.contracts;
     fees = s.those.fees;
+    storage_burn = s.those.storage_burn;
     granted = s.those.granted;
+    rate = s.those.rate;
     held = s.those.held;
     minted = s.those.minted;
     burnt = s.those.burnt;
@@ -110,12 +121,14 @@ stands u v w x s c t = record {
 endowed_those : (h : Holders) (bs : Bases) (b : Books) (w : PlainWorld) (who : List ℕ) (n : ℕ) → is_key_hash who ≡ true → AreThose h bs b w
     → AreThose (endowed h who n) bs b (rules.endowed w who n)
 endowed_those h bs b w who n key t =
-    let a = balance_those h (with_account h who n) bs b w who n key t refl refl refl refl in
+    let a = balance_those h (with_account h who n) bs b w who n key t refl refl refl refl refl refl in
     record {
       accounts = a.accounts;
       contracts = a.contracts;
       fees = a.fees;
+      storage_burn = a.storage_burn;
       granted = ap (λ (m : ℕ). m + n) t.granted;
+      rate = t.rate;
       held = a.held;
       minted = a.minted;
       burnt = a.burnt;
@@ -221,8 +234,8 @@ installs_agree u v w from hash mutez script given s i stored ticketless is there
     let less = less_is h bs b w t (sorted_of h bs b w t i) from mutez is there in
     let x = rules.with_less w (place_bytes from) mutez in
     let storage = val_in bs given in
-    let d : PlainContract = record { balance = mutez; script = script_node script; storage = storage } in
-    let c : Contract = record { balance = mutez; script = script; storage = installs.storage } in
+    let d : PlainContract = record { balance = mutez; paid = 0; script = script_node script; storage = storage } in
+    let c : Contract = record { balance = mutez; paid = 0; script = script; storage = installs.storage } in
     let none : plain_contract_at x hash ≡ None
     = nobody (with_less h from mutez) bs b x hash less (contracts_there h from (balance_or_none h from - mutez) hash ∙ absent) in
     let same = balance_same bs ns h from (balance_or_none h from - mutez) (later bs ns h.contracts installs.lays.others stored) in
@@ -238,9 +251,9 @@ installs_agree u v w from hash mutez script given s i stored ticketless is there
     })
     (subst (λ (k : Holders). AreThose k ns v.ledger.books.present (with_contract x hash d)) (sym installs.funds)
     (contract_those (with_less h from mutez) (with_code_contract (with_less h from mutez) hash c) bs ns b v.ledger.books.present x hash d twenty less
-    refl refl refl
+    refl refl refl refl refl
     (made_contracts bs ns (with_less h from mutez) x.contracts hash c d less.contracts same
-    (ap (λ (y : Val). record { balance = mutez; script = script_node script; storage = y }) installs.settles.same))
+    (ap (λ (y : Val). record { balance = mutez; paid = 0; script = script_node script; storage = y }) installs.settles.same))
     (λ id o p. made_held b v.ledger.books.present x hash (tickets (val given)) storage twenty none
     (λ j. less.held j (contract_place hash) (contract_place_is hash twenty)) (λ j. amounts bs given j ticketless formed) installs.enters id o)
     installs.enters.totals))
@@ -267,7 +280,7 @@ commits_agree u v w hash given before s i stored ticketless there formed commits
       code_moment = commits.same.moment;
     })
     (subst (λ (k : Holders). AreThose k ns c (with_contract w hash d)) (sym commits.funds)
-    (contract_those h (committed h hash commits.storage) bs ns b c w hash d twenty t refl refl refl
+    (contract_those h (committed h hash commits.storage) bs ns b c w hash d twenty t refl refl refl refl refl
     (replaced_contracts bs ns h b w hash before commits.storage storage t i there same commits.settles.same)
     (λ id o p. replaced_held b c w hash (stored_tickets (contract_at h hash)) (tickets (val given)) before storage twenty there
     (λ j. t.held j (contract_place hash) (contract_place_is hash twenty)) (λ j. before_held h bs b w hash before j t stored ticketless there)
@@ -288,7 +301,9 @@ runs_agree u v w changes s stored r =
             accounts = t.accounts;
             contracts = t.contracts ∙ sym (later u.store.bases.present v.store.bases.present u.funds.present.contracts r.bases stored);
             fees = t.fees;
+            storage_burn = t.storage_burn;
             granted = t.granted;
+            rate = t.rate;
             held = λ id o p. r.adds.held id o ∙ t.held id o p;
             minted = λ id. r.adds.minted id ∙ ap (λ (z : ℤ). z +ℤ minted_in id changes) (t.minted id) ∙ sym (minted_append id w.log changes);
             burnt = λ id. r.adds.burnt id ∙ ap (λ (z : ℤ). z +ℤ burnt_in id changes) (t.burnt id) ∙ sym (burnt_append id w.log changes);
@@ -379,9 +394,114 @@ keeping_agrees u v w s stored c l m f b stand =
             accounts = t.accounts;
             contracts = t.contracts ∙ sym (standing u.store.bases.present v.store.bases.present u.funds.present.contracts stand stored);
             fees = t.fees;
+            storage_burn = t.storage_burn;
             granted = t.granted;
+            rate = t.rate;
             held = t.held;
             minted = t.minted;
             burnt = t.burnt;
           }));
     }
+
+-- ---- the rate, and storage that is paid for
+
+-- a world whose funds were written stands for another
+written_stands : (u v : World) (w x : PlainWorld) (h : Holders) → StandsFor u w → x.chain ≡ w.chain → x.level ≡ w.level → x.moment ≡ w.moment
+    → v ≡ with_funds u v.funds → v.funds.present ≡ h → AreThose h u.store.bases.present u.ledger.books.present x → StandsFor v x
+written_stands u v w x h s c l m e p t =
+    stands u v w x s
+    (record {
+      chain = c;
+      level = l;
+      moment = m;
+      code_chain = ap (λ (y : World). y.chain) e;
+      code_level = ap (λ (y : World). y.level) e;
+      code_moment = ap (λ (y : World). y.moment) e;
+    })
+    (subst (λ (k : Holders). AreThose k v.store.bases.present v.ledger.books.present x) (sym p)
+    (subst (λ (y : World). AreThose h y.store.bases.present y.ledger.books.present x) (sym e) t))
+
+pub rates_agree : RatesAgree
+rates_agree u v w rate s e p =
+    let t = s.those in
+    written_stands u v w (record w { rate = rate }) (with_rate u.funds.present rate) s refl refl refl e p
+    (record {
+      accounts = t.accounts;
+      contracts = t.contracts;
+      fees = t.fees;
+      storage_burn = t.storage_burn;
+      granted = t.granted;
+      rate = refl;
+      held = t.held;
+      minted = t.minted;
+      burnt = t.burnt;
+    })
+
+abbrev resized : ℕ → PlainContract → PlainContract
+resized n c = record c { paid = n }
+
+-- a contract that is there has paid for so many bytes
+module _ (k : Holders) (bs : Bases) (b : Books) (x : PlainWorld) (hash : List ℕ) (c : Contract) (size : ℕ) (t : AreThose k bs b x)
+    (sorted : IsStrictlySortedBy by_bytes (keys_of k.contracts)) (twenty : length hash ≡ 20) (there : contract_at k hash ≡ Some c) where
+  there_plain : plain_contract_at x hash ≡ Some (plain bs c)
+  there_plain = contract_is k bs b x hash t ∙ ap (option_map (plain bs)) there
+
+  resized_contracts : (with_contract x hash (resized size (plain bs c))).contracts ≡ map (contract_in bs) (with_change (repaid size) k hash).contracts
+  resized_contracts =
+      let test = is_at (by_bytes hash) in
+      let order : IsStrictlySortedBy by_bytes (keys_of x.contracts)
+      = subst (λ (ks : List (List ℕ)). IsStrictlySortedBy by_bytes ks) (sym (ap keys_of t.contracts ∙ keys_seen (plain bs) k.contracts)) sorted in
+      written_over nat_list_cmp_total hash (resized size) x.contracts (plain bs c) order there_plain
+      ∙ ap (λ (es : List (List ℕ × PlainContract)). changed_at test es (resized size)) t.contracts
+      ∙ sym (seen_changed (plain bs) test (repaid size) (resized size) (λ y. refl) k.contracts)
+
+  resized_held : (id : Identity) (o : List ℕ) (s : Bool) → bytes_eq o (contract_place hash) ≡ s
+      → held_of b id o ≡ (if s then amount_in id (val_in bs c.storage) else held_of b id o)
+  resized_held id o true e =
+      ap (λ (q : List ℕ). held_of b id q) ((bytes_eq-Decides o (contract_place hash)).0 e) ∙ t.held id (contract_place hash) (contract_place_is hash twenty)
+      ∙ storage_held x hash (plain bs c) id twenty there_plain
+  resized_held id o false e = refl
+
+  paid_those : AreThose (with_change (repaid size) k hash) bs b (with_contract x hash (resized size (plain bs c)))
+  paid_those =
+      contract_those k (with_change (repaid size) k hash) bs bs b b x hash (resized size (plain bs c)) twenty t refl refl refl refl refl
+      resized_contracts (λ id o p. resized_held id o (bytes_eq o (contract_place hash)) refl) (λ id. refl)
+
+all_of_it : (n m : ℕ) → n ≤ m → n + (m - n) ≡ m
+all_of_it n m h = omega (arith, h)
+
+clock_paid : (x : PlainWorld) (hash : List ℕ) (n : ℕ) (o : Option PlainContract) →
+    ((with_paid x hash n o).chain ≡ x.chain) × ((with_paid x hash n o).level ≡ x.level) × ((with_paid x hash n o).moment ≡ x.moment)
+clock_paid x hash n None = (refl, refl, refl)
+clock_paid x hash n (Some c) = (refl, refl, refl)
+
+pub payments_agree : PaymentsAgree
+payments_agree u v w hash who size burn c s i key there le e p =
+    let h = u.funds.present in
+    let bs = u.store.bases.present in
+    let b = u.ledger.books.present in
+    let t = s.those in
+    let sorted = sorted_of h bs b w t i in
+    let place_is : is_place (implicit_place who) ≡ true = implicit_is who key in
+    let less = less_is h bs b w t sorted (place.Implicit who) burn place_is refl in
+    let x = burnt_from w (implicit_place who) burn in
+    let burnt_those : AreThose (burnt h who burn) bs b x = record {
+      accounts = less.accounts;
+      contracts = less.contracts;
+      fees = less.fees;
+      storage_burn = ap (λ (n : ℕ). n + burn) t.storage_burn;
+      granted = less.granted;
+      rate = less.rate;
+      held = less.held;
+      minted = less.minted;
+      burnt = less.burnt;
+    } in
+    let twenty = length_is w hash (plain bs c) i (contract_is h bs b w hash t ∙ ap (option_map (plain bs)) there) in
+    let found : plain_contract_at x hash ≡ Some (plain bs c) = contract_is (burnt h who burn) bs b x hash burnt_those ∙ ap (option_map (plain bs)) there in
+    let those = paid_those (burnt h who burn) bs b x hash c size burnt_those sorted twenty there in
+    let whole : paid_for x hash (size - c.paid) ≡ with_contract x hash (resized size (plain bs c))
+    = ap (with_paid x hash (size - c.paid)) found ∙ ap (λ (n : ℕ). with_contract x hash (resized n (plain bs c))) (all_of_it c.paid size le) in
+    let one = clock_balance w (implicit_place who) (rules.balance_or_none w (implicit_place who) - burn) in
+    let two = clock_paid x hash (size - c.paid) (plain_contract_at x hash) in
+    written_stands u v w (paid_for x hash (size - c.paid)) (storage_paid h hash size who (Some burn)) s (two.0 ∙ one.0) (two.1 ∙ one.1) (two.2 ∙ one.2) e p
+    (subst (λ (y : PlainWorld). AreThose (storage_paid h hash size who (Some burn)) bs b y) (sym whole) those)

@@ -49,7 +49,7 @@ abbrev pub Same : Bases → Bases → List (List ℕ × Contract) → Type 0
 Same bs ns cs = map (contract_in ns) cs ≡ map (contract_in bs) cs
 
 one_same : (bs ns : Bases) (c : List ℕ × Contract) → val_in ns c.1.storage ≡ val_in bs c.1.storage → contract_in ns c ≡ contract_in bs c
-one_same bs ns c e = ap (λ (v : Val). (c.0, record { balance = c.1.balance; script = Rattle.mich_instr.specs.View.script_node c.1.script; storage = v })) e
+one_same bs ns c e = ap (λ (v : Val). (c.0, record { balance = c.1.balance; paid = c.1.paid; script = Rattle.mich_instr.specs.View.script_node c.1.script; storage = v })) e
 
 pub later : (bs ns : Bases) (cs : List (List ℕ × Contract)) → Extends bs ns → AllByRecursion (λ c. IsStored bs c.1) cs → Same bs ns cs
 later bs ns [] x h = refl
@@ -66,7 +66,7 @@ standing bs ns (c ∷ cs) s h =
     λ i. first i ∷ rest i
 
 abbrev repriced : ℕ → PlainContract → PlainContract
-repriced n c = record { balance = n; script = c.script; storage = c.storage }
+repriced n c = record c { balance = n }
 
 -- with another balance
 pub balance_same : (bs ns : Bases) (h : Holders) (p : Place) (n : ℕ) → Same bs ns h.contracts → Same bs ns (with_balance h p n).contracts
@@ -150,16 +150,18 @@ before_held h bs b w hash c id t a n there = ap (amount_among id) (stored_are h 
 -- ---- a contract is set
 
 pub contract_those : (h k : Holders) (bs ns : Bases) (b c : Books) (w : PlainWorld) (hash : List ℕ) (d : PlainContract) → length hash ≡ 20 → AreThose h bs b w
-    → k.accounts ≡ h.accounts → k.fees ≡ h.fees → k.granted ≡ h.granted
+    → k.accounts ≡ h.accounts → k.fees ≡ h.fees → k.storage_burn ≡ h.storage_burn → k.granted ≡ h.granted → k.rate ≡ h.rate
     → (with_plain_contract w hash d).contracts ≡ map (contract_in ns) k.contracts
     → ((id : Identity) (o : List ℕ) → is_place o ≡ true → held_of c id o ≡ (if bytes_eq o (contract_place hash) then amount_in id d.storage else held_of b id o))
     → ((id : Identity) → totals_of c id ≡ totals_of b id)
     → AreThose k ns c (with_plain_contract w hash d)
-contract_those h k bs ns b c w hash d twenty t ea ef eg ec eh et = record {
+contract_those h k bs ns b c w hash d twenty t ea ef eb eg er ec eh et = record {
   accounts = t.accounts ∙ sym ea;
   contracts = ec;
   fees = t.fees ∙ sym ef;
+  storage_burn = t.storage_burn ∙ sym eb;
   granted = t.granted ∙ sym eg;
+  rate = t.rate ∙ sym er;
   held = λ id o p. eh id o p
       ∙ ap (λ (z : ℤ). if bytes_eq o (contract_place hash) then amount_in id d.storage else z) (t.held id o p)
       ∙ sym (contract_holds w hash d twenty id o p);
@@ -227,7 +229,7 @@ made_contracts bs ns h es hash c d e s p =
     ∙ sym (seen_insert (plain ns) by_bytes h.contracts hash c)
 
 abbrev stored_anew : Val → PlainContract → PlainContract
-stored_anew x c = record { balance = c.balance; script = c.script; storage = x }
+stored_anew x c = record c { storage = x }
 
 pub replaced_contracts : (bs ns : Bases) (h : Holders) (b : Books) (w : PlainWorld) (hash : List ℕ) (d : PlainContract) (v : Value) (x : Val)
     → AreThose h bs b w → IsWorld w → plain_contract_at w hash ≡ Some d → Same bs ns h.contracts → val_in ns v ≡ x
@@ -237,4 +239,4 @@ replaced_contracts bs ns h b w hash d v x t i there s e =
     written_over nat_list_cmp_total hash (stored_anew x) w.contracts d i.contracts_in_order there
     ∙ ap (λ (es : List (List ℕ × PlainContract)). changed_at test es (stored_anew x)) (t.contracts ∙ sym s)
     ∙ sym (seen_changed (plain ns) test (restored v) (stored_anew x)
-    (λ c. ap (λ (y : Val). record { balance = c.balance; script = Rattle.mich_instr.specs.View.script_node c.script; storage = y }) e) h.contracts)
+    (λ c. ap (λ (y : Val). record { balance = c.balance; paid = c.paid; script = Rattle.mich_instr.specs.View.script_node c.script; storage = y }) e) h.contracts)

@@ -1,5 +1,6 @@
 -- What is so of each contract, whatever its balance, stays so.
-use Rattle.std.proofs.Common.{◌≡◌, ◌+◌, ◌-◌, ℕ, List, [], ◌∷◌, Bool, true, false, cond, sym, subst}
+use Rattle.std.proofs.Common.{◌≡◌, ◌+◌, ◌-◌, ℕ, List, [], ◌∷◌, Bool, true, false, cond, Some, None, sym, subst}
+use Rattle.std.specs.declared.option.Option.{Option}
 use Rattle.std.specs.declared.cmp.Ordering.TheVariants.{Less, Equal, Greater}
 use Rattle.std.specs.Ordering.{match_ordering}
 use Rattle.std.specs.BTreeMap.{is_at, insert_entry}
@@ -8,11 +9,11 @@ use Rattle.mich_forms.specs.declared.places.Place.{Place}
 use Rattle.mich_forms.specs.declared.places.Place.TheVariants as place
 use Rattle.mich_term.specs.declared.value.Value.{Value}
 use Rattle.mich_base.specs.undo.Undone.{changed_at}
-use Rattle.mich_world.specs.Holders.{Holders, by_bytes, rebalanced, restored, balance_or_none, with_balance, with_less, moved, fee_taken, endowed}
+use Rattle.mich_world.specs.Holders.{Holders, by_bytes, rebalanced, repaid, restored, storage_paid, balance_or_none, with_balance, with_less, moved, fee_taken, endowed}
 use Rattle.mich_world.specs.Storages.{IsStored}
 use Rattle.mich_world.specs.World.{World, with_funds}
 use Rattle.mich_world.specs.declared.contract.Contract.{Contract}
-use Rattle.mich_world.specs.simulation.Laws.{MovesKeepStored, FeesKeepStored, GrantsKeepStored}
+use Rattle.mich_world.specs.simulation.Laws.{MovesKeepStored, FeesKeepStored, GrantsKeepStored, PaymentsKeepStored}
 
 module _ (P : Contract → Type 0) (keep : (c : Contract) (n : ℕ) → P c → P (rebalanced n c)) where
   abbrev pub All : Holders → Type 0
@@ -52,6 +53,20 @@ module _ (P : Contract → Type 0) (keep : (c : Contract) (v : Value) → P c �
       elim (t c.0) as (λ b. AllByRecursion (λ (e : List ℕ × Contract). P e.1) (cond b ((c.0, restored v c.1) ∷ cs) (c ∷ changed_at t cs (restored v))))
       [ true ↦ (keep c.1 v h.0, h.1) | false ↦ (h.0, all_restored t v cs h.1) ]
 
+-- what is so of each contract, whatever it has paid for, stays so
+module _ (P : Contract → Type 0) (keep : (c : Contract) (n : ℕ) → P c → P (repaid n c)) where
+  all_repaid : (t : List ℕ → Bool) (n : ℕ) (cs : List (List ℕ × Contract)) → AllByRecursion (λ (e : List ℕ × Contract). P e.1) cs
+      → AllByRecursion (λ (e : List ℕ × Contract). P e.1) (changed_at t cs (repaid n))
+  all_repaid t n [] h = tt
+  all_repaid t n (c ∷ cs) h =
+      elim (t c.0) as (λ b. AllByRecursion (λ (e : List ℕ × Contract). P e.1) (cond b ((c.0, repaid n c.1) ∷ cs) (c ∷ changed_at t cs (repaid n))))
+      [ true ↦ (keep c.1 n h.0, h.1) | false ↦ (h.0, all_repaid t n cs h.1) ]
+
+  pub all_paid : (h : Holders) (hash who : List ℕ) (size : ℕ) (burn : Option ℕ) → AllByRecursion (λ (e : List ℕ × Contract). P e.1) h.contracts
+      → AllByRecursion (λ (e : List ℕ × Contract). P e.1) (storage_paid h hash size who burn).contracts
+  all_paid h hash who size (Some n) a = all_repaid (is_at (by_bytes hash)) size h.contracts a
+  all_paid h hash who size None a = a
+
 -- ---- settled storages
 
 stored_for : (u v : World) (h : Holders) → v ≡ with_funds u v.funds → v.funds.present ≡ h
@@ -71,3 +86,8 @@ fees_keep_stored u v who n a e p = stored_for u v (fee_taken u.funds.present who
 
 pub grants_keep_stored : GrantsKeepStored
 grants_keep_stored u v who n a e p = stored_for u v (endowed u.funds.present who n) e p a
+
+pub payments_keep_stored : PaymentsKeepStored
+payments_keep_stored u v hash who size burn a e p =
+    stored_for u v (storage_paid u.funds.present hash size who burn) e p
+    (all_paid (IsStored u.store.bases.present) (λ c n s. record { settled = s.settled; based = s.based }) u.funds.present hash who size burn a)

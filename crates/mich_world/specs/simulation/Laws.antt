@@ -1,5 +1,5 @@
 -- The world of the definitions that a world stands for after each of its calls.
-use Rattle.std.specs.Prelude.{◌≡◌, ◌||◌, option_map, ℕ, ℤ, neg_ℤ, ◌≤ℤ◌, true, false, is_some, List, [], ◌++◌, length, Some, Result, Ok, Err}
+use Rattle.std.specs.Prelude.{◌≡◌, ◌||◌, ◌≤◌, ◌-◌, option_map, ℕ, ℤ, neg_ℤ, ◌≤ℤ◌, true, false, is_some, List, [], ◌++◌, length, Option, Some, Result, Ok, Err}
 use Rattle.std.specs.List.{All, AllByRecursion}
 use Rattle.rules_code.specs.evaluation.Contracts.{hash_in}
 use Rattle.rules_code.specs.evaluation.Surroundings.{Contract as PlainContract}
@@ -8,6 +8,7 @@ use Rattle.rules_code.specs.steps.Changes.{Change, amount_of, identity_of}
 use Rattle.rules_data.specs.values.Tickets.{Held}
 use Rattle.rules_world.specs.world.Balances as rules
 use Rattle.rules_world.specs.world.Forms.{IsWorld, IsChange}
+use Rattle.rules_world.specs.world.Growth.{burnt_from, paid_for}
 use Rattle.rules_world.specs.world.Holdings.{credited, debited}
 use Rattle.rules_world.specs.world.Originations.{founded}
 use Rattle.rules_world.specs.world.Runs.{kept}
@@ -28,11 +29,12 @@ use Rattle.mich_tickets.specs.Limits.{IsPositive}
 use Rattle.mich_tickets.specs.Sums.{held_of}
 use Rattle.mich_base.specs.undo.History.{kept as without_past}
 use Rattle.mich_world.specs.Answers.{IsGrant}
-use Rattle.mich_world.specs.Holders.{account_at, contract_at, may_receive, moved, fee_taken, endowed}
+use Rattle.mich_world.specs.Holders.{account_at, contract_at, may_receive, moved, fee_taken, endowed, storage_paid, with_rate}
 use Rattle.mich_world.specs.Marks.{mark_of, at_mark, KeepsWorld, IsSame}
 use Rattle.mich_world.specs.Standing.{plain, StandsFor}
 use Rattle.mich_world.specs.Storages.{AreStored, Stands, Installs, Commits}
 use Rattle.mich_world.specs.World.{World, no_world, with_clock, with_funds, with_ledger, with_store}
+use Rattle.mich_world.specs.declared.contract.Contract.{Contract}
 use Rattle.mich_world.specs.declared.errors.GrantError.{GrantError}
 use Rattle.mich_world.specs.declared.errors.GrantError.TheVariants as grant
 use Rattle.mich_world.specs.simulation.Runs.{Runs}
@@ -45,6 +47,11 @@ NewWorldsAgree = (chain : List ℕ) (level : ℕ) (moment : ℤ) → StandsFor (
 abbrev pub ClocksAgree : Type 0
 ClocksAgree = (v : World) (w : PlainWorld) (level : ℕ) (moment : ℤ) → StandsFor v w
     → StandsFor (with_clock v level moment) (record w { level = level; moment = moment })
+
+-- the rate is set
+abbrev pub RatesAgree : Type 0
+RatesAgree = (u v : World) (w : PlainWorld) (rate : Option ℕ) → StandsFor u w → v ≡ with_funds u v.funds
+    → v.funds.present ≡ with_rate u.funds.present rate → StandsFor v (record w { rate = rate })
 
 -- a call that grants answers what a grant comes to, and one stands for the world after it
 abbrev pub Grants : World → rules.Grant → Result (Unit {0}) GrantError → Type 0
@@ -127,6 +134,15 @@ RunEndsAgree = (u v z : World) (w : PlainWorld) (changes : List Change) (hash : 
     → Commits hash given v z
     → StandsFor z (kept w hash before (val_in v.store.bases.present given) changes)
 
+-- ---- storage that is paid for
+
+-- a contract that is there pays for its size, and an account pays what is burnt for that
+abbrev pub PaymentsAgree : Type 0
+PaymentsAgree = (u v : World) (w : PlainWorld) (hash who : List ℕ) (size burn : ℕ) (c : Contract) → StandsFor u w → IsWorld w
+    → is_key_hash who ≡ true → contract_at u.funds.present hash ≡ Some c → c.paid ≤ size → v ≡ with_funds u v.funds
+    → v.funds.present ≡ storage_paid u.funds.present hash size who (Some burn)
+    → StandsFor v (paid_for (burnt_from w (implicit_place who) burn) hash (size - c.paid))
+
 -- ---- tickets of accounts
 
 -- a ticket comes to an account
@@ -180,6 +196,10 @@ FeesKeepStored = (u v : World) (who : List ℕ) (fee : ℕ) → AreStored u → 
 abbrev pub GrantsKeepStored : Type 0
 GrantsKeepStored = (u v : World) (who : List ℕ) (mutez : ℕ) → AreStored u → v ≡ with_funds u v.funds
     → v.funds.present ≡ endowed u.funds.present who mutez → AreStored v
+
+abbrev pub PaymentsKeepStored : Type 0
+PaymentsKeepStored = (u v : World) (hash who : List ℕ) (size : ℕ) (burn : Option ℕ) → AreStored u → v ≡ with_funds u v.funds
+    → v.funds.present ≡ storage_paid u.funds.present hash size who burn → AreStored v
 
 abbrev pub RunsKeepStored : Type 0
 RunsKeepStored = (u v : World) (changes : List Change) → AreStored u → Runs changes u v → AreStored v

@@ -1,5 +1,5 @@
 // What a world stands for after each call.
-ghost use Rattle.mich_world.specs.simulation.Laws.{NewWorldsAgree, ClocksAgree, ContractsAgree, AccountsAgree, ReceiversAgree, GrantsAgree, InstallsAgree, CommitsAgree, RunsAgree, RunEndsAgree, CreditsAgree, DebitsAgree, CreditsMakeAccounts, SameWorldsAgree, MarksAgree, KeepingAgrees};
+ghost use Rattle.mich_world.specs.simulation.Laws.{NewWorldsAgree, ClocksAgree, RatesAgree, PaymentsAgree, ContractsAgree, AccountsAgree, ReceiversAgree, GrantsAgree, InstallsAgree, CommitsAgree, RunsAgree, RunEndsAgree, CreditsAgree, DebitsAgree, CreditsMakeAccounts, SameWorldsAgree, MarksAgree, KeepingAgrees};
 
 /// A world of nobody stands for a new one.
 pub fn new_worlds_agree()
@@ -9,6 +9,16 @@ pub fn new_worlds_agree()
 /// After the clock is set a world stands for that with this clock.
 pub fn clocks_agree()
     ensures { ClocksAgree }
+{}
+
+/// After the rate is set a world stands for that with this rate.
+pub fn rates_agree()
+    ensures { RatesAgree }
+{}
+
+/// After a contract has paid for its size a world stands for that in which it has (Octez "Operations", storage fees and burn).
+pub fn payments_agree()
+    ensures { PaymentsAgree }
 {}
 
 /// A grant answers what the rules say, and a world stands for that after it.

@@ -1,5 +1,5 @@
 // What code does to a world, and what stays settled.
-ghost use Rattle.mich_world.specs.simulation.Laws.{RunsBegin, RunsGoOn, LedgersRun, StoresRun, MovesKeepStored, FeesKeepStored, GrantsKeepStored, RunsKeepStored};
+ghost use Rattle.mich_world.specs.simulation.Laws.{RunsBegin, RunsGoOn, LedgersRun, StoresRun, MovesKeepStored, FeesKeepStored, GrantsKeepStored, PaymentsKeepStored, RunsKeepStored};
 
 /// Code that did nothing did nothing to a world.
 pub fn runs_begin()
@@ -34,6 +34,11 @@ pub fn fees_keep_stored()
 /// The same of a grant.
 pub fn grants_keep_stored()
     ensures { GrantsKeepStored }
+{}
+
+/// The same of what is burnt for storage.
+pub fn payments_keep_stored()
+    ensures { PaymentsKeepStored }
 {}
 
 /// The same of what code does.

@@ -1,6 +1,6 @@
 -- Numbers, truth values and comparison.
-use Rattle.std.specs.Prelude.{◌≡◌, refl, pos, negsuc, [], ◌∷◌, codes, true, false}
-use Rattle.rules_text.specs.nodes.Tree.{int, prim, none, more}
+use Rattle.std.specs.Prelude.{◌≡◌, refl, pos, negsuc, [], ◌∷◌, codes, replicate, true, false}
+use Rattle.rules_text.specs.nodes.Tree.{int, bytes, prim, none, more}
 use Rattle.rules_text.specs.nodes.Primitives.{primitive_names, primitives, code_of_name, name_of_code, primitive_of_code, primitive_of_name}
 use Rattle.rules_text.specs.binary.Spelling.{groups, integer, field, application}
 use Rattle.rules_text.specs.binary.Reading.{byte_at, field_at, narrow_field_at, integer_at, string_at, bytes_at, annotations_at, any_annotations_at, name_at, nodes_at, application_at, many_at, node_by, tags_in_order, tag_at, node_at, decoded}
@@ -369,3 +369,147 @@ unfolding primitive_names primitives code_of_name primitive_of_code primitive_of
     narrow_field_at integer_at string_at bytes_at annotations_at any_annotations_at name_at name_of_code nodes_at
     application_at many_at node_by tags_in_order tag_at node_at decoded
 number_39 = refl
+
+-- BYTES | nat | 128 | 0x80 | 1
+number_40 : did (prim (codes "BYTES") [] none) ((k.simple s.Nat) ∷ []) ((v.number (pos 128)) ∷ []) ≡ gave 1 ((bytes (128 ∷ [])) ∷ []) [] []
+unfolding primitive_names primitives code_of_name primitive_of_code primitive_of_name former_of_name word_of_name in_order
+    int_or_limit mutez_or_limit division shifted_left shifted_right groups integer field application byte_at field_at
+    narrow_field_at integer_at string_at bytes_at annotations_at any_annotations_at name_at name_of_code nodes_at
+    application_at many_at node_by tags_in_order tag_at node_at decoded
+number_40 = refl
+
+-- BYTES | int | 128 | 0x0080 | 1
+number_41 : did (prim (codes "BYTES") [] none) ((k.simple s.Int) ∷ []) ((v.number (pos 128)) ∷ []) ≡ gave 1 ((bytes (0 ∷ 128 ∷ [])) ∷ []) [] []
+unfolding primitive_names primitives code_of_name primitive_of_code primitive_of_name former_of_name word_of_name in_order
+    int_or_limit mutez_or_limit division shifted_left shifted_right groups integer field application byte_at field_at
+    narrow_field_at integer_at string_at bytes_at annotations_at any_annotations_at name_at name_of_code nodes_at
+    application_at many_at node_by tags_in_order tag_at node_at decoded
+number_41 = refl
+
+-- BYTES | int | -129 | 0xff7f | 1
+number_42 : did (prim (codes "BYTES") [] none) ((k.simple s.Int) ∷ []) ((v.number (negsuc 128)) ∷ []) ≡ gave 1 ((bytes (255 ∷ 127 ∷ [])) ∷ []) [] []
+unfolding primitive_names primitives code_of_name primitive_of_code primitive_of_name former_of_name word_of_name in_order
+    int_or_limit mutez_or_limit division shifted_left shifted_right groups integer field application byte_at field_at
+    narrow_field_at integer_at string_at bytes_at annotations_at any_annotations_at name_at name_of_code nodes_at
+    application_at many_at node_by tags_in_order tag_at node_at decoded
+number_42 = refl
+
+-- BYTES | int | 0 | 0x | 1
+number_43 : did (prim (codes "BYTES") [] none) ((k.simple s.Int) ∷ []) ((v.number (pos 0)) ∷ []) ≡ gave 1 ((bytes []) ∷ []) [] []
+unfolding primitive_names primitives code_of_name primitive_of_code primitive_of_name former_of_name word_of_name in_order
+    int_or_limit mutez_or_limit division shifted_left shifted_right groups integer field application byte_at field_at
+    narrow_field_at integer_at string_at bytes_at annotations_at any_annotations_at name_at name_of_code nodes_at
+    application_at many_at node_by tags_in_order tag_at node_at decoded
+number_43 = refl
+
+-- BYTES | nat | 0 | 0x | 1
+number_44 : did (prim (codes "BYTES") [] none) ((k.simple s.Nat) ∷ []) ((v.number (pos 0)) ∷ []) ≡ gave 1 ((bytes []) ∷ []) [] []
+unfolding primitive_names primitives code_of_name primitive_of_code primitive_of_name former_of_name word_of_name in_order
+    int_or_limit mutez_or_limit division shifted_left shifted_right groups integer field application byte_at field_at
+    narrow_field_at integer_at string_at bytes_at annotations_at any_annotations_at name_at name_of_code nodes_at
+    application_at many_at node_by tags_in_order tag_at node_at decoded
+number_44 = refl
+
+-- BYTES | int | -1 | 0xff | 1
+number_45 : did (prim (codes "BYTES") [] none) ((k.simple s.Int) ∷ []) ((v.number (negsuc 0)) ∷ []) ≡ gave 1 ((bytes (255 ∷ [])) ∷ []) [] []
+unfolding primitive_names primitives code_of_name primitive_of_code primitive_of_name former_of_name word_of_name in_order
+    int_or_limit mutez_or_limit division shifted_left shifted_right groups integer field application byte_at field_at
+    narrow_field_at integer_at string_at bytes_at annotations_at any_annotations_at name_at name_of_code nodes_at
+    application_at many_at node_by tags_in_order tag_at node_at decoded
+number_45 = refl
+
+-- BYTES | int | -128 | 0x80 | 1
+number_46 : did (prim (codes "BYTES") [] none) ((k.simple s.Int) ∷ []) ((v.number (negsuc 127)) ∷ []) ≡ gave 1 ((bytes (128 ∷ [])) ∷ []) [] []
+unfolding primitive_names primitives code_of_name primitive_of_code primitive_of_name former_of_name word_of_name in_order
+    int_or_limit mutez_or_limit division shifted_left shifted_right groups integer field application byte_at field_at
+    narrow_field_at integer_at string_at bytes_at annotations_at any_annotations_at name_at name_of_code nodes_at
+    application_at many_at node_by tags_in_order tag_at node_at decoded
+number_46 = refl
+
+-- BYTES | int | -170141183460469231731687303715884105728 | 0x80000000000000000000000000000000 | 1
+number_47 : did (prim (codes "BYTES") [] none) ((k.simple s.Int) ∷ []) ((v.number (negsuc 170141183460469231731687303715884105727)) ∷ []) ≡ gave 1 ((bytes (128 ∷ replicate 15 0)) ∷ []) [] []
+unfolding primitive_names primitives code_of_name primitive_of_code primitive_of_name former_of_name word_of_name in_order
+    int_or_limit mutez_or_limit division shifted_left shifted_right groups integer field application byte_at field_at
+    narrow_field_at integer_at string_at bytes_at annotations_at any_annotations_at name_at name_of_code nodes_at
+    application_at many_at node_by tags_in_order tag_at node_at decoded
+number_47 = refl
+
+-- BYTES | nat | 170141183460469231731687303715884105727 | 0x7fffffffffffffffffffffffffffffff | 1
+number_48 : did (prim (codes "BYTES") [] none) ((k.simple s.Nat) ∷ []) ((v.number (pos 170141183460469231731687303715884105727)) ∷ []) ≡ gave 1 ((bytes (127 ∷ replicate 15 255)) ∷ []) [] []
+unfolding primitive_names primitives code_of_name primitive_of_code primitive_of_name former_of_name word_of_name in_order
+    int_or_limit mutez_or_limit division shifted_left shifted_right groups integer field application byte_at field_at
+    narrow_field_at integer_at string_at bytes_at annotations_at any_annotations_at name_at name_of_code nodes_at
+    application_at many_at node_by tags_in_order tag_at node_at decoded
+number_48 = refl
+
+-- INT | bytes | 0xff | -1 | 2
+number_49 : did (prim (codes "INT") [] none) ((k.simple s.Bytes) ∷ []) ((v.bytes (255 ∷ [])) ∷ []) ≡ gave 2 ((int (negsuc 0)) ∷ []) [] []
+unfolding primitive_names primitives code_of_name primitive_of_code primitive_of_name former_of_name word_of_name in_order
+    int_or_limit mutez_or_limit division shifted_left shifted_right groups integer field application byte_at field_at
+    narrow_field_at integer_at string_at bytes_at annotations_at any_annotations_at name_at name_of_code nodes_at
+    application_at many_at node_by tags_in_order tag_at node_at decoded
+number_49 = refl
+
+-- INT | bytes | 0x | 0 | 1
+number_50 : did (prim (codes "INT") [] none) ((k.simple s.Bytes) ∷ []) ((v.bytes []) ∷ []) ≡ gave 1 ((int (pos 0)) ∷ []) [] []
+unfolding primitive_names primitives code_of_name primitive_of_code primitive_of_name former_of_name word_of_name in_order
+    int_or_limit mutez_or_limit division shifted_left shifted_right groups integer field application byte_at field_at
+    narrow_field_at integer_at string_at bytes_at annotations_at any_annotations_at name_at name_of_code nodes_at
+    application_at many_at node_by tags_in_order tag_at node_at decoded
+number_50 = refl
+
+-- INT | bytes | 0x00ff | 255 | 3
+number_51 : did (prim (codes "INT") [] none) ((k.simple s.Bytes) ∷ []) ((v.bytes (0 ∷ 255 ∷ [])) ∷ []) ≡ gave 3 ((int (pos 255)) ∷ []) [] []
+unfolding primitive_names primitives code_of_name primitive_of_code primitive_of_name former_of_name word_of_name in_order
+    int_or_limit mutez_or_limit division shifted_left shifted_right groups integer field application byte_at field_at
+    narrow_field_at integer_at string_at bytes_at annotations_at any_annotations_at name_at name_of_code nodes_at
+    application_at many_at node_by tags_in_order tag_at node_at decoded
+number_51 = refl
+
+-- INT | bytes | 0x80000000000000000000000000000000 | -170141183460469231731687303715884105728 | 17
+number_52 : did (prim (codes "INT") [] none) ((k.simple s.Bytes) ∷ []) ((v.bytes (128 ∷ replicate 15 0)) ∷ []) ≡ gave 17 ((int (negsuc 170141183460469231731687303715884105727)) ∷ []) [] []
+unfolding primitive_names primitives code_of_name primitive_of_code primitive_of_name former_of_name word_of_name in_order
+    int_or_limit mutez_or_limit division shifted_left shifted_right groups integer field application byte_at field_at
+    narrow_field_at integer_at string_at bytes_at annotations_at any_annotations_at name_at name_of_code nodes_at
+    application_at many_at node_by tags_in_order tag_at node_at decoded
+number_52 = refl
+
+-- INT | bytes | 0x0080000000000000000000000000000000 | IntegerLimit | 18
+number_53 : did (prim (codes "INT") [] none) ((k.simple s.Bytes) ∷ []) ((v.bytes (0 ∷ 128 ∷ 0 ∷ 0 ∷ 0 ∷ 0 ∷ 0 ∷ 0 ∷ 0 ∷ 0 ∷ 0 ∷ 0 ∷ 0 ∷ 0 ∷ 0 ∷ 0 ∷ 0 ∷ [])) ∷ []) ≡ failed_as f.integer_limit
+unfolding primitive_names primitives code_of_name primitive_of_code primitive_of_name former_of_name word_of_name in_order
+    int_or_limit mutez_or_limit division shifted_left shifted_right groups integer field application byte_at field_at
+    narrow_field_at integer_at string_at bytes_at annotations_at any_annotations_at name_at name_of_code nodes_at
+    application_at many_at node_by tags_in_order tag_at node_at decoded
+number_53 = refl
+
+-- INT | nat | 5 | 5 | 1
+number_54 : did (prim (codes "INT") [] none) ((k.simple s.Nat) ∷ []) ((v.number (pos 5)) ∷ []) ≡ gave 1 ((int (pos 5)) ∷ []) [] []
+unfolding primitive_names primitives code_of_name primitive_of_code primitive_of_name former_of_name word_of_name in_order
+    int_or_limit mutez_or_limit division shifted_left shifted_right groups integer field application byte_at field_at
+    narrow_field_at integer_at string_at bytes_at annotations_at any_annotations_at name_at name_of_code nodes_at
+    application_at many_at node_by tags_in_order tag_at node_at decoded
+number_54 = refl
+
+-- NAT | bytes | 0x00ff | 255 | 3
+number_55 : did (prim (codes "NAT") [] none) ((k.simple s.Bytes) ∷ []) ((v.bytes (0 ∷ 255 ∷ [])) ∷ []) ≡ gave 3 ((int (pos 255)) ∷ []) [] []
+unfolding primitive_names primitives code_of_name primitive_of_code primitive_of_name former_of_name word_of_name in_order
+    int_or_limit mutez_or_limit division shifted_left shifted_right groups integer field application byte_at field_at
+    narrow_field_at integer_at string_at bytes_at annotations_at any_annotations_at name_at name_of_code nodes_at
+    application_at many_at node_by tags_in_order tag_at node_at decoded
+number_55 = refl
+
+-- NAT | bytes | 0x | 0 | 1
+number_56 : did (prim (codes "NAT") [] none) ((k.simple s.Bytes) ∷ []) ((v.bytes []) ∷ []) ≡ gave 1 ((int (pos 0)) ∷ []) [] []
+unfolding primitive_names primitives code_of_name primitive_of_code primitive_of_name former_of_name word_of_name in_order
+    int_or_limit mutez_or_limit division shifted_left shifted_right groups integer field application byte_at field_at
+    narrow_field_at integer_at string_at bytes_at annotations_at any_annotations_at name_at name_of_code nodes_at
+    application_at many_at node_by tags_in_order tag_at node_at decoded
+number_56 = refl
+
+-- NAT | bytes | 0x80000000000000000000000000000000 | IntegerLimit | 17
+number_57 : did (prim (codes "NAT") [] none) ((k.simple s.Bytes) ∷ []) ((v.bytes (128 ∷ replicate 15 0)) ∷ []) ≡ failed_as f.integer_limit
+unfolding primitive_names primitives code_of_name primitive_of_code primitive_of_name former_of_name word_of_name in_order
+    int_or_limit mutez_or_limit division shifted_left shifted_right groups integer field application byte_at field_at
+    narrow_field_at integer_at string_at bytes_at annotations_at any_annotations_at name_at name_of_code nodes_at
+    application_at many_at node_by tags_in_order tag_at node_at decoded
+number_57 = refl

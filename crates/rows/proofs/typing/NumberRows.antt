@@ -288,8 +288,8 @@ number_50 : tree_type (prim (codes "INT") [] none) c.lambda ((k.simple s.Int) �
 unfolding primitive_names primitives code_of_name primitive_of_code primitive_of_name former_of_name word_of_name in_order
 number_50 = refl
 
--- INT | lambda | bytes | 0
-number_51 : tree_type (prim (codes "INT") [] none) c.lambda ((k.simple s.Bytes) ∷ []) ≡ bad 0
+-- INT | lambda | bytes | int
+number_51 : tree_type (prim (codes "INT") [] none) c.lambda ((k.simple s.Bytes) ∷ []) ≡ goes ((k.simple s.Int) ∷ [])
 unfolding primitive_names primitives code_of_name primitive_of_code primitive_of_name former_of_name word_of_name in_order
 number_51 = refl
 
@@ -481,3 +481,63 @@ number_85 = refl
 number_86 : tree_type (prim (codes "GE") [] none) c.lambda [] ≡ bad 0
 unfolding primitive_names primitives code_of_name primitive_of_code primitive_of_name former_of_name word_of_name in_order
 number_86 = refl
+
+-- BYTES | lambda | nat | bytes
+number_87 : tree_type (prim (codes "BYTES") [] none) c.lambda ((k.simple s.Nat) ∷ []) ≡ goes ((k.simple s.Bytes) ∷ [])
+unfolding primitive_names primitives code_of_name primitive_of_code primitive_of_name former_of_name word_of_name in_order
+number_87 = refl
+
+-- BYTES | lambda | int | bytes
+number_88 : tree_type (prim (codes "BYTES") [] none) c.lambda ((k.simple s.Int) ∷ []) ≡ goes ((k.simple s.Bytes) ∷ [])
+unfolding primitive_names primitives code_of_name primitive_of_code primitive_of_name former_of_name word_of_name in_order
+number_88 = refl
+
+-- BYTES | lambda | bytes | 0
+number_89 : tree_type (prim (codes "BYTES") [] none) c.lambda ((k.simple s.Bytes) ∷ []) ≡ bad 0
+unfolding primitive_names primitives code_of_name primitive_of_code primitive_of_name former_of_name word_of_name in_order
+number_89 = refl
+
+-- BYTES | lambda | timestamp | 0
+number_90 : tree_type (prim (codes "BYTES") [] none) c.lambda ((k.simple s.Timestamp) ∷ []) ≡ bad 0
+unfolding primitive_names primitives code_of_name primitive_of_code primitive_of_name former_of_name word_of_name in_order
+number_90 = refl
+
+-- BYTES | lambda | - | 0
+number_91 : tree_type (prim (codes "BYTES") [] none) c.lambda [] ≡ bad 0
+unfolding primitive_names primitives code_of_name primitive_of_code primitive_of_name former_of_name word_of_name in_order
+number_91 = refl
+
+-- NAT | lambda | bytes | nat
+number_92 : tree_type (prim (codes "NAT") [] none) c.lambda ((k.simple s.Bytes) ∷ []) ≡ goes ((k.simple s.Nat) ∷ [])
+unfolding primitive_names primitives code_of_name primitive_of_code primitive_of_name former_of_name word_of_name in_order
+number_92 = refl
+
+-- NAT | lambda | int | 0
+number_93 : tree_type (prim (codes "NAT") [] none) c.lambda ((k.simple s.Int) ∷ []) ≡ bad 0
+unfolding primitive_names primitives code_of_name primitive_of_code primitive_of_name former_of_name word_of_name in_order
+number_93 = refl
+
+-- NAT | lambda | string | 0
+number_94 : tree_type (prim (codes "NAT") [] none) c.lambda ((k.simple s.String) ∷ []) ≡ bad 0
+unfolding primitive_names primitives code_of_name primitive_of_code primitive_of_name former_of_name word_of_name in_order
+number_94 = refl
+
+-- NAT | lambda | - | 0
+number_95 : tree_type (prim (codes "NAT") [] none) c.lambda [] ≡ bad 0
+unfolding primitive_names primitives code_of_name primitive_of_code primitive_of_name former_of_name word_of_name in_order
+number_95 = refl
+
+-- INT | lambda | string | 0
+number_96 : tree_type (prim (codes "INT") [] none) c.lambda ((k.simple s.String) ∷ []) ≡ bad 0
+unfolding primitive_names primitives code_of_name primitive_of_code primitive_of_name former_of_name word_of_name in_order
+number_96 = refl
+
+-- INT | lambda | - | 0
+number_97 : tree_type (prim (codes "INT") [] none) c.lambda [] ≡ bad 0
+unfolding primitive_names primitives code_of_name primitive_of_code primitive_of_name former_of_name word_of_name in_order
+number_97 = refl
+
+-- BYTES 1 | lambda | nat | 0
+number_98 : tree_type (prim (codes "BYTES") [] (more (int (pos 1)) none)) c.lambda ((k.simple s.Nat) ∷ []) ≡ bad 0
+unfolding primitive_names primitives code_of_name primitive_of_code primitive_of_name former_of_name word_of_name in_order
+number_98 = refl

@@ -467,16 +467,6 @@ other_80 : tree_type (prim (codes "SHA3") [] none) c.lambda ((k.simple s.Bytes) 
 unfolding primitive_names primitives code_of_name primitive_of_code primitive_of_name former_of_name word_of_name in_order
 other_80 = refl
 
--- BYTES | lambda | nat | 0
-other_81 : tree_type (prim (codes "BYTES") [] none) c.lambda ((k.simple s.Nat) ∷ []) ≡ bad 0
-unfolding primitive_names primitives code_of_name primitive_of_code primitive_of_name former_of_name word_of_name in_order
-other_81 = refl
-
--- NAT | lambda | bytes | 0
-other_82 : tree_type (prim (codes "NAT") [] none) c.lambda ((k.simple s.Bytes) ∷ []) ≡ bad 0
-unfolding primitive_names primitives code_of_name primitive_of_code primitive_of_name former_of_name word_of_name in_order
-other_82 = refl
-
 -- SET_DELEGATE | lambda | option key_hash | 0
 other_83 : tree_type (prim (codes "SET_DELEGATE") [] none) c.lambda ((k.option (k.simple s.KeyHash)) ∷ []) ≡ bad 0
 unfolding primitive_names primitives code_of_name primitive_of_code primitive_of_name former_of_name word_of_name in_order

@@ -32,7 +32,7 @@ first_contract = new_contract 1 0
 -- a world with this one contract, before whose run nothing was minted
 abbrev pub only_contract : Tree → Val → List ℕ → Option Contract
 only_contract code storage hash =
-    if bytes_eq hash first_contract then Some record { balance = 0; script = code; storage = storage } else None
+    if bytes_eq hash first_contract then Some record { balance = 0; paid = 0; script = code; storage = storage } else None
 
 abbrev pub nothing_minted : Identity → ℤ
 nothing_minted id = pos 0

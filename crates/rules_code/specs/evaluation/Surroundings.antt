@@ -7,9 +7,10 @@ use Rattle.rules_data.specs.values.Tickets.{Identity}
 use Rattle.rules_code.specs.instructions.Context.{Context}
 use Rattle.rules_code.specs.steps.Environment.{Environment}
 
--- a contract: its balance, the node of its script, and its storage
+-- a contract: its balance, for how many bytes it has paid, the node of its script, and its storage
 pub record Contract : Type 0 where
   pub balance : ℕ
+  pub paid : ℕ
   pub script : Tree
   pub storage : Val
 

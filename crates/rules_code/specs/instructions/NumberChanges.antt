@@ -2,7 +2,7 @@
 use Rattle.std.specs.Prelude.{◌&&◌, List, ◌∷◌, Option, Some, None, option_map, option_and_then}
 use Rattle.rules_data.specs.types.Kind.{Kind, option, pair}
 use Rattle.rules_data.specs.types.Attributes.{comparable}
-use Rattle.rules_code.specs.instructions.Types.{bool, int, nat, mutez, timestamp}
+use Rattle.rules_code.specs.instructions.Types.{bool, int, nat, bytes, mutez, timestamp}
 use Rattle.rules_code.specs.instructions.Same.{same_kind}
 use Rattle.rules_code.specs.instructions.Change.{Change, makes, where_true}
 use Rattle.rules_code.specs.instructions.Straight.{NumberRow, LogicRow}
@@ -79,6 +79,10 @@ number_change i.int (nat ∷ A) = makes int A
 number_change i.isnat (int ∷ A) = makes (option nat) A
 number_change i.lsl (nat ∷ nat ∷ A) = makes nat A
 number_change i.lsr (nat ∷ nat ∷ A) = makes nat A
+number_change i.nat_to_bytes (nat ∷ A) = makes bytes A
+number_change i.int_to_bytes (int ∷ A) = makes bytes A
+number_change i.bytes_to_nat (bytes ∷ A) = makes nat A
+number_change i.bytes_to_int (bytes ∷ A) = makes int A
 number_change r A = None
 
 -- ---- truth values and bits, comparison

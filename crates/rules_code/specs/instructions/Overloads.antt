@@ -1,7 +1,7 @@
 -- The instructions that are several rules, of which the types on the stack choose one (Michelson reference, "Instructions").
 use Rattle.std.specs.Prelude.{ℕ, List, ◌∷◌, Option, Some, None}
 use Rattle.rules_data.specs.types.Kind.{Kind, list, set, map, big_map}
-use Rattle.rules_code.specs.instructions.Types.{bool, string, bytes, mutez}
+use Rattle.rules_code.specs.instructions.Types.{bool, int, nat, string, bytes, mutez}
 use Rattle.rules_code.specs.instructions.Straight.{Straight, on_collections, on_numbers, on_truth, on_text, on_operations, on_tickets}
 use Rattle.rules_code.specs.instructions.Straight as i
 
@@ -13,6 +13,8 @@ pub data Overloaded : Type 0 where
   get_and_update : Overloaded
   add : Overloaded
   mul : Overloaded
+  to_int : Overloaded
+  to_bytes : Overloaded
   and : Overloaded
   or : Overloaded
   xor : Overloaded
@@ -47,6 +49,10 @@ overload add (a ∷ A) = Some (on_numbers i.add_numbers)
 overload mul (mutez ∷ A) = Some (on_numbers i.mul_amounts)
 overload mul (a ∷ mutez ∷ A) = Some (on_numbers i.mul_amounts)
 overload mul (a ∷ b ∷ A) = Some (on_numbers i.mul_numbers)
+overload to_int (nat ∷ A) = Some (on_numbers i.int)
+overload to_int (bytes ∷ A) = Some (on_numbers i.bytes_to_int)
+overload to_bytes (nat ∷ A) = Some (on_numbers i.nat_to_bytes)
+overload to_bytes (int ∷ A) = Some (on_numbers i.int_to_bytes)
 overload and (bool ∷ A) = Some (on_truth i.and_bools)
 overload and (a ∷ A) = Some (on_truth i.and_numbers)
 overload or (bool ∷ A) = Some (on_truth i.or_bools)

@@ -53,7 +53,7 @@ pub data CollectionRow : Type 0 where
   get_and_update_big_map : CollectionRow
 
 -- Arithmetic. Numbers are int, nat and timestamp, amounts are mutez; EDIV divides amounts as it does numbers, and one of
--- the two factors of MUL on amounts is a nat.
+-- the two factors of MUL on amounts is a nat. BYTES, NAT and INT turn numbers into bytes and back.
 pub data NumberRow : Type 0 where
   add_numbers : NumberRow
   add_amounts : NumberRow
@@ -68,6 +68,10 @@ pub data NumberRow : Type 0 where
   isnat : NumberRow
   lsl : NumberRow
   lsr : NumberRow
+  nat_to_bytes : NumberRow
+  int_to_bytes : NumberRow
+  bytes_to_nat : NumberRow
+  bytes_to_int : NumberRow
 
 -- truth values and bits, and comparison
 pub data LogicRow : Type 0 where

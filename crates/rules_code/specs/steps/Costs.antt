@@ -72,6 +72,10 @@ number_kind i.int = k.Int
 number_kind i.isnat = k.Isnat
 number_kind i.lsl = k.Lsl
 number_kind i.lsr = k.Lsr
+number_kind i.nat_to_bytes = k.Bytes
+number_kind i.int_to_bytes = k.Bytes
+number_kind i.bytes_to_nat = k.Nat
+number_kind i.bytes_to_int = k.Int
 
 abbrev pub logic_kind : LogicRow → Kind
 logic_kind i.and_bools = k.And
@@ -168,6 +172,12 @@ collection_weight i.get_map (k ∷ table ps ∷ V) = weight_found (value_at k ps
 collection_weight i.get_big_map (k ∷ big_table ps ∷ V) = weight_found (value_at k ps)
 collection_weight _ _ = 0
 
+-- NAT and INT weigh the bytes of the operand
+abbrev pub number_weight : NumberRow → List Val → ℕ
+number_weight i.bytes_to_nat (bytes b ∷ V) = length b
+number_weight i.bytes_to_int (bytes b ∷ V) = length b
+number_weight _ _ = 0
+
 -- CONCAT weighs the bytes of its result, past the limit too, and the number of a list's elements; SLICE those of its result
 abbrev pub text_weight : TextRow → List Val → ℕ
 text_weight i.concat_strings (text s ∷ text t ∷ V) = length (s ++ t)
@@ -190,6 +200,7 @@ hash_weight _ _ = 0
 abbrev pub weight_of : Straight → List Val → ℕ
 weight_of (on_stack row) V = stack_weight row V
 weight_of (on_collections row) V = collection_weight row V
+weight_of (on_numbers row) V = number_weight row V
 weight_of (on_text row) V = text_weight row V
 weight_of (on_hashes row) V = hash_weight row V
 weight_of _ V = 0

@@ -26,3 +26,4 @@ pub data Failure : Type 0 where
   bad_storage : (location : ℕ) → Failure
   unregistered_delegate : Failure
   ticket_short : Failure
+  cannot_pay_burn : Failure

@@ -1,13 +1,14 @@
--- Arithmetic, bits, truth values and comparison (Michelson reference, "Operations on integers and natural numbers",
+-- Arithmetic, numbers as bytes, bits, truth values and comparison (Michelson reference, "Operations on integers and natural numbers",
 -- "Operations on Mutez", "Operations on timestamps", "Operations on booleans" and "Generic comparison").
 use Rattle.std.specs.Prelude.{ℕ, ℤ, pos, neg_ℤ, ◌+ℤ◌, ◌-ℤ◌, ◌*ℤ◌, int_le, int_lt, unsigned_abs, not, ◌&&◌, ◌||◌, List, ◌∷◌, Option, Some, None, option_map, if◌then◌else◌}
 use Rattle.std.specs.declared.cmp.Ordering.{Ordering}
 use Rattle.std.specs.Ordering.{match_ordering, int_eq}
 use Rattle.rules_data.specs.numbers.Limits.{int_or_limit}
 use Rattle.rules_data.specs.numbers.Integers.{division, shifted_left, shifted_right}
+use Rattle.rules_data.specs.numbers.Bytes.{natural_bytes, integer_bytes, natural_in, integer_in}
 use Rattle.rules_data.specs.numbers.Mutez.{mutez_sum, mutez_difference, mutez_product}
 use Rattle.rules_data.specs.numbers.Bits.{bitwise_and, bitwise_or, bitwise_xor, complement}
-use Rattle.rules_data.specs.values.Val.{Val, truth, number, nothing, some, both}
+use Rattle.rules_data.specs.values.Val.{Val, truth, number, bytes, nothing, some, both}
 use Rattle.rules_data.specs.values.Order.{order}
 use Rattle.rules_code.specs.instructions.Straight.{NumberRow, LogicRow}
 use Rattle.rules_code.specs.instructions.Straight as i
@@ -44,6 +45,10 @@ number_step i.int (number x ∷ V) = kept (number x ∷ V)
 number_step i.isnat (number x ∷ V) = kept (natural x ∷ V)
 number_step i.lsl (number x ∷ number places ∷ V) = within_limit (shifted_left x places) (give_number V)
 number_step i.lsr (number x ∷ number places ∷ V) = within_limit (shifted_right x places) (give_number V)
+number_step i.nat_to_bytes (number (pos n) ∷ V) = kept (bytes (natural_bytes n) ∷ V)
+number_step i.int_to_bytes (number x ∷ V) = kept (bytes (integer_bytes x) ∷ V)
+number_step i.bytes_to_nat (bytes b ∷ V) = within_limit (int_or_limit (pos (natural_in b))) (give_number V)
+number_step i.bytes_to_int (bytes b ∷ V) = within_limit (int_or_limit (integer_in b)) (give_number V)
 number_step _ _ = wrong
 
 -- -1, 0 or 1

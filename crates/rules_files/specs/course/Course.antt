@@ -1,5 +1,5 @@
 -- How far a file has come, and what its next statement does to that (this host's own).
-use Rattle.std.specs.Prelude.{ℕ, ◌+◌, nat_lt, Bool, true, false, ◌&&◌, ℤ, int_le, List, [], ◌∷◌, Option, Some, None, Result, Ok, Err, if◌then◌else◌}
+use Rattle.std.specs.Prelude.{ℕ, ◌+◌, nat_lt, Bool, true, false, ◌&&◌, is_none, ℤ, int_le, List, [], ◌∷◌, Option, Some, None, Result, Ok, Err, if◌then◌else◌}
 use Rattle.rules_text.specs.nodes.Tree.{Tree}
 use Rattle.rules_data.specs.gas.Prices.{Listed, nothing_listed}
 use Rattle.rules_data.specs.gas.Tables.{table_of}
@@ -8,7 +8,7 @@ use Rattle.rules_world.specs.world.Receipts.{Receipt}
 use Rattle.rules_world.specs.world.World.{World, new_world}
 use Rattle.rules_world.specs.world.Balances.{Grant, Granted, Repeated, TooMuch, granted_to}
 use Rattle.rules_world.specs.world.Groups.{Settled, group}
-use Rattle.rules_files.specs.statements.Statements.{Statement, Chain, Costs, Account, Block, Group}
+use Rattle.rules_files.specs.statements.Statements.{Statement, Chain, Profile, Costs, Account, Block, Group}
 
 -- why a statement is refused where it stands: it can't stand there; a table of prices has a bad row; an account is there already;
 -- or more mutez would be granted than there may be
@@ -18,19 +18,19 @@ pub data Refusal : Type 0 where
   RepeatedAccount : Refusal
   SupplyLimit : Refusal
 
--- the world, the prices, how many groups there were, and whether only the chain stood
+-- the world, the prices, how many groups there were, and whether nothing stood but the chain and a profile
 pub record Course : Type 0 where
   pub world : World
   pub prices : Listed
   pub groups : ℕ
-  pub only_chain : Bool
+  pub at_head : Bool
 
 abbrev pub started : List ℕ → ℕ → ℤ → Course
-started chain level moment = record { world = new_world chain level moment; prices = nothing_listed; groups = 0; only_chain = true }
+started chain level moment = record { world = new_world chain level moment; prices = nothing_listed; groups = 0; at_head = true }
 
--- with another world, behind a statement that isn't the chain
+-- with another world, behind a statement that is neither the chain nor a profile
 abbrev pub onward : Course → World → Course
-onward c w = record c { world = w; only_chain = false }
+onward c w = record c { world = w; at_head = false }
 
 -- What a statement comes to: a receipt where it is a group, or a refusal. A group without an outcome comes in no good world.
 pub data Step : Type 0 where
@@ -38,10 +38,18 @@ pub data Step : Type 0 where
   stops : Refusal → Step
   stuck_step : Step
 
+-- ---- the rate of storage: a profile stands directly behind the chain
+
+abbrev pub with_rate : Course → ℕ → Course
+with_rate c rate = record c { world = record (c.world) { rate = Some rate } }
+
+abbrev pub profile_step : Course → ℕ → Step
+profile_step c rate = if c.at_head && is_none c.world.rate then goes_on (with_rate c rate) [] else stops BadOrder
+
 -- ---- prices: a table stands at most once, and before all accounts, blocks and groups
 
 abbrev pub with_prices : Course → Result Listed ℕ → Step
-with_prices c (Ok prices) = goes_on (record c { prices = prices; only_chain = false }) []
+with_prices c (Ok prices) = goes_on (record c { prices = prices; at_head = false }) []
 with_prices c (Err location) = stops BadCosts
 
 abbrev pub costs_step : Bool → Course → Tree → Step
@@ -79,13 +87,15 @@ group_step c source contents = numbered c (group c.prices (c.groups + 1) source 
 
 abbrev pub step_behind : Course → Statement → Step
 step_behind c (Chain id level moment) = stops BadOrder
-step_behind c (Costs table) = costs_step c.only_chain c table
+step_behind c (Profile rate) = profile_step c rate
+step_behind c (Costs table) = costs_step c.at_head c table
 step_behind c (Account who mutez) = granting c (granted_to c.world who mutez)
 step_behind c (Block level moment) = block_step c level moment
 step_behind c (Group source contents) = group_step c source contents
 
 abbrev pub first_step : Statement → Step
 first_step (Chain id level moment) = goes_on (started id level moment) []
+first_step (Profile rate) = stops BadOrder
 first_step (Costs table) = stops BadOrder
 first_step (Account who mutez) = stops BadOrder
 first_step (Block level moment) = stops BadOrder

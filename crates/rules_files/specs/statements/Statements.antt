@@ -3,17 +3,19 @@ use Rattle.std.specs.Prelude.{ℕ, ◌-◌, ◌^◌, ◌&&◌, nat_le, Bool, if�
 use Rattle.std.specs.declared.option.Option.{Option}
 use Rattle.std.specs.Option.{option_map}
 use Rattle.std.specs.Str.{bytes_eq}
-use Rattle.rules_text.specs.nodes.Limits.{most_tickets, most_contents, most_level, most_mutez}
+use Rattle.rules_text.specs.nodes.Limits.{most_tickets, most_contents, most_level, most_mutez, most_rate}
 use Rattle.rules_text.specs.nodes.Tree.{Tree, int, str, bytes, prim, seq, Trees, none, more}
 use Rattle.rules_data.specs.gas.Tables.{is_table}
 use Rattle.rules_data.specs.forms.Spelling.{is_entrypoint, is_chain_id, is_key_hash, is_contract, is_place}
 use Rattle.rules_world.specs.world.Contents.{Action, Originate, Call, Give, Content}
 
 -- `Chain id level moment` says where and when the groups run, and `Block level moment` when those behind it do;
+-- `Profile 2 rate` says how many mutez are burnt for a byte of storage;
 -- `Costs { Cost NAME base coefficient ; .. }` lists prices; `Account key_hash mutez` grants mutez to a new account; and
 -- `Group source { content ; .. }` is a group of operations. A table of prices is kept as its node.
 pub data Statement : Type 0 where
   Chain : (id : List ℕ) (level : ℕ) (moment : ℤ) → Statement
+  Profile : (rate : ℕ) → Statement
   Costs : (table : Tree) → Statement
   Account : (key_hash : List ℕ) (mutez : ℕ) → Statement
   Block : (level : ℕ) (moment : ℤ) → Statement
@@ -147,6 +149,11 @@ abbrev pub chain_of : List Tree → Option Statement
 chain_of (id ∷ level ∷ moment ∷ []) = bytes_of is_chain_id id >>= λ id. number_of most_level level >>= λ level. moment_of moment >>= λ moment. Some (Chain id level moment)
 chain_of _ = None
 
+-- 2 rate
+abbrev pub profile_of : List Tree → Option Statement
+profile_of (profile ∷ rate ∷ []) = within (pos 2) (pos 2) profile >>= λ profile. option_map Profile (number_of most_rate rate)
+profile_of _ = None
+
 -- { Cost NAME base coefficient ; .. }
 abbrev pub costs_of : List Tree → Option Statement
 costs_of (table ∷ []) = option_map Costs (table_of table)
@@ -170,6 +177,7 @@ group_of _ = None
 abbrev pub statement_by : List ℕ → List Tree → Option Statement
 statement_by name fields =
     if bytes_eq name (codes "Chain") then chain_of fields
+    else if bytes_eq name (codes "Profile") then profile_of fields
     else if bytes_eq name (codes "Costs") then costs_of fields
     else if bytes_eq name (codes "Account") then account_of fields
     else if bytes_eq name (codes "Block") then block_of fields

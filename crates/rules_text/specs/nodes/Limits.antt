@@ -72,6 +72,10 @@ most_price = 1000000
 abbrev pub most_mutez : ℕ
 most_mutez = 2 ^ 63 - 1
 
+-- the most mutez that a byte of storage may cost
+abbrev pub most_rate : ℕ
+most_rate = 1000000
+
 -- the most that a ticket may hold, and that may ever be minted of one identity (this host's own)
 abbrev pub most_tickets : ℕ
 most_tickets = 2 ^ 127 - 1

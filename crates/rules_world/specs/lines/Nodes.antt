@@ -1,5 +1,5 @@
 -- The nodes that are written of a replay, a line for each: receipts of groups, and the world at the end.
-use Rattle.std.specs.Prelude.{ℕ, ℤ, pos, List, [], ◌∷◌, ◌++◌, map, codes}
+use Rattle.std.specs.Prelude.{ℕ, ℤ, pos, List, [], ◌∷◌, ◌++◌, map, codes, Option, Some, None}
 use Rattle.rules_text.specs.nodes.Tree.{Tree, int, str, bytes, prim, seq, trees_of}
 use Rattle.rules_text.specs.text.Printed.{printed}
 use Rattle.rules_data.specs.forms.Spelling.{contract_place}
@@ -12,7 +12,7 @@ use Rattle.rules_code.specs.steps.Changes.{Change, minted, burnt}
 use Rattle.rules_code.specs.steps.Failure.{Failure}
 use Rattle.rules_code.specs.steps.Failure as f
 use Rattle.rules_code.specs.evaluation.Surroundings.{Contract}
-use Rattle.rules_world.specs.world.Receipts.{GroupFault, UnknownSource, GasTooHigh, FeeTooHigh, Effect, Transfer, Give, Origination, Event, Status, Applied, Backtracked, Failed, Skipped, Receipt, Refused, Done}
+use Rattle.rules_world.specs.world.Receipts.{GroupFault, UnknownSource, GasTooHigh, FeeTooHigh, Effect, Transfer, Give, Origination, Event, Storage, Status, Applied, Backtracked, Failed, Skipped, Receipt, Refused, Done}
 use Rattle.rules_world.specs.world.World.{World, Account}
 use Rattle.rules_world.specs.world.Balances.{supply}
 use Rattle.rules_world.specs.world.Holdings.{held, minted_ever, burnt_ever, identities}
@@ -59,6 +59,7 @@ failure_node (f.ill_typed location) = located (codes "IllTyped") location
 failure_node (f.bad_storage location) = located (codes "BadStorage") location
 failure_node f.unregistered_delegate = word (codes "UnregisteredDelegate")
 failure_node f.ticket_short = word (codes "TicketShort")
+failure_node f.cannot_pay_burn = word (codes "CannotPayBurn")
 
 -- ---- effects
 
@@ -83,6 +84,7 @@ effect_node (Give sender destination issuer kind content amount changes) =
     over (codes "Give") (bytes sender ∷ bytes destination ∷ bytes issuer ∷ kind ∷ content ∷ int amount ∷ changes_node changes ∷ [])
 effect_node (Origination sender address amount) = over (codes "Origination") (bytes sender ∷ bytes address ∷ number amount ∷ [])
 effect_node (Event sender tag kind value) = over (codes "Event") (bytes sender ∷ str tag ∷ kind ∷ value ∷ [])
+effect_node (Storage address count burn) = over (codes "Storage") (bytes address ∷ number count ∷ number burn ∷ [])
 
 -- ---- receipts
 
@@ -113,17 +115,27 @@ held_node holding = over (codes "Held") (ticket_fields holding.0.issuer holding.
 abbrev pub account_node : List ℕ × Account → Tree
 account_node account = over (codes "Account") (bytes account.0 ∷ number account.1.balance ∷ sequence (map held_node account.1.holdings) ∷ [])
 
-abbrev pub contract_node : List ℕ × Contract → Tree
-contract_node contract =
-    over (codes "Contract") (bytes (contract_place contract.0) ∷ number contract.1.balance ∷ canonical contract.1.storage ∷ [])
+-- the bytes that a contract has paid for, where there is a rate
+abbrev pub paid_nodes : Option ℕ → Contract → List Tree
+paid_nodes (Some rate) c = number c.paid ∷ []
+paid_nodes None c = []
+
+abbrev pub contract_node : Option ℕ → List ℕ × Contract → Tree
+contract_node rate contract =
+    over (codes "Contract")
+    (bytes (contract_place contract.0) ∷ number contract.1.balance ∷ canonical contract.1.storage ∷ paid_nodes rate contract.1)
 
 -- a ticket, with what was minted of it, what was burnt and what is held
 abbrev pub ticket_node : World → Identity → Tree
 ticket_node w id =
     over (codes "Tickets") (ticket_fields id.issuer id.kind id.content ++ int (minted_ever w id) ∷ int (burnt_ever w id) ∷ int (held w id) ∷ [])
 
--- accounts and contracts in the order of their bytes, tickets in theirs, the fees, and all balances and fees
+abbrev pub burn_nodes : Option ℕ → ℕ → List Tree
+burn_nodes (Some rate) burn = over (codes "StorageBurn") (number burn ∷ []) ∷ []
+burn_nodes None burn = []
+
+-- accounts and contracts in the order of their bytes, tickets in theirs, the fees, what was burnt for storage, and all mutez
 abbrev pub state_nodes : World → List Tree
 state_nodes w =
-    map account_node w.accounts ++ (map contract_node w.contracts ++ (map (ticket_node w) (identities w.log)
-    ++ over (codes "Fees") (number w.fees ∷ []) ∷ over (codes "Supply") (number (supply w) ∷ []) ∷ []))
+    map account_node w.accounts ++ (map (contract_node w.rate) w.contracts ++ (map (ticket_node w) (identities w.log)
+    ++ over (codes "Fees") (number w.fees ∷ []) ∷ (burn_nodes w.rate w.storage_burn ++ over (codes "Supply") (number (supply w) ∷ []) ∷ [])))

@@ -52,12 +52,13 @@ fee_taken w from fee = record (with_less w from fee) { fees = w.fees + fee }
 
 -- ---- all mutez
 
--- all balances and the fees
+-- all balances, the fees and what was burnt
 abbrev pub supply : World → ℕ
 supply w =
     sum_by (λ account. account.balance) (values_of w.accounts)
     + sum_by (λ contract. contract.balance) (values_of w.contracts)
     + w.fees
+    + w.storage_burn
 
 -- what a grant comes to: an account is made once, and no more than 2^63 - 1 mutez are granted in all
 pub data Grant : Type 0 where

@@ -12,6 +12,7 @@ use Rattle.rules_code.specs.evaluation.Operations.{new_contract}
 use Rattle.rules_world.specs.world.Receipts.{Origination}
 use Rattle.rules_world.specs.world.World.{World, with_contract}
 use Rattle.rules_world.specs.world.Balances.{balance_or_none, with_less}
+use Rattle.rules_world.specs.world.Growth.{growing}
 use Rattle.rules_world.specs.world.Outcomes.{Setting, Counts, Outcome, applied, failed, charged}
 use Rattle.rules_world.specs.world.Arguments.{literal_in}
 
@@ -25,7 +26,7 @@ pub record Founding : Type 0 where
 
 abbrev pub founded : World → Founding → World
 founded w f =
-    with_contract (with_less w f.sender f.balance) f.hash (record { balance = f.balance; script = f.script; storage = f.storage })
+    with_contract (with_less w f.sender f.balance) f.hash (record { balance = f.balance; paid = 0; script = f.script; storage = f.storage })
 
 -- where the sender has the balance, the contract is made
 abbrev pub founding_outcome : Bool → World → Founding → ℕ → Counts → Outcome
@@ -38,8 +39,9 @@ founding_outcome false w f gas counts = applied (record {
   counts = counts;
 })
 
-abbrev pub found_contract : World → Founding → ℕ → Counts → Outcome
-found_contract w f gas counts = founding_outcome (nat_lt (balance_or_none w f.sender) f.balance) w f gas counts
+-- all that a new contract is counts as growth
+abbrev pub found_contract : Setting → World → Founding → ℕ → Counts → Outcome
+found_contract s w f gas counts = growing s f.hash (founding_outcome (nat_lt (balance_or_none w f.sender) f.balance) w f gas counts)
 
 -- ---- by a content
 
@@ -57,7 +59,7 @@ founding_of s counts balance t v = record {
 }
 
 abbrev pub with_storage : Found Val → Setting → World → ℕ → Tree → ℕ → Counts → Outcome
-with_storage (found v) s w balance t gas counts = found_contract w (founding_of s counts balance t v) gas (one_more counts)
+with_storage (found v) s w balance t gas counts = found_contract s w (founding_of s counts balance t v) gas (one_more counts)
 with_storage (fault location) s w balance t gas counts = failed (bad_storage location)
 
 abbrev pub with_script : Found Script → Setting → World → ℕ → Tree → Tree → ℕ → Counts → Outcome
@@ -71,10 +73,10 @@ originated s w balance t storage gas counts =
 
 -- ---- by a contract
 
-abbrev pub unless_delegated : Option (List ℕ) → World → Founding → ℕ → Counts → Outcome
-unless_delegated (Some delegate) w f gas counts = failed unregistered_delegate
-unless_delegated None w f gas counts = found_contract w f gas counts
+abbrev pub unless_delegated : Setting → Option (List ℕ) → World → Founding → ℕ → Counts → Outcome
+unless_delegated s (Some delegate) w f gas counts = failed unregistered_delegate
+unless_delegated s None w f gas counts = found_contract s w f gas counts
 
 abbrev pub originated_by_contract : Setting → World → Option (List ℕ) → Founding → ℕ → Counts → Outcome
 originated_by_contract s w delegate f gas counts =
-    charged s.prices price.Origination gas (λ left. unless_delegated delegate w f left counts)
+    charged s.prices price.Origination gas (λ left. unless_delegated s delegate w f left counts)

@@ -11,13 +11,15 @@ pub data GroupFault : Type 0 where
   GasTooHigh : GroupFault
   FeeTooHigh : GroupFault
 
--- What an operation did. Senders, issuers and new contracts are places, destinations addresses with their entrypoint;
--- arguments, types and contents are the nodes that are written. Changes of tickets are those of the run that it began.
+-- What an operation did. Senders, issuers and contracts are places, destinations addresses with their entrypoint;
+-- arguments, types and contents are the nodes that are written. Changes of tickets are those of the run that it began. Behind
+-- what an operation did to a contract that grew stands by how many bytes, and the mutez that were burnt for them.
 pub data Effect : Type 0 where
   Transfer : (sender destination : List ℕ) (amount : ℕ) (argument : Tree) (changes : List Change) → Effect
   Give : (sender destination issuer : List ℕ) (kind content : Tree) (amount : ℤ) (changes : List Change) → Effect
   Origination : (sender address : List ℕ) (amount : ℕ) → Effect
   Event : (sender tag : List ℕ) (kind value : Tree) → Effect
+  Storage : (address : List ℕ) (bytes burn : ℕ) → Effect
 
 -- A content that was applied, with the gas that it used and its effects in order; one before the one that failed; the one that
 -- failed, behind so many operations of its own; or one behind it.

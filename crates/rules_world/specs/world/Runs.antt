@@ -20,6 +20,7 @@ use Rattle.rules_world.specs.world.Receipts.{Effect}
 use Rattle.rules_world.specs.world.World.{World, contract_at, with_contract}
 use Rattle.rules_world.specs.world.Balances.{balance_or_none}
 use Rattle.rules_world.specs.world.Holdings.{minted_ever}
+use Rattle.rules_world.specs.world.Growth.{growing}
 use Rattle.rules_world.specs.world.Outcomes.{Setting, Waiting, issued, Counts, Outcome, applied, failed, stuck}
 use Rattle.rules_world.specs.world.Targets.{Target, wrapped}
 
@@ -197,6 +198,7 @@ with_effect hash effect (finished f) = applied (record {
 with_effect hash effect (run_failed failure) = failed failure
 with_effect hash effect run_stuck = stuck
 
--- an operation whose effect is a run
+-- an operation whose effect is a run, and behind it the growth of the contract
 abbrev pub run : Setting → World → Call → ℕ → Counts → (List Change → Effect) → Outcome
-run s w c gas counts effect = with_effect c.target.hash effect (run_in (environment_of s w c) s w c.target c.argument gas counts)
+run s w c gas counts effect =
+    growing s c.target.hash (with_effect c.target.hash effect (run_in (environment_of s w c) s w c.target c.argument gas counts))

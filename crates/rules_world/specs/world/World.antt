@@ -1,5 +1,5 @@
 -- Accounts and contracts, with their mutez and tickets (Octez "Accounts and addresses", "Tickets").
-use Rattle.std.specs.Prelude.{ℕ, ℤ, List, [], drop, Option, unwrap_or}
+use Rattle.std.specs.Prelude.{ℕ, ℤ, List, [], drop, Option, None, unwrap_or}
 use Rattle.std.specs.declared.cmp.Ordering.{Ordering}
 use Rattle.std.specs.Ordering.{nat_cmp, ordering_then}
 use Rattle.std.specs.Cmp.Lexicographic.{slice_cmp}
@@ -32,7 +32,8 @@ pub record Account : Type 0 where
   pub holdings : List (Identity × ℤ)
 
 -- where and when operations are applied; the accounts by the bytes of their key hashes, and the contracts by their 20 bytes;
--- the fees taken, and all that was granted, both in mutez; and all changes of tickets by operations that were applied
+-- the fees taken, what was burnt for storage, and all that was granted, each in mutez; the rate, in mutez for a byte of storage,
+-- if there is one; and all changes of tickets by operations that were applied
 pub record World : Type 0 where
   pub chain : List ℕ
   pub level : ℕ
@@ -40,12 +41,14 @@ pub record World : Type 0 where
   pub accounts : List (List ℕ × Account)
   pub contracts : List (List ℕ × Contract)
   pub fees : ℕ
+  pub storage_burn : ℕ
   pub granted : ℕ
+  pub rate : Option ℕ
   pub log : List Change
 
 abbrev pub new_world : List ℕ → ℕ → ℤ → World
 new_world chain level moment =
-    record { chain = chain; level = level; moment = moment; accounts = []; contracts = []; fees = 0; granted = 0; log = [] }
+    record { chain = chain; level = level; moment = moment; accounts = []; contracts = []; fees = 0; storage_burn = 0; granted = 0; rate = None; log = [] }
 
 -- ---- who is there
 

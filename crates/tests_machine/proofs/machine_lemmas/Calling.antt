@@ -60,7 +60,7 @@ module _ (node : Tree) (s : PlainScript) (read : script node ≡ found s) (small
   w = plain_home own_hash node
 
   abbrev c : List ℕ × PlainContract
-  c = (own_hash, record { balance = 0; script = node; storage = unit })
+  c = (own_hash, record { balance = 0; paid = 0; script = node; storage = unit })
 
   stores : IsGoodContract w c
   stores = (s, read, small, subst (λ (a : Kind). FitsIn w a unit) (sym of_unit) refl)

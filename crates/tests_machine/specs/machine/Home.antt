@@ -1,5 +1,5 @@
 -- A world of one contract, without mutez, big maps and tickets.
-use Rattle.std.specs.Prelude.{◌≡◌, ◌<◌, ◌^◌, ℕ, pos, List, [], ◌∷◌, replicate}
+use Rattle.std.specs.Prelude.{◌≡◌, ◌<◌, ◌^◌, ℕ, pos, None, List, [], ◌∷◌, replicate}
 use Rattle.rules_text.specs.nodes.Tree.{Tree, size}
 use Rattle.rules_data.specs.types.Kind.{simple}
 use Rattle.rules_data.specs.declared.types.Simple.TheVariants as named
@@ -36,9 +36,11 @@ plain_home hash node = record {
   level = 1;
   moment = pos 0;
   accounts = (source, no_account) ∷ [];
-  contracts = (hash, record { balance = 0; script = node; storage = unit }) ∷ [];
+  contracts = (hash, record { balance = 0; paid = 0; script = node; storage = unit }) ∷ [];
   fees = 0;
+  storage_burn = 0;
   granted = 0;
+  rate = None;
   log = [];
 }
 

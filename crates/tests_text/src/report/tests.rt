@@ -143,6 +143,15 @@ fn an_origination(rt: HostRuntime) -> Result<(), Fail> {
     Ok(())
 }
 
+#[test]
+fn growth_that_is_charged(rt: HostRuntime) -> Result<(), Fail> {
+    let line =
+        "Group 2 { Applied 1 { Storage 0x01000000000000000100000000000000000000000000 33 99 } }";
+    let effect = Effect::Storage(contract(), 33, 99);
+    assert!(rt; is_effect(rt.alloc(), 1, effect, line)?);
+    Ok(())
+}
+
 fn telling(alloc: Global) -> Result<Effect, Memory> {
     let ty = bare(alloc, b"unit")?;
     let tag = Text::from_slice(alloc, b"c")?;

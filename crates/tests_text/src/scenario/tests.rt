@@ -210,6 +210,17 @@ fn an_account(rt: HostRuntime) -> Result<(), Fail> {
 }
 
 #[test]
+fn a_profile(rt: HostRuntime) -> Result<(), Fail> {
+    let alloc = rt.alloc();
+    let found = form_of(alloc, "Profile 2 1000000")?;
+    assert!(rt; matches!(found, Some(Statement::Profile(1_000_000))));
+    assert!(rt; form_of(alloc, "Profile 2 1000001")?.is_none());
+    assert!(rt; form_of(alloc, "Profile 1 3")?.is_none());
+    assert!(rt; form_of(alloc, "Profile 2")?.is_none());
+    Ok(())
+}
+
+#[test]
 fn an_empty_table_of_prices(rt: HostRuntime) -> Result<(), Fail> {
     assert!(rt; matches!(form_of(rt.alloc(), "Costs {}")?, Some(Statement::Costs(_))));
     Ok(())

@@ -1,10 +1,8 @@
 // Literals by their texts: the canonical literal of what is read, and where a literal doesn't fit. The texts are of the
 // Michelson reference, "Types", and their rows stand in the order of its types.
 use crate::support::{node, ty};
-use mich_base::{Link, Memory, Node, Text, Ty, size_within};
-use mich_data::{Pending, Read, ValueError, read_value, value_node};
-use mich_forms::{KeyHash, Place};
-use mich_term::{Datum, Ticket, TicketId, Value};
+use mich_base::{Memory, Node, Text, Ty, size_within};
+use mich_data::{Read, ValueError, read_value, value_node};
 use mich_text::print;
 use std::alloc::Global;
 use std::test::Fail;
@@ -17,15 +15,15 @@ fn read_node(alloc: Global, ty: &Ty, node: &Node) -> Result<Read, ValueError> {
     }
 }
 
-fn printed(alloc: Global, value: &Value) -> Result<Text, Memory> {
-    let node = value_node(alloc, value)?;
+fn printed(alloc: Global, read: Read) -> Result<Text, Memory> {
+    let node = value_node(alloc, &read.value)?;
     print(alloc, &node)
 }
 
 // Whether a literal is read, and its canonical literal is this.
 fn gives(alloc: Global, of: &str, literal: &str, canonical: &str) -> Result<bool, Fail> {
     let read = read_text(alloc, of, literal)??;
-    let text = printed(alloc, &read.value)?;
+    let text = printed(alloc, read)?;
     Ok(text.as_slice() == canonical.as_bytes())
 }
 
@@ -36,10 +34,18 @@ fn read_text(alloc: Global, of: &str, literal: &str) -> Result<Result<Read, Valu
     Ok(read_node(alloc, &ty, &node))
 }
 
+// The location at which a literal is refused.
+fn refused_at(answer: Result<Read, ValueError>) -> Option<u32> {
+    match answer {
+        Err(ValueError::NotOfType(location)) => Some(location),
+        _ => None,
+    }
+}
+
 // Whether a literal is refused at this location.
 fn misfits(alloc: Global, of: &str, literal: &str, location: u32) -> Result<bool, Fail> {
     let answer = read_text(alloc, of, literal)?;
-    Ok(matches!(answer, Err(ValueError::NotOfType(l)) if l == location))
+    Ok(refused_at(answer) == Some(location))
 }
 
 // A type, a literal, and its canonical literal.
@@ -406,119 +412,32 @@ fn keys_out_of_order_are_refused_before_their_values(rt: HostRuntime) -> Result<
     all_misfit(rt.alloc(), &OUT_OF_ORDER)
 }
 
-// What is read of a pair of a body, a contract and a body that calls itself.
-fn pending(alloc: Global) -> Result<Read, Fail> {
-    Ok(read_text(
-        alloc,
-        "pair (lambda int nat) (contract unit) (lambda unit unit)",
-        "Pair { DROP } 0x01000000000000000000000000000000000000000000 (Lambda_rec %f {})",
-    )??)
-}
-
-#[test]
-fn a_body_is_pending(rt: HostRuntime) -> Result<(), Fail> {
-    let read = pending(rt.alloc())?;
-    let first = read.pending.get(0).ok_or("first")?;
-    assert!(rt;
-        matches!(
-            first,
-            Pending::Body {
-                location: 1,
-                arg: Ty::Int,
-                ret: Ty::Nat,
-                recursive: false,
-                ..
-            }
-        )
-    );
-    Ok(())
-}
-
-#[test]
-fn a_claim_is_pending(rt: HostRuntime) -> Result<(), Fail> {
-    let read = pending(rt.alloc())?;
-    let second = read.pending.get(1).ok_or("second")?;
-    assert!(rt;
-        matches!(
-            second,
-            Pending::Claim {
-                location: 3,
-                ty: Ty::Unit,
-                ..
-            }
-        )
-    );
-    Ok(())
-}
-
-#[test]
-fn a_body_that_calls_itself_is_pending(rt: HostRuntime) -> Result<(), Fail> {
-    let read = pending(rt.alloc())?;
-    let third = read.pending.get(2).ok_or("third")?;
-    assert!(rt;
-        matches!(
-            third,
-            Pending::Body {
-                location: 5,
-                arg: Ty::Unit,
-                ret: Ty::Unit,
-                recursive: true,
-                ..
-            }
-        ) && read.pending.len() == 3
-    );
-    Ok(())
-}
-
-fn ticket(alloc: Global) -> Result<Value, Memory> {
-    let id = TicketId {
-        issuer: Place::Implicit(KeyHash {
-            tag: 0,
-            hash: [0; 20],
-        }),
-        ty: Ty::Nat,
-        content: Datum::Number(7),
-    };
-    Ok(Value::Ticket(Link::new(alloc, Ticket { id, amount: 5 })?))
-}
-
-#[test]
-fn a_ticket_is_written_with_its_identity_and_amount(rt: HostRuntime) -> Result<(), Fail> {
-    let wanted = b"Ticket 0x00000000000000000000000000000000000000000000 nat 7 5";
-    assert!(rt; is_printed(rt.alloc(), &ticket(rt.alloc())?, wanted)?);
-    Ok(())
-}
-
-fn is_printed(alloc: Global, value: &Value, wanted: &[u8]) -> Result<bool, Memory> {
-    let text = printed(alloc, value)?;
-    Ok(text.as_slice() == wanted)
-}
-
-fn levels(text: &mut String, piece: &str) -> Result<(), Memory> {
-    for _ in 0..999 {
+fn repeat(text: &mut String, piece: &str, count: u32) -> Result<(), Memory> {
+    for _ in 0..count {
         text.push_str(piece)?;
     }
     Ok(())
 }
 
-// A text of 1,000 levels.
-fn nested(alloc: Global, piece: &str, last: &str) -> Result<String, Memory> {
+// A text in so many others.
+fn nested(alloc: Global, piece: &str, last: &str, count: u32) -> Result<String, Memory> {
     let mut text = String::new(alloc);
-    levels(&mut text, piece)?;
+    repeat(&mut text, piece, count)?;
     text.push_str(last)?;
-    levels(&mut text, ")")?;
+    repeat(&mut text, ")", count)?;
     Ok(text)
 }
 
-fn deep(alloc: Global) -> Result<bool, Fail> {
-    let of = nested(alloc, "(option ", "int")?;
-    let literal = nested(alloc, "(Some ", "1")?;
-    let read = read_text(alloc, of.as_str(), literal.as_str())??;
-    Ok(value_node(alloc, &read.value)? == node(alloc, literal.as_str())?)
+// Whether a literal of so many levels more than two is its own canonical literal.
+fn is_deep(alloc: Global, count: u32) -> Result<bool, Fail> {
+    let of = nested(alloc, "option (", "option int", count)?;
+    let literal = nested(alloc, "Some (", "Some 1", count)?;
+    gives(alloc, of.as_str(), literal.as_str(), literal.as_str())
 }
 
 #[test]
 fn literals_of_a_thousand_levels_are_read_and_written(rt: HostRuntime) -> Result<(), Fail> {
-    assert!(rt; deep(rt.alloc())?);
+    let same = is_deep(rt.alloc(), 998)?;
+    assert!(rt; same);
     Ok(())
 }

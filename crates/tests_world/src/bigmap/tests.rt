@@ -1,11 +1,12 @@
-// What no clause says: that the calls answer with ample memory, and that copies of a big map that was settled cost little.
+// What no clause says: that the calls answer with ample memory, that a big map may be settled often, and that copies of one that
+// was settled cost little. What is noted, kept and undone, the clauses say.
 ghost use Rattle.std.specs.Prelude.{IfOk};
 ghost use Rattle.mich_bigmap.specs.Formed.{IsFormed};
 
-use crate::support::{Recorder, empty};
+use crate::support::{Recorder, empty, identity};
 use mich_base::{Link, Memory, Rows};
 use mich_bigmap::{Store, flat, get, put, release, settle, take};
-use mich_term::{BigMap, Datum, Value, abandon, shadow};
+use mich_term::{BigMap, Datum, Ticket, Value, abandon, shadow};
 use std::alloc::Global;
 use std::test::Fail;
 
@@ -26,6 +27,16 @@ fn put_number(alloc: Global, store: &mut Store, m: &mut BigMap, n: i128) -> Resu
 {
     let old = put(alloc, store, m, Datum::Number(n), Value::Number(n))?;
     drop(old);
+    Ok(())
+}
+
+// Takes away what stands at a number.
+fn take_number(alloc: Global, store: &mut Store, m: &mut BigMap, n: i128) -> Result<(), Memory>
+    requires { IsFormed m.old }
+    ensures { IsFormed m.new }
+{
+    let taken = take(alloc, store, m, &Datum::Number(n))?;
+    drop(taken);
     Ok(())
 }
 
@@ -52,6 +63,41 @@ fn settled_often(alloc: Global, store: &mut Store, count: i128) -> Result<BigMap
     Ok(m)
 }
 
+// The same, settled once.
+fn settled(alloc: Global, store: &mut Store, count: i128) -> Result<BigMap, Memory>
+    ensures { IfOk result IsFormed }
+{
+    let m = filled(alloc, store, count)?;
+    settle(alloc, store, m)
+}
+
+// A big map of the numbers 0 to 4, settled; then 3 is taken away.
+fn lessened(alloc: Global, store: &mut Store) -> Result<BigMap, Memory>
+    ensures { IfOk result IsFormed }
+{
+    let mut m = settled(alloc, store, 5)?;
+    take_number(alloc, store, &mut m, 3)?;
+    settle(alloc, store, m)
+}
+
+// The numbers that it has at 3 and at 4.
+fn numbers_of_lessened(alloc: Global) -> Result<(i128, i128), Memory> {
+    let mut store = Store::new(alloc);
+    let m = lessened(alloc, &mut store)?;
+    Ok((number_at(&store, &m, 3), number_at(&store, &m, 4)))
+}
+
+#[test]
+fn what_is_taken_from_a_settled_big_map_is_gone(rt: HostRuntime) -> Result<(), Fail> {
+    let numbers = numbers_of_lessened(rt.alloc())?;
+    assert!(rt; numbers == (-1, 4));
+    Ok(())
+}
+
+fn alone(alloc: Global, m: BigMap) -> Result<Value, Memory> {
+    Ok(Value::BigMap(Link::new(alloc, m)?))
+}
+
 // How many entries a big map has as it is printed.
 fn printed_entries(alloc: Global, store: &Store, value: &Value) -> Result<usize, Memory> {
     let printed = flat(alloc, store, value)?;
@@ -63,144 +109,72 @@ fn printed_entries(alloc: Global, store: &Store, value: &Value) -> Result<usize,
     Ok(count)
 }
 
-// The same, settled once.
-fn settled(alloc: Global, store: &mut Store, count: i128) -> Result<BigMap, Memory>
-    ensures { IfOk result IsFormed }
-{
-    let m = filled(alloc, store, count)?;
-    settle(alloc, store, m)
-}
-
-// A big map of the numbers 0 to 4, settled; then 7 is put in it, 3 is taken away, and it is settled again.
-fn changed(alloc: Global, store: &mut Store) -> Result<BigMap, Memory>
-    ensures { IfOk result IsFormed }
-{
-    let mut m = settled(alloc, store, 5)?;
-    put_number(alloc, store, &mut m, 7)?;
-    let taken = take(alloc, store, &mut m, &Datum::Number(3))?;
-    drop(taken);
-    settle(alloc, store, m)
-}
-
-#[test]
-fn a_big_map_is_put_settled_and_changed(rt: HostRuntime) -> Result<(), Fail> {
-    let mut store = Store::new(rt.alloc());
-    let m = changed(rt.alloc(), &mut store)?;
-    assert!(rt; m.overlay.is_empty() && store.height() == 2);
-    assert!(rt;
-        number_at(&store, &m, 7) == 7
-            && number_at(&store, &m, 3) == -1
-            && number_at(&store, &m, 4) == 4
-    );
-    Ok(())
-}
-
-#[test]
-fn undoing_gives_the_first_base_alone(rt: HostRuntime) -> Result<(), Fail> {
-    let alloc = rt.alloc();
+fn entries_of_settled_often(alloc: Global, count: i128) -> Result<usize, Memory> {
     let mut store = Store::new(alloc);
-    let first = settled(alloc, &mut store, 3)?;
-    let second = settled(alloc, &mut store, 4)?;
-    assert!(rt; number_at(&store, &second, 3) == 3);
-    assert!(rt; store.height() >= 1);
-    store.undo_to(1);
-    assert!(rt;
-        store.height() == 1
-            && number_at(&store, &first, 2) == 2
-            && number_at(&store, &second, 3) == -1
-    );
-    Ok(())
-}
-
-#[test]
-fn only_what_is_noted_is_kept(rt: HostRuntime) -> Result<(), Fail> {
-    let alloc = rt.alloc();
-    let mut store = Store::new(alloc);
-    let mut first = settled(alloc, &mut store, 3)?;
-    let second = settled(alloc, &mut store, 4)?;
-    put_number(alloc, &mut store, &mut first, 9)?;
-    let over = settle(alloc, &mut store, first)?;
-    let over = Value::BigMap(Link::new(alloc, over)?);
-    store.note(&over);
-    store.keep();
-    assert!(rt; store.height() == 0);
-    assert!(rt; number_at(&store, &second, 3) == -1);
-    assert!(rt; printed_entries(alloc, &store, &over)? == 4);
-    Ok(())
-}
-
-#[test]
-fn what_was_taken_away_stays_away_when_bases_merge(rt: HostRuntime) -> Result<(), Fail> {
-    let alloc = rt.alloc();
-    let mut store = Store::new(alloc);
-    let mut m = settled(alloc, &mut store, 3)?;
-    let first = take(alloc, &mut store, &mut m, &Datum::Number(1))?;
-    let second = take(alloc, &mut store, &mut m, &Datum::Number(2))?;
-    assert!(rt; first.is_some() && second.is_some());
-    let m = settle(alloc, &mut store, m)?;
-    assert!(rt; number_at(&store, &m, 0) == 0 && number_at(&store, &m, 1) == -1);
-    let value = Value::BigMap(Link::new(alloc, m)?);
-    assert!(rt; printed_entries(alloc, &store, &value)? == 1);
-    Ok(())
+    let m = settled_often(alloc, &mut store, count)?;
+    let value = alone(alloc, m)?;
+    printed_entries(alloc, &store, &value)
 }
 
 // Each call of a contract settles its big map once.
 #[test]
 fn a_big_map_is_settled_behind_each_of_5_000_entries(rt: HostRuntime) -> Result<(), Fail> {
-    let alloc = rt.alloc();
-    let mut store = Store::new(alloc);
-    let m = settled_often(alloc, &mut store, 5_000)?;
-    assert!(rt; number_at(&store, &m, 0) == 0 && number_at(&store, &m, 4_999) == 4_999);
-    let value = Value::BigMap(Link::new(alloc, m)?);
-    assert!(rt; printed_entries(alloc, &store, &value)? == 5_000);
+    let count = entries_of_settled_often(rt.alloc(), 5_000)?;
+    assert!(rt; count == 5_000);
     Ok(())
 }
 
-// 20,000 entries, settled; then copies are made and ended.
-#[test]
-fn copies_of_a_settled_big_map_cost_little(rt: HostRuntime) -> Result<(), Fail> {
-    let alloc = rt.alloc();
-    let mut store = Store::new(alloc);
-    let m = settled(alloc, &mut store, 20_000)?;
-    let value = Value::BigMap(Link::new(alloc, m)?);
-    for _ in 0..1_000_000 {
-        let copy = shadow(alloc, &value)?;
+// Makes copies of a value, and ends each.
+fn copy_often(alloc: Global, value: &Value, count: u32) -> Result<(), Memory> {
+    for _ in 0..count {
+        let copy = shadow(alloc, value)?;
         abandon(copy);
     }
-    assert!(rt; printed_entries(alloc, &store, &value)? == 20_000);
     Ok(())
 }
 
-// A copy of a big map over the same base.
-fn over_base(alloc: Global, m: &BigMap) -> Result<Value, Memory> {
-    let copy = BigMap {
-        shares: m.shares,
-        base: m.base,
-        overlay: Rows::new(alloc),
-    };
-    Ok(Value::BigMap(Link::new(alloc, copy)?))
+fn copy_settled_often(alloc: Global, entries: i128, copies: u32) -> Result<(), Memory> {
+    let mut store = Store::new(alloc);
+    let m = settled(alloc, &mut store, entries)?;
+    let value = alone(alloc, m)?;
+    copy_often(alloc, &value, copies)
 }
 
-// How many tickets are told of a big map that is released.
-fn released(alloc: Global, m: BigMap) -> Result<usize, Memory> {
+#[test]
+fn copies_of_a_settled_big_map_cost_little(rt: HostRuntime) -> Result<(), Fail> {
+    copy_settled_often(rt.alloc(), 20_000, 1_000_000)?;
+    Ok(())
+}
+
+// So many tickets of content 7.
+fn tickets(alloc: Global, amount: i128) -> Result<Value, Memory> {
+    let id = identity(7);
+    Ok(Value::Ticket(Link::new(alloc, Ticket { id, amount })?))
+}
+
+// A big map of its own with 5 tickets at 1.
+fn of_tickets(alloc: Global) -> Result<BigMap, Memory> {
+    let mut overlay = Rows::new(alloc);
+    overlay.push((Datum::Number(1), Some(tickets(alloc, 5)?)))?;
+    Ok(BigMap {
+        shares: false,
+        base: None,
+        overlay,
+    })
+}
+
+// How many tickets are told of it where it is released.
+fn released(alloc: Global) -> Result<usize, Memory> {
     let mut recorder = Recorder {
         tickets: Rows::new(alloc),
     };
-    release(alloc, m, &mut recorder)?;
+    release(alloc, of_tickets(alloc)?, &mut recorder)?;
     Ok(recorder.tickets.len())
 }
 
-// A copy over the same base has all entries still.
 #[test]
-fn the_base_of_a_big_map_that_was_released_stays(rt: HostRuntime) -> Result<(), Fail> {
-    let alloc = rt.alloc();
-    let mut store = Store::new(alloc);
-    let m = settled(alloc, &mut store, 3)?;
-    let copy = over_base(alloc, &m)?;
-    assert!(rt; released(alloc, m)? == 0 && store.height() == 1);
-    assert!(rt; printed_entries(alloc, &store, &copy)? == 3);
-    store.undo_to(0);
-    assert!(rt; store.height() == 0 && printed_entries(alloc, &store, &copy)? == 0);
-    abandon(copy);
+fn the_tickets_of_a_big_map_that_is_released_are_told(rt: HostRuntime) -> Result<(), Fail> {
+    let count = released(rt.alloc())?;
+    assert!(rt; count == 1);
     Ok(())
 }

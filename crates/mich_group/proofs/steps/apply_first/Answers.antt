@@ -31,5 +31,5 @@ returns-clause-steps c = λ start w contents g.
     let sent = ap (all_sent v.store.bases.present) (c.in_ok-send.ensures ∙ ap (λ (t : List Sent). t ++ reverse (map (sent_by a.by) a.emitted)) c.requires.nothing)
     ∙ all_sent_more v.store.bases.present a.by [] a.emitted in
     stepped s w (op ∷ []) [] op c.args.meter.now c.apply_action.new.meter (counts_of c.args.counts.now) v c.args.counts.now c.apply_action.new.counts a
-    c.send.new.waiting c.args.effects.now c.push.new.self refl
-    (c.in_ok-applied.ensures.ends w (begins_with start w s contents c.args.world.now op [] (counts_of c.args.counts.now) g)) sent c.in_ok-push.ensures.pushed
+    c.send.new.waiting c.args.effects.now c.tell.new.effects refl
+    (c.in_ok-applied.ensures.ends w (begins_with start w s contents c.args.world.now op [] (counts_of c.args.counts.now) g)) sent c.in_ok-tell.ensures

@@ -42,8 +42,8 @@ returns-clause-steps c = λ start w contents g.
     (goes_last start w s contents u c.args.waiting.now ss c.in-Some.next (counts_of c.args.counts.now) c.in-Some.ensures g) in
     let held = handed_front u ss c.in-Some.next (subst (AreHanded u) c.in-Some.ensures c.requires.handed) in
     stepped s w (all_sent bs c.args.waiting.now) (all_sent bs ss) op c.args.meter.now c.apply_issued.new.meter (counts_of c.args.counts.now) v c.args.counts.now c.apply_issued.new.counts a
-    c.send.new.waiting c.args.effects.now c.push.new.self first (c.in_ok-applied.ensures.ends w b)
-    (sent_now u v a.by a.emitted ss c.send.new.waiting c.in_ok-send.ensures c.in_ok-applied.ensures.bases held) c.in_ok-push.ensures.pushed
+    c.send.new.waiting c.args.effects.now c.tell.new.effects first (c.in_ok-applied.ensures.ends w b)
+    (sent_now u v a.by a.emitted ss c.send.new.waiting c.in_ok-send.ensures c.in_ok-applied.ensures.bases held) c.in_ok-tell.ensures
 
 pub returns-clause-handed : goal.returns-clause-handed
 returns-clause-handed c =

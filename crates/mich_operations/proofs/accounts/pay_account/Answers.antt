@@ -29,7 +29,7 @@ returns-clause-ends c = λ w argument gas counts b.
     let stored = c.store.ensures ∙ ap (λ (w : World). w.store) c.in-Ok.ensures.others in
     pays c.args.world.now w c.args.from.now c.args.to.now c.args.entry.now c.args.amount argument
     (val_in c.args.world.now.store.bases.present c.args.value.now) gas counts b c.move_mutez.new.self c.in_ok-argument.argument c.moved.result
-    c.moved.ensures.effect c.moved.ensures.emitted c.if-amount-eq0.false c.requires.plain c.requires.there c.in-Ok.ensures.answer.1
+    c.moved.ensures.effect c.moved.ensures.emitted c.moved.ensures.growth c.if-amount-eq0.false c.requires.plain c.requires.there c.in-Ok.ensures.answer.1
     c.in-Ok.ensures.others c.in-Ok.ensures.answer.2
     (c.in_ok-argument.ensures ∙ ap (λ (s : Stored). canonical (val_in s.bases.present c.args.value.now)) stored)
 

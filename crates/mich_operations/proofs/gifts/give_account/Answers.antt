@@ -57,7 +57,7 @@ returns-clause-ends c = λ w prices group gas counts given.
     c.credit.new.world k.world (taken_comes c.args.id.now c.args.amount c.in_ok-ticket.ticket t.1 c.open_account.new.world c.credit.new.world c.args.to.now k.moves)
     prices group c.args.entry.now gas counts _ named (rw e at (c.in_ok-effect.ensures prices group)
     ∙ ap (λ (cs : List Change). give_effect (setting_of prices group c.args.source.now) (gift (tickets_of c.args.id.now c.args.amount) (place.Implicit c.args.to.now) c.args.entry.now) (map change cs))
-    c.new.ensures) c.new-2.ensures
+    c.new.ensures) c.new-2.ensures refl
 
 pub returns-clause-hosting : goal.returns-clause-hosting
 returns-clause-hosting c = λ h.

@@ -32,7 +32,7 @@ returns-in_ok-effect-in-Ok-clause-ends c = λ w t ready.
     (give_effect (setting_of (listed c.args.costs.now) c.args.counts.now.group c.args.source.now) (gift (tickets_of c.args.id.now c.args.amount) (place.Contract c.args.to.now) c.args.name.now))
     c.args.meter.now c.run.new.meter c.run.new.world c.run.new.counts c.in-Ok.done _
     (rw (to_z-of_z w128 c.args.amount c.ranges.amount) at (c.in_ok-effect-in-Ok.ensures (listed c.args.costs.now) c.args.counts.now.group))
-    refl refl c.requires.there (c.in-Ok.ensures.ends w t calls)
+    refl refl refl c.requires.there (c.in-Ok.ensures.ends w t calls)
 
 pub returns-in_ok-effect-in-Ok-clause-contracts : goal.returns-in_ok-effect-in-Ok-clause-contracts
 returns-in_ok-effect-in-Ok-clause-contracts c =

@@ -54,7 +54,7 @@ returns-else-is_some-clause-ends c = λ w b.
     subst (λ (op : Issued). EndsAs (apply s w (issued_by v.store.bases.present c.args.by op) c.args.meter.now (counts_of c.args.counts.now)) c.found.new.world c.charge-in-Origination.new.meter
     c.args.counts.now c.args.counts.now c.found.result) (sym o.is)
     (makes v w s c.args.by o.number o.delegate o.amount o.script o.storage o.hash c.found.new.world c.args.meter.now c.charge-in-Origination.new.meter c.args.counts.now c.found.result paid.0 paid.1 none
-    (c.found.ensures.ends w c.charge-in-Origination.new.meter c.args.counts.now
+    (c.found.ensures.ends (listed c.args.costs.now) w c.charge-in-Origination.new.meter c.args.counts.now.group c.args.counts.now
     (pays_for v w s c.args.by o.number o.delegate o.amount o.script o.storage o.hash (counts_of c.args.counts.now) begins)))
 
 pub returns-in_ok-charge-in-Event-clause-ends : goal.returns-in_ok-charge-in-Event-clause-ends

@@ -16,7 +16,7 @@ use Rattle.mich_tickets.specs.Carrying.{MayEnter}
 use Rattle.mich_world.specs.Holders.{contract_at}
 use Rattle.mich_world.specs.Storages.{owner_of}
 use Rattle.mich_operations.proofs.Issuing.{keeps_either}
-use Rattle.mich_operations.proofs.Orders.{absent_there, ends_founded, ends_unstored, originations_within, source_pays, storage_enters, storage_formed}
+use Rattle.mich_operations.proofs.Orders.{absent_there, ends_founded, ends_unstored, originations_within, source_founds, storage_enters, storage_formed}
 use Rattle.mich_operations.proofs.Whole.{whole_based, whole_stands}
 use Rattle.mich_operations.proofs.originating.originate.Goals as goal
 
@@ -81,4 +81,7 @@ returns-clause-ends c = λ prices w gas b.
     ends_founded w s c.args.balance t (tree c.args.storage.now) c.found.new.world gas c.args.counts.now r.0 a read r.2 bs _ _ held v c.new_contract-hash.result c.found.result
     (c.in_ok-value.ensures.storage w b.stands) (whole_stands bs a v c.in_ok-value.ensures.whole (c.in_ok-value.ensures.formed (storage_formed k c.in_ok-typed.ensures.1)))
     (ap script_node c.in_ok-new.ensures ∙ c.in_ok-typed.ensures.0) c.new_contract-hash.ensures refl refl
-    (c.found.ensures.ends w gas _ (source_pays c.args.world.now w s c.args.balance t (tree c.args.storage.now) (counts_of c.args.counts.now) b))
+    (c.found.ensures.ends prices w gas c.args.counts.now.group _
+    (source_founds c.args.world.now w s c.args.balance t (tree c.args.storage.now) (counts_of c.args.counts.now) b r.0 a read r.2 bs held v c.new_contract-hash.result
+    (c.in_ok-value.ensures.storage w b.stands) (whole_stands bs a v c.in_ok-value.ensures.whole (c.in_ok-value.ensures.formed (storage_formed k c.in_ok-typed.ensures.1)))
+    (ap script_node c.in_ok-new.ensures ∙ c.in_ok-typed.ensures.0) c.new_contract-hash.ensures))

@@ -33,7 +33,7 @@ returns-in-Ok-clause-ends c = λ w t ready.
     c.args.meter.now c.run.new.meter c.run.new.world c.run.new.counts c.in-Ok.done _
     (transfer_told c.args.from.now c.args.to.now c.args.name.now c.args.amount x c.in_ok-literal.literal c.in-Ok.done.changes
     (c.in_ok-literal.ensures ∙ ap (λ (s : Stored). canonical (val_in s.bases.present c.args.argument)) c.store.ensures))
-    refl refl c.requires.there (c.in-Ok.ensures.ends w t calls)
+    refl refl refl c.requires.there (c.in-Ok.ensures.ends w t calls)
 
 pub returns-in-Ok-clause-contracts : goal.returns-in-Ok-clause-contracts
 returns-in-Ok-clause-contracts c =

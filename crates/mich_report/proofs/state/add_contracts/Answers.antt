@@ -20,13 +20,13 @@ contracts-preserved c =
     elim c.match-contract.branch [
       | in-Some+in_ok-contract_line+in_ok-push b ↦
           let there : contract_at h hash ≡ Some b.in-Some.contract.now = search rules in
-          let text : b.in_ok-contract_line.field-0 ≡ line (contract_node (hash, plain bs b.in-Some.contract.now)) = search rules in
-          found_more (λ k x. contract_node (k, plain bs x)) (contract_at h) c.contracts.lines c.match-contract.lines _ (drop index items) (drop (index + 1) items)
+          let text : b.in_ok-contract_line.field-0 ≡ line (contract_node h.rate (hash, plain bs b.in-Some.contract.now)) = search rules in
+          found_more (λ k x. contract_node h.rate (k, plain bs x)) (contract_at h) c.contracts.lines c.match-contract.lines _ (drop index items) (drop (index + 1) items)
           hash b.in-Some.contract.now first c.contracts.invariant there
           (b.lines-is ∙ b.in_ok-push.ensures.pushed ∙ ap (λ (t : List ℕ). c.contracts.lines ++ t ∷ []) text)
       | in_default b ↦
           let there : contract_at h hash ≡ None = search rules in
-          none_more (λ k x. contract_node (k, plain bs x)) (contract_at h) c.contracts.lines c.match-contract.lines _ (drop index items) (drop (index + 1) items)
+          none_more (λ k x. contract_node h.rate (k, plain bs x)) (contract_at h) c.contracts.lines c.match-contract.lines _ (drop index items) (drop (index + 1) items)
           hash first c.contracts.invariant there b.lines-is
     ]
 

@@ -43,3 +43,15 @@ returns-in-Lsl c = λ big. subst (λ q. IsKept (number_step (number_row q) (valu
 
 pub returns-in-Lsr : goal.returns-in-Lsr
 returns-in-Lsr c = λ big. subst (λ q. IsKept (number_step (number_row q) (values big c.args.stack.now)) (values big c.shift_right.new.stack) c.shift_right.result) (sym c.in-Lsr.is) (c.shift_right.ensures big)
+
+pub returns-in-NatToBytes : goal.returns-in-NatToBytes
+returns-in-NatToBytes c = λ big. subst (λ q. IsKept (number_step (number_row q) (values big c.args.stack.now)) (values big c.nat_to_bytes.new.stack) c.nat_to_bytes.result) (sym c.in-NatToBytes.is) (c.nat_to_bytes.ensures big)
+
+pub returns-in-IntToBytes : goal.returns-in-IntToBytes
+returns-in-IntToBytes c = λ big. subst (λ q. IsKept (number_step (number_row q) (values big c.args.stack.now)) (values big c.int_to_bytes.new.stack) c.int_to_bytes.result) (sym c.in-IntToBytes.is) (c.int_to_bytes.ensures big)
+
+pub returns-in-BytesToNat : goal.returns-in-BytesToNat
+returns-in-BytesToNat c = λ big. subst (λ q. IsKept (number_step (number_row q) (values big c.args.stack.now)) (values big c.bytes_to_nat.new.stack) c.bytes_to_nat.result) (sym c.in-BytesToNat.is) (c.bytes_to_nat.ensures big)
+
+pub returns-in-BytesToInt : goal.returns-in-BytesToInt
+returns-in-BytesToInt c = λ big. subst (λ q. IsKept (number_step (number_row q) (values big c.args.stack.now)) (values big c.bytes_to_int.new.stack) c.bytes_to_int.result) (sym c.in-BytesToInt.is) (c.bytes_to_int.ensures big)

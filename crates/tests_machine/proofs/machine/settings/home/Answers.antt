@@ -42,7 +42,7 @@ installed chain level u v who s r new typed small of_unit stored stands answer o
     by : (AreStored (no_world chain level (pos 0)) → AreStored v) →
         Installs (place.Implicit who) HOME 0 s value.Unit (no_world chain level (pos 0)) v → IsHome HOME v
     by stored a = record {
-      contract = record { balance = 0; script = s; storage = a.storage };
+      contract = record { balance = 0; paid = 0; script = s; storage = a.storage };
       alone = ap (λ h. h.contracts) a.funds;
       balance = refl;
       typed = typed;

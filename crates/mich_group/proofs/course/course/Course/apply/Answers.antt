@@ -8,8 +8,8 @@ apply_group-requires-clause-good c =
     let f = c.requires.follows.1 in
     (c.requires.follows.0.world, f.stands, may_apply c.args.group.now.source (contents_of c.args.group.now) f c.requires.few c.requires.ranges)
 
-pub returns : goal.returns
-returns c = λ p f.
+pub returns-clause-goes : goal.returns-clause-goes
+returns-clause-goes c = λ p f.
     let may = may_apply c.args.group.now.source (contents_of c.args.group.now) f c.requires.few c.requires.ranges in
     let hosting = c.in_ok-receipt.ensures.hosting in
     let e = c.end_marks.ensures in

@@ -1,3 +1,0 @@
-//! Tests of `mich_pack`, by its public calls.
-#[cfg(test)]
-mod tests;
