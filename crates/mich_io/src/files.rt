@@ -1,5 +1,5 @@
 // Files that are read from their beginning.
-ghost use Rattle.std.specs.Prelude.{◌≡◌, ◌<◌, ◌≤◌, ℕ, List, length, Contains, OnOk, OnErr, IsErrOf};
+ghost use Rattle.std.specs.Prelude.{◌≡◌, ◌<◌, ◌≤◌, ℕ, List, length, Contains, OnOk, OnErr};
 ghost use Rattle.std.specs.declared.option.Option.{Option};
 ghost use Rattle.std.specs.Io.{ReadsAtMost};
 ghost use Rattle.std.specs.Io.KnownBytes.{ReadConsumes};
@@ -8,13 +8,13 @@ ghost use Rattle.rules_text.specs.streams.Known.{SameFiles};
 
 use thiserror::Error;
 
-/// Why a call on files gave up.
+/// Why a call on files gave up. What is left of the file stays.
 #[derive(Clone, Copy, Debug, PartialEq, Eq, Error)]
 pub enum FilesFault {
     /// The file could not be started or read. The count of faults rose.
     #[error("the file could not be read")]
     Failed,
-    /// There was no memory. What is left of the file stays.
+    /// There was no memory.
     #[error("out of memory")]
     Memory,
 }
@@ -33,11 +33,11 @@ pub trait Files {
     /// How many calls have failed, at most 2^64-1. It never falls.
     ghost faults: { Self → ℕ };
 
-    /// Goes to the beginning of a file that is lent. After `Memory` what is left of the former file stays.
+    /// Goes to the beginning of a file that is lent. After an `Err` what is left of the former file stays.
     fn start(&mut self, path: &str) -> Result<(), FilesFault>
         requires { Contains (lent self.old) path.now }
         ensures started { OnOk result (left self.new ≡ content self.old path.now) }
-        ensures memory { IsErrOf result FilesFault.Memory → left self.new ≡ left self.old }
+        ensures stays { OnErr result (left self.new ≡ left self.old) }
         ensures same { SameFiles (lent self.old) (lent self.new) (content self.old) (content self.new) }
         ensures cause { HasCause FilesFault.Failed (faults self.old) (faults self.new) result };
 

@@ -66,7 +66,7 @@ impl Files for HonestFiles {
         ensures exact { self.new ≡ record self.old { left = self.old.content } }
         ensures done { IsOk result }
         ensures started { OnOk result (Some self.new.left ≡ content_at self.old.path self.old.content _path.now) }
-        ensures memory { IsErrOf result FilesFault.Memory → Some self.new.left ≡ Some self.old.left }
+        ensures stays { OnErr result (Some self.new.left ≡ Some self.old.left) }
         ensures same { SameFiles (self.old.path ∷ []) (self.new.path ∷ []) (content_at self.old.path self.old.content) (content_at self.new.path self.new.content) }
         ensures cause { HasCause FilesFault.Failed 0 0 result }
     {

@@ -124,7 +124,7 @@ impl Files for MemFiles {
         ensures fault { IfErr result (λ e. e ≡ FilesFault.Failed) }
         ensures exact { self.new ≡ (if is_err result then call_failed self.old else started self.old path.now) }
         ensures started { OnOk result (self.new.left ≡ content_in self.old.files path.now) }
-        ensures memory { IsErrOf result FilesFault.Memory → self.new.left ≡ self.old.left }
+        ensures stays { OnErr result (self.new.left ≡ self.old.left) }
         ensures same { SameFiles self.old.lent self.new.lent (content_in self.old.files) (content_in self.new.files) }
         ensures cause { HasCause FilesFault.Failed self.old.faults self.new.faults result }
     {

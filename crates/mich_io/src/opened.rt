@@ -75,9 +75,9 @@ impl<O: Opener + Drop> Files for OpenedFiles<O> {
         ensures ok { OnOk result (self.new.faults ≡ self.old.faults) }
         ensures failed { IsErrOf result FilesFault.Failed → self.new.faults ≡ one_more self.old.faults }
         ensures refused { IsErrOf result FilesFault.Memory → self.new.faults ≡ self.old.faults }
-        ensures stays { OnErr result (self.new.file ≡ self.old.file) }
+        ensures file { OnErr result (self.new.file ≡ self.old.file) }
         ensures started { OnOk result (left_of O.File.remaining self.new.file ≡ O.content self.old.opener path.now) }
-        ensures memory { IsErrOf result FilesFault.Memory → left_of O.File.remaining self.new.file ≡ left_of O.File.remaining self.old.file }
+        ensures stays { OnErr result (left_of O.File.remaining self.new.file ≡ left_of O.File.remaining self.old.file) }
         ensures same { SameFiles self.old.lent self.new.lent (O.content self.old.opener) (O.content self.new.opener) }
         ensures cause { HasCause FilesFault.Failed self.old.faults self.new.faults result }
     {

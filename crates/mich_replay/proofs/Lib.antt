@@ -16,6 +16,7 @@ pub mod Pace
 pub mod Promise
 pub mod Readable
 pub mod Replayed
+pub mod Taken
 pub mod Taking
 pub mod Truth
 pub mod Words

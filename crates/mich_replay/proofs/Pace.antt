@@ -1,18 +1,19 @@
 -- How what was written keeps step with what was taken.
-use Rattle.std.proofs.Common.{◌≡◌, ◌≤◌, ℕ, false, true, List, [], ◌++◌, length, Result, Ok, Err, inl, inr, refl, sym, ◌∙◌, subst, append-nil, arith}
+use Rattle.std.proofs.Common.{◌≡◌, ◌≤◌, ℕ, false, true, List, [], ◌++◌, length, Some, None, Result, Ok, Err, inl, inr, refl, sym, ap, ◌∙◌, subst, append-nil, arith}
 use Rattle.std.specs.declared.option.Option.{Option}
 use Rattle.std.specs.Io.KnownBytes.{Appends, Consumes}
 use Rattle.std.specs.Prelude.{OnOk, OnErr, IsErrOf}
 use Rattle.std.proofs.KnownBytes.{Appends-nil, Appends-trans}
+use Rattle.rules_text.specs.nodes.Limits.{file_limit}
 use Rattle.rules_text.specs.streams.Known.{AppendsFront}
 use Rattle.rules_files.specs.commands.Answers.{status_of}
-use Rattle.rules_files.specs.commands.Commands.{Verb, Replaying, Command, OnFile, Generating, NoCommand}
+use Rattle.rules_files.specs.commands.Commands.{Verb, Replaying, Command, OnFile, Generating, NoCommand, file_of}
 use Rattle.rules_files.specs.commands.Lines.{group_lines, text_of, ending_lines}
 use Rattle.rules_files.specs.commands.Replay.{Ending, State, RefusedAt}
 use Rattle.mich_group.specs.declared.course.course.Course.{Course}
 use Rattle.mich_reader.specs.Held.{Held}
 use Rattle.mich_replay.specs.Coming.{Closes, Grows, Told}
-use Rattle.mich_replay.specs.Pace.{Gives, NoneIsClosedAt, WritesAsItReads, piece_limit}
+use Rattle.mich_replay.specs.Pace.{Gives, NoneIsClosedAt, NotStarted, WritesAsItReads, piece_limit}
 use Rattle.mich_replay.specs.View.{status_in, whole_seen}
 use Rattle.mich_replay.specs.declared.command.WholeVerb.{WholeVerb}
 use Rattle.mich_replay.specs.declared.command.WholeVerb.TheVariants as wholes
@@ -53,14 +54,14 @@ no_three_err stop.Read none e = none refl
 no_three_err stop.Write none e = absurd (omega (arith, e))
 no_three_err stop.Memory none e = absurd (omega (arith, e))
 
-pub not_started : (content before left a : Option (List ℕ)) (e : Stop) → (e ≡ stop.Write → ⊥) → (e ≡ stop.Memory → left ≡ before) → WritesAsItReads content before left a a (status_in (Err e))
-not_started content before left a stop.Read none same = inl (refl, inl refl)
-not_started content before left a stop.Write none same = absurd (none refl)
-not_started content before left a stop.Memory none same = inl (refl, inr (refl, same refl))
+pub not_started : (before left a : Option (List ℕ)) (e : Stop) → (e ≡ stop.Write → ⊥) → left ≡ before → NotStarted before left a a (status_in (Err e))
+not_started before left a stop.Read none same = (refl, same, inl refl)
+not_started before left a stop.Write none same = absurd (none refl)
+not_started before left a stop.Memory none same = (refl, same, inr refl)
 
 -- ---- what was told
 
-module _ (fed : List ℕ) (a b : Option (List ℕ)) (r : Held) (c : Option Course) (t : Told fed false a b r c) (none : NoneIsClosedAt fed r.place) where
+module _ (fed : List ℕ) (a b : Option (List ℕ)) (r : Held) (c : Option Course) (t : Told fed false a b r c) (none : NoneIsClosedAt fed r.place) (within : length fed ≤ file_limit) where
   never : false ≡ true → ⊥
   never e = absurd cc
 
@@ -83,6 +84,7 @@ module _ (fed : List ℕ) (a b : Option (List ℕ)) (r : Held) (c : Option Cours
       front = fed;
       piece = [];
       taken_is = sym (append-nil fed);
+      within = within;
       short = omega arith;
       receipts = t.receipts;
       gives = gives;
@@ -102,6 +104,7 @@ module _ (fed : List ℕ) (a b : Option (List ℕ)) (r : Held) (c : Option Cours
       front = fed;
       piece = piece;
       taken_is = refl;
+      within = within;
       short = short;
       receipts = t.receipts;
       gives = gives;
@@ -125,12 +128,22 @@ same_verb verb path other what e f = by (e ∙ f) where
   by : OnFile verb path ≡ OnFile Replaying other → (verb ≡ Replaying) × (path ≡ other)
   by x = let v : verb ≡ Replaying = cc in let p : path ≡ other = cc in (v, p)
 
-pub no_workload : (calls : ℕ) (path : List ℕ) (what : Command) → Generating calls ≡ what → what ≡ OnFile Replaying path → ⊥
-no_workload calls path what e f = by (e ∙ f) where
-  by : Generating calls ≡ OnFile Replaying path → ⊥
+pub same_path : (verb other_verb : Verb) (path other : List ℕ) (what : Command) → OnFile verb path ≡ what → what ≡ OnFile other_verb other → path ≡ other
+same_path verb other_verb path other what e f = by (e ∙ f) where
+  by : OnFile verb path ≡ OnFile other_verb other → path ≡ other
+  by x = cc
+
+pub no_workload : (calls : ℕ) (verb : Verb) (path : List ℕ) (what : Command) → Generating calls ≡ what → what ≡ OnFile verb path → ⊥
+no_workload calls verb path what e f = by (e ∙ f) where
+  by : Generating calls ≡ OnFile verb path → ⊥
   by x = absurd cc
 
-pub no_usage : (path : List ℕ) (what : Command) → NoCommand ≡ what → what ≡ OnFile Replaying path → ⊥
-no_usage path what e f = by (e ∙ f) where
-  by : NoCommand ≡ OnFile Replaying path → ⊥
+pub no_usage : (verb : Verb) (path : List ℕ) (what : Command) → NoCommand ≡ what → what ≡ OnFile verb path → ⊥
+no_usage verb path what e f = by (e ∙ f) where
+  by : NoCommand ≡ OnFile verb path → ⊥
+  by x = absurd cc
+
+pub names_file : (verb : Verb) (path : List ℕ) (what : Command) → OnFile verb path ≡ what → file_of what ≡ None → ⊥
+names_file verb path what e f = by (ap file_of e ∙ f) where
+  by : Some path ≡ None → ⊥
   by x = absurd cc

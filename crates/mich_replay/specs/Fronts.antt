@@ -1,10 +1,6 @@
 -- A file that is read no further than its bytes count.
-use Rattle.std.specs.Prelude.{◌≡◌, ℕ, ◌+◌, ◌≤◌, List, [], ◌++◌, length, Option, Some, None}
+use Rattle.std.specs.Prelude.{◌≡◌, ℕ, ◌≤◌, List, [], ◌++◌, length, Option, Some, None}
 use Rattle.rules_text.specs.nodes.Limits.{file_limit}
-
--- the most bytes that are read of a file: a buffer more than it may have
-abbrev pub read_limit : ℕ
-read_limit = file_limit + 65536
 
 -- these follow what was read: none where the file isn't longer than it may be
 abbrev pub IsRest : List ℕ → List ℕ → Type 0

@@ -14,3 +14,4 @@ pub mod Coming
 pub mod Generating
 pub mod Fronts
 pub mod Pace
+pub mod Taken

@@ -2,6 +2,7 @@
 use Rattle.std.specs.Prelude.{◌≡◌, ◌≤◌, ◌⊎◌, ℕ, List, [], ◌++◌, length, None}
 use Rattle.std.specs.declared.option.Option.{Option}
 use Rattle.std.specs.Io.KnownBytes.{Appends, Consumes}
+use Rattle.rules_text.specs.nodes.Limits.{file_limit}
 use Rattle.rules_files.specs.course.Course.{Course}
 use Rattle.rules_files.specs.commands.Commands.{Verb, Replaying, OnFile, command_of}
 use Rattle.rules_files.specs.commands.Lines.{group_lines, text_of}
@@ -30,12 +31,13 @@ pub record Gives (front : List ℕ) (receipts : List Receipt) : Type 0 where
   pub course : Option Course
   pub run : run_all (going [] None) statements ≡ going receipts course
 
--- Of what was taken of the file, all but the last piece was told: the lines of all groups that it gives were written. Where a piece
--- couldn't be read, all that was taken was told, and nothing else.
+-- Of what was taken of the file, all but the last piece was told: it isn't longer than a file may be, and the lines of all groups that
+-- it gives were written. Where a piece couldn't be read, all that was taken was told, and nothing else.
 pub record KeepsStep (taken : List ℕ) (before now : Option (List ℕ)) (status : ℕ) : Type 0 where
   pub front : List ℕ
   pub piece : List ℕ
   pub taken_is : taken ≡ front ++ piece
+  pub within : length front ≤ file_limit
   pub short : length piece ≤ piece_limit
   pub receipts : List Receipt
   pub gives : Gives front receipts
@@ -43,9 +45,9 @@ pub record KeepsStep (taken : List ℕ) (before now : Option (List ℕ)) (status
   pub lines : Appends before now (text_of (group_lines 1 receipts) ++ rest)
   pub read_fault : status ≡ 3 → (piece ≡ []) × (rest ≡ [])
 
--- the file wasn't started, for a read fault or for want of memory: nothing was written
+-- the file wasn't started, for a read fault or for want of memory: what is left of a former one stays, and nothing was written
 abbrev pub NotStarted : (left_before left_now before now : Option (List ℕ)) → ℕ → Type 0
-NotStarted left_before left_now before now status = (now ≡ before) × ((status ≡ 3) ⊎ ((status ≡ 5) × (left_now ≡ left_before)))
+NotStarted left_before left_now before now status = (now ≡ before) × (left_now ≡ left_before) × ((status ≡ 3) ⊎ (status ≡ 5))
 
 -- The line of each group is written before more is read than the piece that closes the group. Whatever call of the files or of the
 -- sink is the last one, and any may be, what was written by then keeps step with what was taken of the file.

@@ -1,14 +1,16 @@
 // The commands that read their file whole before they write.
-ghost use Rattle.std.specs.Prelude.{◌≡◌, ◌≤◌, ◌<◌, ◌++◌, ℕ, List, Option, length, Contains, IfOk, IsErrOf};
+ghost use Rattle.std.specs.Prelude.{◌≡◌, ◌⊎◌, ◌≤◌, ◌<◌, ◌++◌, ℕ, List, Option, length, Contains, IfOk, OnOk, OnErr, IsErrOf};
 ghost use Rattle.std.specs.Io.KnownBytes.{IsAtEnd};
 ghost use Rattle.rules_text.specs.nodes.Limits.{file_limit};
 ghost use Rattle.rules_text.specs.streams.Causes.{HasCause};
+ghost use Rattle.rules_text.specs.streams.Known.{SameFiles};
 ghost use Rattle.rules_files.specs.commands.Answers.{usage_answer};
 ghost use Rattle.rules_files.specs.commands.Commands.{OnFile, NoCommand, IsVerbAnswer};
 ghost use Rattle.mich_answers.specs.View.{answer_seen, IsDoneOrRefused};
 ghost use Rattle.mich_replay.specs.Coming.{Comes, IsAnswerIfTold};
-ghost use Rattle.mich_replay.specs.Fronts.{IsRest, read_limit};
-ghost use Rattle.mich_replay.specs.View.{whole_seen};
+ghost use Rattle.mich_replay.specs.Fronts.{IsRest};
+ghost use Rattle.mich_replay.specs.Taken.{HasTaken, TakesFile, read_limit};
+ghost use Rattle.mich_replay.specs.View.{status_in, whole_seen};
 
 use crate::command::WholeVerb;
 use crate::lines::usage_line;
@@ -68,6 +70,9 @@ fn answer_path<F: Files>(
     ensures exact { IfOk result (λ a. IsAnswerIfTold (OnFile (whole_seen verb) path.now) (F.content files.old) (answer_seen a)) }
     ensures status { IfOk result (λ a. IsDoneOrRefused a.status) }
     ensures end { IfOk result (λ a. a.status ≡ 0 → IsAtEnd (F.left files.new)) }
+    ensures taken { OnOk result (HasTaken (F.content files.old path.now) (F.left files.new)) }
+    ensures given_up { OnErr result ((F.left files.new ≡ F.left files.old) ⊎ HasTaken (F.content files.old path.now) (F.left files.new)) }
+    ensures same { SameFiles (F.lent files.old) (F.lent files.new) (F.content files.old) (F.content files.new) }
     ensures no_write { IsErrOf result Stop.Write → ⊥ }
     ensures cause { HasCause Stop.Read (F.faults files.old) (F.faults files.new) result }
 {
@@ -86,6 +91,9 @@ pub(crate) fn answer_whole<F: Files, K: Sink>(
 ) -> Result<u8, Stop>
     requires { Contains (F.lent files.old) path.now }
     ensures comes { Comes (OnFile (whole_seen verb) path.now) (F.content files.old) (K.written out.old) (K.written out.new) result }
+    ensures taken { TakesFile (F.content files.old path.now) (F.left files.old) (F.left files.new)
+        (K.written out.old) (K.written out.new) (status_in result) }
+    ensures same { SameFiles (F.lent files.old) (F.lent files.new) (F.content files.old) (F.content files.new) }
     ensures end { IfOk result (λ status. status ≡ 0 → IsAtEnd (F.left files.new)) }
     ensures reads { HasCause Stop.Read (F.faults files.old) (F.faults files.new) result }
     ensures writes { HasCause Stop.Write (K.faults out.old) (K.faults out.new) result }

@@ -1,11 +1,12 @@
 // Files that are read in pieces, or whole.
-ghost use Rattle.std.specs.Prelude.{◌≡◌, ◌≤◌, ◌<◌, ◌-◌, ◌^◌, ℕ, List, length, Contains, IfOk, OnOk, Some, IsErrOf};
+ghost use Rattle.std.specs.Prelude.{◌≡◌, ◌⊎◌, ◌≤◌, ◌<◌, ◌-◌, ◌^◌, ℕ, List, length, Contains, IfOk, OnOk, OnErr, Some, IsErrOf};
 ghost use Rattle.std.specs.Io.{ReadsAtMost};
 ghost use Rattle.std.specs.Io.KnownBytes.{IsAtEnd, ReadConsumes};
 ghost use Rattle.rules_text.specs.nodes.Limits.{file_limit};
 ghost use Rattle.rules_text.specs.streams.Causes.{HasCause};
 ghost use Rattle.rules_text.specs.streams.Known.{SameFiles};
-ghost use Rattle.mich_replay.specs.Fronts.{IsReadOf, read_limit};
+ghost use Rattle.mich_replay.specs.Fronts.{IsReadOf};
+ghost use Rattle.mich_replay.specs.Taken.{HasTaken, read_limit};
 
 use crate::stop::Stop;
 use mich_base::FILE_LIMIT;
@@ -16,7 +17,7 @@ use std::alloc::Global;
 pub(crate) fn start<F: Files>(files: &mut F, path: &str) -> Result<(), Stop>
     requires { Contains (F.lent files.old) path.now }
     ensures started { OnOk result (F.left files.new ≡ F.content files.old path.now) }
-    ensures memory { IsErrOf result Stop.Memory → F.left files.new ≡ F.left files.old }
+    ensures stays { OnErr result (F.left files.new ≡ F.left files.old) }
     ensures same { SameFiles (F.lent files.old) (F.lent files.new) (F.content files.old) (F.content files.new) }
     ensures no_write { IsErrOf result Stop.Write → ⊥ }
     ensures cause { HasCause Stop.Read (F.faults files.old) (F.faults files.new) result }
@@ -49,6 +50,9 @@ pub(crate) fn read_file<F: Files>(alloc: Global, files: &mut F, path: &str) -> R
     ensures front { IfOk result (λ bytes. IsReadOf (F.content files.old path.now) bytes.items) }
     ensures end { IfOk result (λ bytes. length bytes.items ≤ file_limit → IsAtEnd (F.left files.new)) }
     ensures short { IfOk result (λ bytes. length bytes.items ≤ read_limit) }
+    ensures taken { OnOk result (HasTaken (F.content files.old path.now) (F.left files.new)) }
+    ensures given_up { OnErr result ((F.left files.new ≡ F.left files.old) ⊎ HasTaken (F.content files.old path.now) (F.left files.new)) }
+    ensures same { SameFiles (F.lent files.old) (F.lent files.new) (F.content files.old) (F.content files.new) }
     ensures no_write { IsErrOf result Stop.Write → ⊥ }
     ensures cause { HasCause Stop.Read (F.faults files.old) (F.faults files.new) result }
 {

@@ -3,6 +3,7 @@ ghost use Rattle.std.specs.Prelude.{◌≡◌, ◌<◌, ◌≤◌, ◌^◌, ◌-
 ghost use Rattle.std.specs.Io.KnownBytes.{IsAtEnd};
 ghost use Rattle.rules_files.specs.course.Course.{Course as PlainCourse};
 ghost use Rattle.rules_text.specs.streams.Causes.{HasCause};
+ghost use Rattle.rules_text.specs.streams.Known.{SameFiles};
 ghost use Rattle.rules_files.specs.commands.Commands.{OnFile, Replaying};
 ghost use Rattle.rules_files.specs.commands.Replay.{RefusedAt, ending_of};
 ghost use Rattle.mich_replay.specs.Coming.{Closes, Comes, Grows, TellsEvent, TellsGroups, Told};
@@ -120,6 +121,7 @@ pub(crate) fn replay_file<F: Files, K: Sink>(
     ensures comes { Comes (OnFile Replaying path.now) (F.content files.old) (K.written out.old) (K.written out.new) result }
     ensures pace { WritesAsItReads (F.content files.old path.now) (F.left files.old) (F.left files.new)
         (K.written out.old) (K.written out.new) (status_in result) }
+    ensures same { SameFiles (F.lent files.old) (F.lent files.new) (F.content files.old) (F.content files.new) }
     ensures end { IfOk result (λ status. status ≡ 0 → IsAtEnd (F.left files.new)) }
     ensures reads { HasCause Stop.Read (F.faults files.old) (F.faults files.new) result }
     ensures writes { HasCause Stop.Write (K.faults out.old) (K.faults out.new) result }

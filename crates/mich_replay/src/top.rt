@@ -1,11 +1,13 @@
 // The top call.
-ghost use Rattle.std.specs.Prelude.{◌≡◌, ◌≤◌, ◌<◌, drop, Contains, IfOk, IsErrOf, IsSome};
+ghost use Rattle.std.specs.Prelude.{◌≡◌, ◌≤◌, ◌<◌, drop, Contains, None, IfOk, IsErrOf, IsSome};
 ghost use Rattle.std.specs.Io.KnownBytes.{IsAtEnd};
 ghost use Rattle.rules_text.specs.streams.Causes.{HasCause};
+ghost use Rattle.rules_text.specs.streams.Known.{SameFiles};
 ghost use Rattle.rules_files.specs.commands.Commands.{OnFile, command_of, file_of};
 ghost use Rattle.rules_files.specs.commands.Promise.{Meets};
 ghost use Rattle.mich_replay.specs.Coming.{Comes};
 ghost use Rattle.mich_replay.specs.Pace.{PacesVerb, PacesWords};
+ghost use Rattle.mich_replay.specs.Taken.{NoneFalls, TakesFile, TakesWords};
 ghost use Rattle.mich_replay.specs.View.{status_in, verb_seen};
 
 use crate::answer::{answer_whole, usage};
@@ -29,6 +31,9 @@ fn answer_on_file<F: Files, K: Sink>(
     ensures comes { Comes (OnFile (verb_seen verb) path.now) (F.content files.old) (K.written out.old) (K.written out.new) result }
     ensures pace { PacesVerb (verb_seen verb) (F.content files.old path.now) (F.left files.old) (F.left files.new)
         (K.written out.old) (K.written out.new) (status_in result) }
+    ensures taken { TakesFile (F.content files.old path.now) (F.left files.old) (F.left files.new)
+        (K.written out.old) (K.written out.new) (status_in result) }
+    ensures same { SameFiles (F.lent files.old) (F.lent files.new) (F.content files.old) (F.content files.new) }
     ensures end { IfOk result (λ status. status ≡ 0 → IsAtEnd (F.left files.new)) }
     ensures reads { HasCause Stop.Read (F.faults files.old) (F.faults files.new) result }
     ensures writes { HasCause Stop.Write (K.faults out.old) (K.faults out.new) result }
@@ -50,6 +55,10 @@ fn answer_words<F: Files, K: Sink>(
     ensures comes { Comes (command_of words.now) (F.content files.old) (K.written out.old) (K.written out.new) result }
     ensures pace { PacesWords words.now (F.content files.old) (F.left files.old) (F.left files.new)
         (K.written out.old) (K.written out.new) (status_in result) }
+    ensures taken { TakesWords words.now (F.content files.old) (F.left files.old) (F.left files.new)
+        (K.written out.old) (K.written out.new) (status_in result) }
+    ensures same { SameFiles (F.lent files.old) (F.lent files.new) (F.content files.old) (F.content files.new) }
+    ensures untouched { file_of (command_of words.now) ≡ None → files.new ≡ files.old }
     ensures end { IfOk result (λ status. status ≡ 0 → IsSome (file_of (command_of words.now)) → IsAtEnd (F.left files.new)) }
     ensures file { IsErrOf result Stop.Read → IsSome (file_of (command_of words.now)) }
     ensures reads { HasCause Stop.Read (F.faults files.old) (F.faults files.new) result }
@@ -66,13 +75,18 @@ fn answer_words<F: Files, K: Sink>(
 /// 5 out of memory.
 ///
 /// The words are the command line without the program's name, and the files that are lent are those behind the first.
-/// Each line is one `write_all`. `generate` reads no file. `replay` reads pieces of at most 65,536 bytes, and writes the line of each group before it
+/// Each line is one `write_all`. Where the words name no file, the files aren't touched. Of a file at most 65,536 bytes more
+/// are read than it may have. `replay` reads pieces of at most 65,536 bytes, and writes the line of each group before it
 /// reads on.
 pub fn mich<F: Files, K: Sink>(alloc: Global, words: &Texts, files: &mut F, out: &mut K) -> u8
     requires { F.lent files.old ≡ drop 1 words.now }
     ensures meets { Meets words.now (F.content files.old) (F.faults files.old) (F.faults files.new) (K.faults out.old) (K.faults out.new)
         (F.left files.new) (K.written out.old) (K.written out.new) result }
     ensures pace { PacesWords words.now (F.content files.old) (F.left files.old) (F.left files.new) (K.written out.old) (K.written out.new) result }
+    ensures taken { TakesWords words.now (F.content files.old) (F.left files.old) (F.left files.new) (K.written out.old) (K.written out.new) result }
+    ensures files { SameFiles (F.lent files.old) (F.lent files.new) (F.content files.old) (F.content files.new) }
+    ensures counts { NoneFalls (F.faults files.old) (F.faults files.new) (K.faults out.old) (K.faults out.new) }
+    ensures untouched { file_of (command_of words.now) ≡ None → files.new ≡ files.old }
 {
     match answer_words(alloc, words, files, out) {
         Ok(status) => status,

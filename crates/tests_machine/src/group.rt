@@ -3,5 +3,3 @@
 mod course_tests;
 #[cfg(test)]
 mod statements;
-#[cfg(test)]
-mod tests;

@@ -1,7 +1,6 @@
-//! Tests of literals in a world, of runs and of groups, by public calls.
+//! Tests of runs and of groups, by public calls.
 #![tactic(auto)]
 
-pub mod arguments;
 pub mod group;
 pub mod machine;
 pub mod unpack;

@@ -91,7 +91,7 @@ fn bytes_are_decoded(rt: HostRuntime) -> Result<(), Fail> {
 }
 
 // A file that is packed, the status, and what is written.
-static PACKED: [Row; 9] = [
+static PACKED: [Row; 11] = [
     ("Pack int -1", 0, "0x050041\n"),
     ("Pack int 64", 0, "0x05008001\n"),
     (
@@ -108,6 +108,16 @@ static PACKED: [Row; 9] = [
         "Pack (pair nat nat nat) { 1 ; 2 ; 3 }",
         0,
         "0x0507070001070700020003\n",
+    ),
+    (
+        "Pack (lambda (pair int int) int) { CAR @x }",
+        0,
+        "0x0502000000080416000000024078\n",
+    ),
+    (
+        "Pack (lambda (pair int int) int) (Lambda_rec { CAR @x ; DIP { DROP } })",
+        0,
+        "0x05059802000000110416000000024078051f02000000020320\n",
     ),
 ];
 

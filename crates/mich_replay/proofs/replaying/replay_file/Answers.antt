@@ -1,10 +1,11 @@
-use Rattle.std.proofs.Common.{rules, ◌≡◌, ◌+◌, ◌<◌, ◌≤◌, ◌++◌, ℕ, true, false, List, [], length, take, Option, None, Ok, Err, refl, sym, ap, subst, arith}
+use Rattle.std.proofs.Common.{rules, ◌≡◌, ◌+◌, ◌<◌, ◌≤◌, ◌++◌, ℕ, true, false, List, [], length, take, Option, None, Ok, Err, inl, refl, sym, ap, subst, arith}
 use Rattle.std.proofs.lemmas.Result.{err_from_is_err_and}
 use Rattle.std.proofs.KnownBytes.{Consumes-kept, Consumes-nil}
 use Rattle.std.proofs.lemmas.Bool.Decides.{nat_tests}
 use Rattle.std.proofs.lemmas.List.{length-append}
 use Rattle.std.specs.Io.KnownBytes.{Consumes, IsAtEnd}
 use Rattle.std.specs.Prelude.{nat_eq}
+use Rattle.rules_text.specs.nodes.Limits.{file_limit}
 use Rattle.mich_replay.specs.Coming.{Pauses}
 use Rattle.rules_files.specs.commands.Replay.{RefusedAt, ending_of}
 use Rattle.mich_reader.specs.Held.{Held, fresh}
@@ -16,6 +17,7 @@ use Rattle.mich_replay.proofs.Closed.{none_first}
 use Rattle.mich_replay.proofs.Pace.{all_told, grows_closed, grows_nothing, grows_trans, no_three, no_three_err, not_started, one_behind}
 use Rattle.mich_replay.proofs.Promise.{nothing, whatever}
 use Rattle.mich_replay.proofs.Replayed.{cut_comes, refused_comes, ended_comes}
+use Rattle.mich_replay.proofs.Taken.{same_again}
 use Rattle.mich_replay.proofs.replaying.replay_file.Goals as goal
 
 never : false ≡ true → ⊥
@@ -43,6 +45,7 @@ pieces-init g c =
     record {
       reads = omega (arith, c.in_ok-start.ensures.cause.later);
       writes = omega arith;
+      same = c.in_ok-start.ensures.same;
       underway = record {
         fed = [];
         bytes = subst (λ (o : Option (List ℕ)). Consumes content o []) (sym c.in_ok-start.ensures.started) (Consumes-nil content);
@@ -120,6 +123,7 @@ pieces-preserved g c =
     record {
       reads = omega (arith, c.pieces.invariant.reads, c.in_ok-count.ensures.cause.later);
       writes = omega (arith, c.pieces.invariant.writes, c.in_ok-tell_groups.ensures.cause.later);
+      same = same_again _ _ _ _ _ _ c.pieces.invariant.same c.in_ok-count.ensures.same;
       underway = record {
         fed = u.fed ++ piece;
         bytes = bytes;
@@ -224,27 +228,29 @@ returns-in-Refused-clause-comes g c =
 pub returns-in_err-start-clause-pace : goal.returns-in_err-start-clause-pace
 returns-in_err-start-clause-pace g c =
     let p = err_from_is_err_and c.from_residual.result c.from_residual.ensures.1 in
-    rw (p.1, p.2) (not_started (g.F.Files.content c.args.files.now c.args.path.now) (g.F.Files.left c.args.files.now) (g.F.Files.left c.start.new.files) (g.K.Sink.written c.args.out.now)
-    c.in_err-start.field-0.0 (λ e. c.in_err-start.ensures.no_write (ap Err e)) (λ e. c.in_err-start.ensures.memory (ap Err e)))
+    rw (p.1, p.2) (inl (not_started (g.F.Files.left c.args.files.now) (g.F.Files.left c.start.new.files) (g.K.Sink.written c.args.out.now)
+    c.in_err-start.field-0.0 (λ e. c.in_err-start.ensures.no_write (ap Err e)) c.in_err-start.ensures.stays))
 
 pub returns-in_err-session-clause-pace : goal.returns-in_err-session-clause-pace
 returns-in_err-session-clause-pace g c =
     let content = g.F.Files.content c.args.files.now c.args.path.now in
     let a = g.K.Sink.written c.args.out.now in
-    all_told [] a a fresh None (told_fresh a fresh None refl refl) none_first content (g.F.Files.left c.args.files.now) (g.F.Files.left c.start.new.files) _
+    all_told [] a a fresh None (told_fresh a fresh None refl refl) none_first (omega arith) content (g.F.Files.left c.args.files.now) (g.F.Files.left c.start.new.files) _
     (subst (λ (o : Option (List ℕ)). Consumes content o []) (sym c.in_ok-start.ensures.started) (Consumes-nil content))
 
 pub returns-in_err-count-clause-pace : goal.returns-in_err-count-clause-pace
 returns-in_err-count-clause-pace g c =
     let u = c.pieces.invariant.underway in
+    let within : length u.fed ≤ file_limit = omega (arith, u.size_is, u.short) in
     let content = g.F.Files.content c.args.files.now c.args.path.now in
     let left = g.F.Files.left c.read.new.files in
-    all_told u.fed (g.K.Sink.written c.args.out.now) (g.K.Sink.written c.pieces.out) c.pieces.session.reader c.pieces.session.course u.told u.all content (g.F.Files.left c.args.files.now) left _
+    all_told u.fed (g.K.Sink.written c.args.out.now) (g.K.Sink.written c.pieces.out) c.pieces.session.reader c.pieces.session.course u.told u.all within content (g.F.Files.left c.args.files.now) left _
     (Consumes-kept content (g.F.Files.left c.pieces.files) left u.fed u.bytes c.in_err-count.ensures.bytes)
 
 pub returns-in_err-feed-clause-pace : goal.returns-in_err-feed-clause-pace
 returns-in_err-feed-clause-pace g c =
     let u = c.pieces.invariant.underway in
+    let within : length u.fed ≤ file_limit = omega (arith, u.size_is, u.short) in
     let piece = c.split_at.result.0.now in
     let content = g.F.Files.content c.args.files.now c.args.path.now in
     let left = g.F.Files.left c.read.new.files in
@@ -252,12 +258,13 @@ returns-in_err-feed-clause-pace g c =
     let room : length c.read.new.buf ≡ 65536 = search rules in
     let short : length piece ≤ 65536 = omega (arith, c.split_at.ensures.front_len, c.in_ok-count.ensures.bound, room) in
     let p = err_from_is_err_and c.from_residual-in_err-feed.result c.from_residual-in_err-feed.ensures.1 in
-    rw (p.1, p.2) (one_behind u.fed (g.K.Sink.written c.args.out.now) (g.K.Sink.written c.pieces.out) c.pieces.session.reader c.pieces.session.course u.told u.all content
+    rw (p.1, p.2) (one_behind u.fed (g.K.Sink.written c.args.out.now) (g.K.Sink.written c.pieces.out) c.pieces.session.reader c.pieces.session.course u.told u.all within content
     (g.F.Files.left c.args.files.now) left (g.K.Sink.written c.pieces.out) piece 5 bytes short (grows_nothing _) (λ e. absurd (omega (arith, e))))
 
 pub returns-in_err-tell_groups-clause-pace : goal.returns-in_err-tell_groups-clause-pace
 returns-in_err-tell_groups-clause-pace g c =
     let u = c.pieces.invariant.underway in
+    let within : length u.fed ≤ file_limit = omega (arith, u.size_is, u.short) in
     let piece = c.split_at.result.0.now in
     let content = g.F.Files.content c.args.files.now c.args.path.now in
     let left = g.F.Files.left c.read.new.files in
@@ -265,13 +272,14 @@ returns-in_err-tell_groups-clause-pace g c =
     let room : length c.read.new.buf ≡ 65536 = search rules in
     let short : length piece ≤ 65536 = omega (arith, c.split_at.ensures.front_len, c.in_ok-count.ensures.bound, room) in
     let p = err_from_is_err_and c.from_residual-in_err-tell_groups.result c.from_residual-in_err-tell_groups.ensures.1 in
-    rw (p.1, p.2) (one_behind u.fed (g.K.Sink.written c.args.out.now) (g.K.Sink.written c.pieces.out) c.pieces.session.reader c.pieces.session.course u.told u.all content
+    rw (p.1, p.2) (one_behind u.fed (g.K.Sink.written c.args.out.now) (g.K.Sink.written c.pieces.out) c.pieces.session.reader c.pieces.session.course u.told u.all within content
     (g.F.Files.left c.args.files.now) left (g.K.Sink.written c.tell_groups.new.out) piece _ bytes short c.tell_groups.ensures.grows
     (no_three_err c.in_err-tell_groups.field-0.0 (λ e. c.in_err-tell_groups.ensures.no_read (ap Err e))))
 
 pub returns-in-End-clause-pace : goal.returns-in-End-clause-pace
 returns-in-End-clause-pace g c =
     let u = c.pieces.invariant.underway in
+    let within : length u.fed ≤ file_limit = omega (arith, u.size_is, u.short) in
     let piece = c.split_at.result.0.now in
     let content = g.F.Files.content c.args.files.now c.args.path.now in
     let left = g.F.Files.left c.read.new.files in
@@ -288,13 +296,14 @@ returns-in-End-clause-pace g c =
     let x = subst (λ (y : Pause). Pauses (u.fed ++ piece) last before now after.reader after.course (Ok y)) c.in-End.is (c.in_ok-tell_groups.ensures.told (u.fed ++ piece) before t) in
     let ending = ending_of (c.pieces.size + c.in_ok-count.count) x.0.came.plain in
     let closes = c.end.ensures.closes x.0.came.plain x.0.came.stands.follows in
-    one_behind u.fed before (g.K.Sink.written c.pieces.out) c.pieces.session.reader c.pieces.session.course u.told u.all content (g.F.Files.left c.args.files.now) left
+    one_behind u.fed before (g.K.Sink.written c.pieces.out) c.pieces.session.reader c.pieces.session.course u.told u.all within content (g.F.Files.left c.args.files.now) left
     (g.K.Sink.written c.end.new.out) piece _ bytes short (grows_trans _ _ _ c.tell_groups.ensures.grows (grows_closed _ _ ending c.end.result closes))
     (no_three _ _ ending c.end.result closes c.end.ensures.no_read)
 
 pub returns-in-Refused-clause-pace : goal.returns-in-Refused-clause-pace
 returns-in-Refused-clause-pace g c =
     let u = c.pieces.invariant.underway in
+    let within : length u.fed ≤ file_limit = omega (arith, u.size_is, u.short) in
     let piece = c.split_at.result.0.now in
     let content = g.F.Files.content c.args.files.now c.args.path.now in
     let left = g.F.Files.left c.read.new.files in
@@ -302,7 +311,7 @@ returns-in-Refused-clause-pace g c =
     let room : length c.read.new.buf ≡ 65536 = search rules in
     let short : length piece ≤ 65536 = omega (arith, c.split_at.ensures.front_len, c.in_ok-count.ensures.bound, room) in
     let ending = RefusedAt (file_fault_seen c.in-Refused.fault) c.in-Refused.at in
-    one_behind u.fed (g.K.Sink.written c.args.out.now) (g.K.Sink.written c.pieces.out) c.pieces.session.reader c.pieces.session.course u.told u.all content
+    one_behind u.fed (g.K.Sink.written c.args.out.now) (g.K.Sink.written c.pieces.out) c.pieces.session.reader c.pieces.session.course u.told u.all within content
     (g.F.Files.left c.args.files.now) left (g.K.Sink.written c.refuse.new.out) piece _ bytes short
     (grows_trans _ _ _ c.tell_groups.ensures.grows (grows_closed _ _ ending c.refuse.result c.refuse.ensures.closes))
     (no_three _ _ ending c.refuse.result c.refuse.ensures.closes c.refuse.ensures.no_read)

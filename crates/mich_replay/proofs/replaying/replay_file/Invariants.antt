@@ -1,5 +1,6 @@
 use Rattle.std.proofs.Common.{◌≤◌, ◌-◌}
 use Rattle.rules_text.specs.nodes.Limits.{file_limit}
+use Rattle.rules_text.specs.streams.Known.{SameFiles}
 use Rattle.mich_replay.specs.Coming.{IsUnderway}
 use Rattle.mich_replay.proofs.replaying.replay_file.Given as goal
 
@@ -10,6 +11,7 @@ invariant-pieces g l =
     record {
       reads : files.faults l.fn.files ≤ files.faults l.files;
       writes : sink.faults l.fn.out ≤ sink.faults l.out;
+      same : SameFiles (files.lent l.fn.files) (files.lent l.files) (files.content l.fn.files) (files.content l.files);
       underway : IsUnderway (files.content l.fn.files l.path) (files.left l.files) (sink.written l.fn.out) (sink.written l.out) l.session.reader l.session.course l.size;
     }
 

@@ -34,3 +34,17 @@ returns-in-Err-Write-clause-pace g c = rw c.in-Err-Write.field-0-is at c.in-Err-
 
 pub returns-in-Err-Memory-clause-pace : goal.returns-in-Err-Memory-clause-pace
 returns-in-Err-Memory-clause-pace g c = rw c.in-Err-Memory.field-0-is at c.in-Err-Memory.ensures.pace
+
+-- ---- what was taken
+
+pub returns-in-Ok-clause-taken : goal.returns-in-Ok-clause-taken
+returns-in-Ok-clause-taken g c = c.in-Ok.ensures.taken
+
+pub returns-in-Err-Read-clause-taken : goal.returns-in-Err-Read-clause-taken
+returns-in-Err-Read-clause-taken g c = rw c.in-Err-Read.field-0-is at c.in-Err-Read.ensures.taken
+
+pub returns-in-Err-Write-clause-taken : goal.returns-in-Err-Write-clause-taken
+returns-in-Err-Write-clause-taken g c = rw c.in-Err-Write.field-0-is at c.in-Err-Write.ensures.taken
+
+pub returns-in-Err-Memory-clause-taken : goal.returns-in-Err-Memory-clause-taken
+returns-in-Err-Memory-clause-taken g c = rw c.in-Err-Memory.field-0-is at c.in-Err-Memory.ensures.taken

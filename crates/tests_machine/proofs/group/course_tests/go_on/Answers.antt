@@ -19,4 +19,4 @@ followed stuck_step c r h = absurd h
 pub returns-in-Ok : goal.returns-in-Ok
 returns-in-Ok c =
     let f = c.requires.1 in
-    followed (step_behind c.requires.0 (said c.in_ok-next.next)) _ _ (c.in-Ok.ensures c.requires.0 f)
+    followed (step_behind c.requires.0 (said c.in_ok-next.next)) _ _ (c.in-Ok.ensures.goes c.requires.0 f)

@@ -1,2 +1,0 @@
-pub mod Home
-pub mod Start
