@@ -78,7 +78,7 @@ pub fn begun(alloc: Global, recursive: bool, arrow: &Arrow, at: u32) -> Result<R
 fn types_written(alloc: Global, first: &Node, second: &Node) -> Result<Nodes, Memory>
     ensures { IfOk result (λ ns. trees ns ≡ more (bare (tree first.now)) (more (bare (tree second.now)) none)) }
 {
-    let mut nodes = Rows::new(alloc);
+    let mut nodes = Nodes::new(alloc);
     nodes.push(bare_node(alloc, first)?)?;
     nodes.push(bare_node(alloc, second)?)?;
     Ok(nodes)

@@ -47,7 +47,7 @@ fn tag(alloc: Global, annots: &Texts, at: u32) -> Result<Text, RuleError>
     ensures { IsFound (λ tag. tag) (found_from at (annotated [] annots.now)) result }
 {
     let Some(name) = field_name(annots) else {
-        return Ok(Text::from_vec(Vec::new(alloc)));
+        return Ok(Text::from_vec(Vec::new(alloc))?);
     };
     match Entrypoint::read(name) {
         Some(_) => Ok(Text::from_slice(alloc, name)?),
