@@ -5,3 +5,4 @@ pub mod paid
 pub mod sizes
 pub mod Behind
 pub mod ForCallers
+pub mod certificates_lemmas

@@ -17,7 +17,7 @@ fn read_words<R: Env + AllocGlobal>(rt: &R) -> Result<Texts, Memory> {
     match env::args(rt) {
         Ok(args) => {
             for word in args.skip(1) {
-                words.push(Text::from_vec(word.into_bytes()))?;
+                words.push(Text::from_vec(word.into_bytes())?)?;
             }
         }
         Err(e) => {

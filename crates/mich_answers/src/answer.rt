@@ -28,7 +28,7 @@ pub fn refused(alloc: Global, name: &str, place: u64) -> Result<Answer, Memory>
     ensures { IfOk result (λ a. answer_seen a ≡ refused_with name.now place) }
 {
     let mut lines = Texts::new(alloc);
-    lines.push(as_text(refusal_line(alloc, name, place)?))?;
+    lines.push(as_text(refusal_line(alloc, name, place)?)?)?;
     Ok(Answer { status: 2, lines })
 }
 

@@ -14,7 +14,7 @@ use std::alloc::Global;
 fn agreeing(alloc: Global) -> Result<Answer, Memory>
     ensures { IfOk result (λ a. answer_seen a ≡ done_with (codes "Agrees\n")) }
 {
-    done(alloc, as_text(String::from_str(alloc, "Agrees\n")?))
+    done(alloc, as_text(String::from_str(alloc, "Agrees\n")?)?)
 }
 
 // The answer where these numbers differ.
@@ -23,7 +23,7 @@ fn differing(alloc: Global, what: &str) -> Result<Answer, Memory>
 {
     let line = format!(in alloc; "Differs {what}\n")?;
     let mut lines = Texts::new(alloc);
-    lines.push(as_text(line))?;
+    lines.push(as_text(line)?)?;
     Ok(Answer { status: 2, lines })
 }
 

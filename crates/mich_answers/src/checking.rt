@@ -14,7 +14,7 @@ ghost use Rattle.mich_answers.specs.View.{answer_seen, IsDoneOrRefused};
 use crate::answer::{Answer, done, refused};
 use crate::lines::{node_line, text_kind_name};
 use crate::statements::{Next, read_next};
-use mich_base::{Memory, Node, Nodes, Texts};
+use mich_base::{Memory, Node, Nodes, Rows, Texts};
 use mich_check::{CheckError, check_script};
 use mich_types::{bare, over_one};
 use rules_text::text::TextKind;
@@ -23,7 +23,7 @@ use std::alloc::Global;
 /// The nodes of a file, and the first fault of its text.
 #[derive(Drop)]
 pub struct Statements {
-    pub nodes: Nodes,
+    pub nodes: Rows<Node>,
     pub fault: Option<(TextKind, u64)>,
 }
 
@@ -31,7 +31,7 @@ pub struct Statements {
 fn list_nodes(alloc: Global, file: &[u8]) -> Result<Statements, Memory>
     ensures { IfOk result (λ listed. IsWhole file.now listed) }
 {
-    let mut nodes = Nodes::new(alloc);
+    let mut nodes = Rows::new(alloc);
     let mut place = 0u64;
     'statements: loop {
         match read_next(alloc, file, place)? {
@@ -53,19 +53,19 @@ fn list_nodes(alloc: Global, file: &[u8]) -> Result<Statements, Memory>
 }
 
 // The one node, where it is a sequence; else the sequence of all.
-fn script_of(nodes: Nodes) -> Node
-    ensures { tree result ≡ script_of (map tree nodes) }
+fn script_of(nodes: Rows<Node>) -> Result<Node, Memory>
+    ensures { IfOk result (λ node. tree node ≡ script_of (map tree nodes)) }
 {
     let mut nodes = nodes;
     if is_one_sequence(&nodes) {
         if let Some(node) = nodes.pop() {
-            return node;
+            return Ok(node);
         }
     }
-    Node::Seq(nodes)
+    Ok(Node::Seq(Nodes::from_rows(nodes)?))
 }
 
-fn is_one_sequence(nodes: &Nodes) -> bool
+fn is_one_sequence(nodes: &Rows<Node>) -> bool
     ensures { result ≡ is_one_sequence (map tree nodes.now) }
 {
     match nodes.only() {
@@ -115,7 +115,7 @@ fn answer_statements(alloc: Global, listed: Statements) -> Result<Answer, Memory
     if let Some((kind, at)) = fault {
         return refused(alloc, text_kind_name(kind), at);
     }
-    let script = script_of(nodes);
+    let script = script_of(nodes)?;
     check_node(alloc, &script)
 }
 

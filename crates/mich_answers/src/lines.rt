@@ -66,12 +66,12 @@ pub fn node_line(alloc: Global, node: &Node) -> Result<Text, Memory>
     let text = print(alloc, node)?;
     let mut line = text.as_slice().to_vec(alloc)?;
     line.push(b'\n')?;
-    Ok(Text::from_vec(line))
+    Text::from_vec(line)
 }
 
 /// A line as its bytes.
-pub fn as_text(line: String) -> Text
-    ensures { result ≡ string_bytes line }
+pub fn as_text(line: String) -> Result<Text, Memory>
+    ensures { IfOk result (λ text. text ≡ string_bytes line) }
 {
     Text::from_vec(line.into_bytes())
 }

@@ -32,7 +32,7 @@ fn encoded(alloc: Global, node: &Node) -> Result<Answer, Memory>
     ensures { IfOk result (λ a. answer_seen a ≡ encoding_answer (binary.encoded (tree node.now))) }
 {
     match encode(alloc, node) {
-        Ok(bytes) => done(alloc, as_text(bytes_line(alloc, bytes.as_slice())?)),
+        Ok(bytes) => done(alloc, as_text(bytes_line(alloc, bytes.as_slice())?)?),
         Err(EncodeError::NoCode(location)) => refused(alloc, "NoCode", u64::from(location)),
         Err(EncodeError::TooLong) => refused(alloc, "TooLong", 0),
         Err(EncodeError::Memory) => Err(Memory),

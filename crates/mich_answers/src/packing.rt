@@ -39,7 +39,7 @@ fn packed_value(alloc: Global, value: &Value) -> Result<Answer, Memory>
     ensures { IfOk result (λ a. answer_seen a ≡ packed_answer (packed (val value.now))) }
 {
     match pack(alloc, value) {
-        Ok(bytes) => done(alloc, as_text(bytes_line(alloc, bytes.as_slice())?)),
+        Ok(bytes) => done(alloc, as_text(bytes_line(alloc, bytes.as_slice())?)?),
         Err(PackError::SizeLimit) => refused(alloc, "SizeLimit", 0),
         Err(PackError::Memory) => Err(Memory),
     }

@@ -32,5 +32,5 @@ pub(crate) fn key_of(alloc: Global, id: &Identity<'_>) -> Result<Text, Memory>
     put(&mut key, b" ; ")?;
     put(&mut key, content.as_slice())?;
     put(&mut key, b" }")?;
-    Ok(Text::from_vec(key))
+    Text::from_vec(key)
 }

@@ -1,5 +1,7 @@
 pub mod ByLength
 pub mod Counted
+pub mod Octets
+pub mod Sharing
 pub mod TypeView
 pub mod View
 pub mod Walk

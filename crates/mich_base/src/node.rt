@@ -4,8 +4,9 @@ ghost use Rattle.rules_text.specs.nodes.Tree.{depth, depths, size, sizes, preord
 ghost use Rattle.mich_base.specs.Walk.{room_left, look};
 ghost use Rattle.mich_base.specs.View.{tree, trees, seen};
 
+use crate::link::Share;
 use crate::memory::Memory;
-use crate::rows::Rows;
+use crate::shared_rows::SharedRows;
 use crate::text::{Bytes, Text, Texts};
 use std::alloc::Global;
 
@@ -30,7 +31,7 @@ pub struct App {
 }
 
 /// A list of nodes.
-pub type Nodes = Rows<Node>;
+pub type Nodes = SharedRows<Node>;
 
 /// Whether the depth of a node is at most this, where a root alone has depth 1.
 #[cycle(depth)]
@@ -135,8 +136,13 @@ fn find_in(nodes: &Nodes, place: u32) -> Found<'_>
     Found::Past(left)
 }
 
-/// An equal node. Memory where there is no room for it.
-#[cycle(copy)]
+impl Share for Node {
+    fn share(&self, alloc: Global) -> Result<Node, Memory> {
+        copy_node(alloc, self)
+    }
+}
+
+/// An equal node, in constant time. Memory where there is no room for it.
 pub fn copy_node(alloc: Global, node: &Node) -> Result<Node, Memory>
     ensures { IfOk result (λ n. n ≡ node.now) }
 {
@@ -145,38 +151,26 @@ pub fn copy_node(alloc: Global, node: &Node) -> Result<Node, Memory>
         Node::Str(text) => Ok(Node::Str(text.copy(alloc)?)),
         Node::Bytes(bytes) => Ok(Node::Bytes(bytes.copy(alloc)?)),
         Node::Prim(app) => Ok(Node::Prim(copy_app(alloc, app)?)),
-        Node::Seq(nodes) => Ok(Node::Seq(copy_nodes(alloc, nodes)?)),
+        Node::Seq(nodes) => Ok(Node::Seq(nodes.share()?)),
     }
 }
 
-#[cycle(copy)]
 fn copy_app(alloc: Global, app: &App) -> Result<App, Memory>
     ensures { IfOk result (λ a. a ≡ app.now) }
 {
     let name = app.name.copy(alloc)?;
-    let annots = copy_texts(alloc, &app.annots)?;
-    let args = copy_nodes(alloc, &app.args)?;
+    let annots = app.annots.share()?;
+    let args = app.args.share()?;
     Ok(App { name, annots, args })
 }
 
-#[cycle(copy)]
-fn copy_nodes(alloc: Global, nodes: &Nodes) -> Result<Nodes, Memory>
-    ensures { IfOk result (λ ns. ns ≡ nodes.now) }
-{
-    let mut copies = Rows::new(alloc);
-    for node in nodes.as_slice() {
-        copies.push(copy_node(alloc, node)?)?;
-    }
-    Ok(copies)
-}
-
-/// Equal texts. Memory where there is no room for them.
-pub fn copy_texts(alloc: Global, texts: &Texts) -> Result<Texts, Memory>
+/// Equal texts, in constant time. Memory where there is no room for them.
+pub fn copy_texts(_alloc: Global, texts: &Texts) -> Result<Texts, Memory>
     ensures { IfOk result (λ ts. ts ≡ texts.now) }
 {
-    let mut copies = Rows::new(alloc);
-    for text in texts.as_slice() {
-        copies.push(text.copy(alloc)?)?;
-    }
-    Ok(copies)
+    texts.share()
 }
+
+const _: () = prove!(size_of::<Nodes>() == 16);
+
+const _: () = prove!(size_of::<Node>() == 64);

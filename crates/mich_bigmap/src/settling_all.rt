@@ -53,7 +53,7 @@ fn settle_link(alloc: Global, store: &mut Store, value: Link<Value>) -> Result<L
     ensures settles { IfOk result (λ v. Settles store.old.bases.present store.new.bases.present value v) }
     ensures lays { Lays store.old store.new }
 {
-    let settled = settle_all(alloc, store, value.into_value())?;
+    let settled = settle_all(alloc, store, value.into_value()?)?;
     Link::new(alloc, settled)
 }
 
@@ -104,6 +104,6 @@ fn settle_big(alloc: Global, store: &mut Store, big: Link<BigMap>) -> Result<Lin
     ensures settles { IfOk result (λ b. SettlesBig store.old.bases.present store.new.bases.present big b) }
     ensures lays { Lays store.old store.new }
 {
-    let settled = settle(alloc, store, big.into_value())?;
+    let settled = settle(alloc, store, big.into_value()?)?;
     Link::new(alloc, settled)
 }

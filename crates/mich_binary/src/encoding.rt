@@ -16,7 +16,7 @@ fn spelt(alloc: Global, node: &Node) -> Result<Bytes, EncodeError>
 {
     let mut out = Vec::new(alloc);
     put_node(alloc, &mut out, node)?;
-    Ok(Bytes::from_vec(out))
+    Ok(Bytes::from_vec(out)?)
 }
 
 /// The binary form of a node (Octez "data encoding", Micheline expressions). NoCode at the location of the

@@ -8,7 +8,7 @@ ghost use Rattle.mich_binary.specs.Pieces.{is_no_space, pieces_of};
 
 use crate::cursor::Cursor;
 use crate::errors::DecodeError;
-use mich_base::{BYTE_LIMIT, Bytes, NAME_LIMIT, Rows, Text, Texts};
+use mich_base::{BYTE_LIMIT, Bytes, NAME_LIMIT, Text, Texts};
 use rules_text::binary::DecodeKind;
 use std::alloc::Global;
 
@@ -159,7 +159,7 @@ fn cut(bytes: &[u8]) -> (&[u8], Option<&[u8]>)
 fn annotations_of(alloc: Global, field: Cursor<'_>) -> Result<Texts, DecodeError>
     ensures { Gives (λ x. x) result (annotations_of (spot field.entry)) }
 {
-    let mut texts = Rows::new(alloc);
+    let mut texts = Texts::new(alloc);
     let mut left = Some(field.left);
     while let Some(bytes) = left {
         let (piece, rest) = cut(bytes);
@@ -190,7 +190,7 @@ pub fn any_annotations_at(
 {
     let (field, after) = field_at(cursor)?;
     match field.left {
-        [] => Ok((Rows::new(alloc), after)),
+        [] => Ok((Texts::new(alloc), after)),
         [_, ..] => Ok((annotations_of(alloc, field)?, after)),
     }
 }
@@ -206,6 +206,6 @@ pub fn short_annotations_at(
     if annotated {
         annotations_at(alloc, cursor)
     } else {
-        Ok((Rows::new(alloc), cursor))
+        Ok((Texts::new(alloc), cursor))
     }
 }

@@ -175,7 +175,7 @@ fn arguments_at(
 ) -> Result<(Nodes, Cursor<'_>), DecodeError>
     ensures { Gives nodes_seen result (arguments_at (node_at levels) count (spot cursor.entry)) }
 {
-    let mut nodes = Rows::new(alloc);
+    let mut nodes = Nodes::new(alloc);
     let mut here = cursor;
     for _ in 0..count {
         let (node, after) = node_at(alloc, levels, here)?;
@@ -210,7 +210,7 @@ fn nodes_within(
 ) -> Result<(Nodes, Cursor<'_>), DecodeError>
     ensures { Gives nodes_seen result (nodes_within (node_at levels) (length field.entry.left.now) (spot field.entry)) }
 {
-    let mut nodes = Rows::new(alloc);
+    let mut nodes = Nodes::new(alloc);
     let mut here = field;
     for _ in 0..field.left.len() {
         if here.left.is_empty() {

@@ -27,7 +27,7 @@ use Rattle.mich_instr.specs.declared.instr.Script.{Script as CodeScript}
 use Rattle.mich_control.specs.declared.error.CheckError.{CheckError}
 use Rattle.mich_control.specs.declared.error.CheckError.TheVariants as error
 use Rattle.mich_control.specs.Answers.{IsFault}
-use Rattle.mich_check.proofs.sections_lemmas.ForCallers.{script_moves}
+use Rattle.mich_outline.proofs.ForCallers.{script_moves}
 use Rattle.mich_check.specs.Scripts.{IsTyped, IsTypedAt, Origin, origin, originated, IsBehind}
 use Rattle.mich_control.specs.View.{is_view}
 use Rattle.mich_control.proofs.ForCallers.{fault_is, formed}

@@ -6,4 +6,3 @@ pub mod LiteralTyping
 pub mod OriginStacks
 pub mod ScriptTyping
 pub mod CreateTyping
-pub mod sections_lemmas

@@ -27,7 +27,7 @@ use Rattle.mich_base.specs.View.{tree, trees}
 use Rattle.mich_data.specs.View.{pending, all_pending}
 use Rattle.mich_data.specs.declared.pending.Pending.{Pending as Item}
 use Rattle.mich_overload.specs.View.{kinds}
-use Rattle.mich_stackrules.proofs.ForCallers.{argument_from}
+use Rattle.mich_outline.proofs.ForCallers.{argument_from}
 use Rattle.mich_instr.specs.Plain.{bare}
 use Rattle.mich_instr.specs.Code.{Code}
 use Rattle.mich_instr.specs.Code as made

@@ -13,11 +13,11 @@ use Rattle.rules_code.specs.typing.Sections.{Body}
 use Rattle.rules_code.specs.typing.Scripts.{Outline, TypedView, View, Script, fault_of_body, view_fault, unless_fault, a_view, with_views, a_script, with_bodies}
 use Rattle.mich_base.specs.declared.ty.Ty.{Ty}
 use Rattle.mich_base.specs.View.{tree}
-use Rattle.mich_check.specs.sections.Outlines.{outline_at}
-use Rattle.mich_check.specs.sections.View.{outline_of, view_of}
-use Rattle.mich_check.specs.declared.sections.outline.Outline.{Outline as CodeOutline}
-use Rattle.mich_check.specs.declared.sections.outline.View.{View as Item}
-use Rattle.mich_check.proofs.sections_lemmas.ForCallers.{ViewsSmall, bodies_small, script_moves}
+use Rattle.mich_outline.specs.Outlines.{outline_at}
+use Rattle.mich_outline.specs.View.{outline_of, view_of}
+use Rattle.mich_outline.specs.declared.outline.Outline.{Outline as CodeOutline}
+use Rattle.mich_outline.specs.declared.outline.View.{View as Item}
+use Rattle.mich_outline.proofs.ForCallers.{ViewsSmall, bodies_small, script_moves}
 use Rattle.mich_instr.specs.Code.{Codes, ViewCode, ViewCodes, no_view, more_views}
 use Rattle.mich_instr.specs.Code as made
 use Rattle.mich_instr.specs.View.{codes, script_code, script_node, node_of, view_code, view_codes}

@@ -1,4 +1,3 @@
 pub mod Pending
 pub mod Scripts
-pub mod sections
 pub mod cache

@@ -14,7 +14,7 @@ use Rattle.rules_code.specs.typing.Scripts.{Outline, TypedView, View, is_small, 
 use Rattle.mich_base.specs.declared.ty.Ty.{Ty}
 use Rattle.mich_base.specs.TypeView.{kind}
 use Rattle.mich_base.specs.View.{tree}
-use Rattle.mich_check.specs.declared.sections.outline.View.{View as Item}
+use Rattle.mich_outline.specs.declared.outline.View.{View as Item}
 use Rattle.mich_overload.specs.View.{kinds}
 use Rattle.mich_instr.specs.Code.{Codes, ScriptCode, ViewCode}
 use Rattle.mich_instr.specs.Code as made

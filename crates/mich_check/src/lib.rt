@@ -11,7 +11,6 @@ mod lambdas;
 mod literals;
 mod nodes;
 mod scripts;
-pub mod sections;
 
 pub use lambdas::check_body;
 pub use literals::{Checked, check_literal, check_literal_at};

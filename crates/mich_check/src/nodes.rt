@@ -27,7 +27,7 @@ use mich_control::{
 };
 use mich_data::Pending;
 use mich_instr::Instr;
-use mich_stackrules::Attribute;
+use mich_outline::Attribute;
 use mich_types::behind;
 use std::alloc::Global;
 

@@ -7,8 +7,8 @@ ghost use Rattle.rules_code.specs.instructions.Forms.{form_of};
 ghost use Rattle.mich_base.specs.TypeView.{kind};
 ghost use Rattle.mich_base.specs.View.{tree, trees};
 ghost use Rattle.mich_overload.specs.View.{kinds};
-ghost use Rattle.mich_check.specs.sections.Outlines.{outline_at};
-ghost use Rattle.mich_check.specs.sections.View.{body_of, outline_of, view_of};
+ghost use Rattle.mich_outline.specs.Outlines.{outline_at};
+ghost use Rattle.mich_outline.specs.View.{body_of, outline_of, view_of};
 ghost use Rattle.mich_instr.specs.View.{codes, script_code, view_code, view_codes};
 ghost use Rattle.mich_control.specs.View.{context};
 ghost use Rattle.mich_control.specs.Answers.{IsFound, IsInstrAt};
@@ -17,10 +17,10 @@ ghost use Rattle.mich_check.specs.Scripts.{AreTypedViews, IsScriptCode, IsTyped,
 use crate::creating::{origination, stack_behind};
 use crate::ends::{Ends, code_ends, view_ends};
 use crate::nodes::check_body;
-use crate::sections::{Outline, Placed, SectionsError, View, read_outline};
 use mich_base::{App, Memory, Node, Rows, Shared, Ty, copy_node, copy_type};
 use mich_control::{CheckError, Made, Place, ends_in, is_view, only};
 use mich_instr::{Block, Instr, Script, ViewCode};
+use mich_outline::{Outline, Placed, TypingError, View, read_outline};
 use std::alloc::Global;
 
 // The types of a script and its bodies.
@@ -30,8 +30,8 @@ fn outlined<'a>(alloc: Global, node: &'a Node, at: u32) -> Result<Outline<'a>, C
 {
     match read_outline(alloc, node, at) {
         Ok(outline) => Ok(outline),
-        Err(SectionsError::Fault(location)) => Err(CheckError::IllTyped(location)),
-        Err(SectionsError::Memory) => Err(CheckError::Memory),
+        Err(TypingError::Fault(location)) => Err(CheckError::IllTyped(location)),
+        Err(TypingError::Memory) => Err(CheckError::Memory),
     }
 }
 

@@ -17,7 +17,7 @@ use Rattle.mich_base.specs.declared.ty.Ty.{Ty}
 use Rattle.mich_base.specs.Counted.{IsNotOne, IsNotTwo}
 use Rattle.mich_base.specs.View.{tree, trees}
 use Rattle.mich_overload.specs.View.{kinds}
-use Rattle.mich_stackrules.specs.Answers.{found_from}
+use Rattle.mich_outline.specs.Answers.{found_from}
 use Rattle.mich_instr.specs.Code.{Code, Codes}
 use Rattle.mich_instr.specs.Code as made
 use Rattle.mich_instr.specs.View.{code, codes}

@@ -19,8 +19,8 @@ use Rattle.mich_base.specs.declared.ty.Ty.{Ty}
 use Rattle.mich_base.specs.TypeView.{kind}
 use Rattle.mich_base.specs.View.{tree, trees}
 use Rattle.mich_overload.specs.View.{kinds}
-use Rattle.mich_stackrules.specs.Answers.{found_from}
-use Rattle.mich_stackrules.proofs.ForCallers.{argument_from}
+use Rattle.mich_outline.specs.Answers.{found_from}
+use Rattle.mich_outline.proofs.ForCallers.{argument_from}
 use Rattle.mich_instr.specs.Code.{Code}
 use Rattle.mich_instr.specs.Code as i
 use Rattle.mich_instr.specs.Plain.{bare}

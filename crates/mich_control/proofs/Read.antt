@@ -3,7 +3,7 @@ use Rattle.std.proofs.Common.{◌≡◌, ℕ, ◌+◌, ap}
 use Rattle.std.specs.Prelude.{Err}
 use Rattle.rules_code.specs.instructions.Arguments.{Found, found, fault, and_then}
 use Rattle.rules_code.specs.typing.Typing.{Typing, bad, shift, on_found}
-use Rattle.mich_stackrules.specs.Answers.{found_from}
+use Rattle.mich_outline.specs.Answers.{found_from}
 use Rattle.mich_control.specs.declared.error.CheckError.{CheckError}
 use Rattle.mich_control.specs.declared.error.CheckError.TheVariants as error
 use Rattle.mich_control.specs.Answers.{IsFault, IsFound}

@@ -20,7 +20,7 @@ use Rattle.mich_base.specs.declared.ty.Ty.{Ty}
 use Rattle.mich_base.specs.Counted.{IsNotEmpty}
 use Rattle.mich_base.specs.View.{trees}
 use Rattle.mich_overload.specs.View.{kinds}
-use Rattle.mich_stackrules.specs.Answers.{found_from}
+use Rattle.mich_outline.specs.Answers.{found_from}
 use Rattle.mich_instr.specs.Plain.{kept}
 use Rattle.mich_instr.specs.Code.{Code}
 use Rattle.mich_instr.specs.Code as made_code

@@ -10,7 +10,7 @@ use Rattle.mich_base.specs.declared.node.Node.{Node}
 use Rattle.mich_base.specs.declared.ty.Ty.{Ty}
 use Rattle.mich_base.specs.View.{tree, trees}
 use Rattle.mich_overload.specs.View.{kinds}
-use Rattle.mich_stackrules.specs.Answers.{found_from}
+use Rattle.mich_outline.specs.Answers.{found_from}
 use Rattle.mich_instr.specs.Code as made
 use Rattle.mich_instr.specs.View.{code, codes}
 use Rattle.mich_control.specs.declared.error.CheckError.{CheckError}

@@ -5,7 +5,7 @@ ghost use Rattle.rules_code.specs.instructions.Control.{call_kinds};
 ghost use Rattle.mich_base.specs.TypeView.{kind};
 ghost use Rattle.mich_base.specs.View.{tree, trees};
 ghost use Rattle.mich_overload.specs.View.{kinds};
-ghost use Rattle.mich_stackrules.specs.Answers.{found_from};
+ghost use Rattle.mich_outline.specs.Answers.{found_from};
 ghost use Rattle.mich_instr.specs.Plain.{bare};
 ghost use Rattle.mich_instr.specs.View.{code, codes};
 ghost use Rattle.mich_control.specs.Answers.{IsFound};
@@ -20,7 +20,8 @@ use crate::reading::type_with;
 use crate::stacks::{only, push_type, with_made};
 use mich_base::{Link, Memory, Node, Nodes, Rows, Shared, Ty, copy_node, copy_type};
 use mich_instr::{Block, Instr};
-use mich_stackrules::{Attribute, is_within_limit};
+use mich_outline::Attribute;
+use mich_stackrules::is_within_limit;
 use mich_types::behind;
 use std::alloc::Global;
 
@@ -78,7 +79,7 @@ pub fn begun(alloc: Global, recursive: bool, arrow: &Arrow, at: u32) -> Result<R
 fn types_written(alloc: Global, first: &Node, second: &Node) -> Result<Nodes, Memory>
     ensures { IfOk result (λ ns. trees ns ≡ more (bare (tree first.now)) (more (bare (tree second.now)) none)) }
 {
-    let mut nodes = Rows::new(alloc);
+    let mut nodes = Nodes::new(alloc);
     nodes.push(bare_node(alloc, first)?)?;
     nodes.push(bare_node(alloc, second)?)?;
     Ok(nodes)

@@ -96,7 +96,7 @@ fn under(after: Option<Rows<Ty>>, upper: Rows<Ty>, at: u32) -> Result<Rows<Ty>, 
 fn written(alloc: Global, count: Count<'_>) -> Result<Nodes, Memory>
     ensures { IfOk result (λ ns. trees ns ≡ written count.entry) }
 {
-    let mut nodes = Rows::new(alloc);
+    let mut nodes = Nodes::new(alloc);
     match count {
         Count::One => Ok(nodes),
         Count::Written(_number, node) => {

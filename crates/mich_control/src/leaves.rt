@@ -16,7 +16,8 @@ use crate::place::{Place, is_view};
 use crate::plain::plain_app;
 use mich_base::{App, Rows, Ty};
 use mich_instr::Instr;
-use mich_stackrules::{RuleError, rule_at};
+use mich_outline::TypingError;
+use mich_stackrules::rule_at;
 use std::alloc::Global;
 
 /// An instruction without bodies at a location, by its arguments and the stack. IllTyped has the location of its first fault;
@@ -38,8 +39,8 @@ pub fn check_straight(
             instr: Instr::Straight(simple, written),
             after: Some(after),
         }),
-        Err(RuleError::Fault(location)) => Err(CheckError::IllTyped(location)),
-        Err(RuleError::Memory) => Err(CheckError::Memory),
+        Err(TypingError::Fault(location)) => Err(CheckError::IllTyped(location)),
+        Err(TypingError::Memory) => Err(CheckError::Memory),
     }
 }
 
@@ -65,8 +66,8 @@ pub fn check_transfer(
             instr: Instr::Straight(simple, written),
             after: Some(after),
         }),
-        Err(RuleError::Fault(location)) => Err(CheckError::IllTyped(location)),
-        Err(RuleError::Memory) => Err(CheckError::Memory),
+        Err(TypingError::Fault(location)) => Err(CheckError::IllTyped(location)),
+        Err(TypingError::Memory) => Err(CheckError::Memory),
     }
 }
 

@@ -7,7 +7,7 @@ ghost use Rattle.mich_base.specs.View.{app_tree, tree, trees};
 ghost use Rattle.mich_instr.specs.Plain.{bare, bares, kept, naming};
 ghost use Rattle.mich_control.specs.Kept.{is_named};
 
-use mich_base::{App, Memory, Node, Nodes, Primitive, Rows, Text, Texts, primitive_of_name};
+use mich_base::{App, Memory, Node, Nodes, Primitive, Text, Texts, primitive_of_name};
 use mich_types::field_name;
 use std::alloc::Global;
 
@@ -22,7 +22,7 @@ pub(crate) fn bare_node(alloc: Global, node: &Node) -> Result<Node, Memory>
         Node::Bytes(bytes) => Ok(Node::Bytes(bytes.copy(alloc)?)),
         Node::Prim(app) => {
             let name = app.name.copy(alloc)?;
-            let annots = Rows::new(alloc);
+            let annots = Texts::new(alloc);
             let args = bare_nodes(alloc, &app.args)?;
             Ok(Node::Prim(App { name, annots, args }))
         }
@@ -35,7 +35,7 @@ pub(crate) fn bare_node(alloc: Global, node: &Node) -> Result<Node, Memory>
 pub(crate) fn bare_nodes(alloc: Global, nodes: &Nodes) -> Result<Nodes, Memory>
     ensures { IfOk result (λ ns. trees ns ≡ bares (trees nodes.now)) }
 {
-    let mut copies = Rows::new(alloc);
+    let mut copies = Nodes::new(alloc);
     for node in nodes.as_slice() {
         copies.push(bare_node(alloc, node)?)?;
     }
@@ -49,14 +49,14 @@ fn annotation(alloc: Global, name: &[u8]) -> Result<Text, Memory>
     let mut bytes = Vec::new(alloc);
     bytes.push(b'%')?;
     bytes.extend_from_slice(name)?;
-    Ok(Text::from_vec(bytes))
+    Text::from_vec(bytes)
 }
 
 // The annotation that gives a name, if one does.
 pub(crate) fn naming(alloc: Global, annots: &Texts) -> Result<Texts, Memory>
     ensures { IfOk result (λ ts. ts ≡ naming (field_name annots.now)) }
 {
-    let mut kept = Rows::new(alloc);
+    let mut kept = Texts::new(alloc);
     if let Some(name) = field_name(annots) {
         kept.push(annotation(alloc, name)?)?;
     }
@@ -81,7 +81,7 @@ fn kept_annots(alloc: Global, primitive: Primitive, annots: &Texts) -> Result<Te
     if is_named(primitive) {
         naming(alloc, annots)
     } else {
-        Ok(Rows::new(alloc))
+        Ok(Texts::new(alloc))
     }
 }
 
@@ -91,7 +91,7 @@ pub(crate) fn kept_annotations(alloc: Global, app: &App) -> Result<Texts, Memory
 {
     match primitive_of_name(&app.name) {
         Some(primitive) => kept_annots(alloc, primitive, &app.annots),
-        None => Ok(Rows::new(alloc)),
+        None => Ok(Texts::new(alloc)),
     }
 }
 

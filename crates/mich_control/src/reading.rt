@@ -6,16 +6,15 @@ ghost use Rattle.rules_data.specs.forms.Spelling.{default_name};
 ghost use Rattle.rules_code.specs.instructions.Arguments.{annotated, count_argument, type_argument};
 ghost use Rattle.mich_base.specs.TypeView.{kind};
 ghost use Rattle.mich_base.specs.View.{tree};
-ghost use Rattle.mich_stackrules.specs.Answers.{found_from};
-ghost use Rattle.mich_stackrules.specs.View.{asked};
+ghost use Rattle.mich_outline.specs.Answers.{found_from};
+ghost use Rattle.mich_outline.specs.Attributes.{asked};
 ghost use Rattle.mich_control.specs.Answers.{IsFound};
 
 use crate::error::CheckError;
 use mich_base::{Node, Texts, Ty};
 use mich_forms::Entrypoint;
-use mich_stackrules::{
-    Attribute, OfCount, RuleError, count_argument, named_entrypoint, type_argument,
-};
+use mich_outline::{Attribute, TypingError, type_argument};
+use mich_stackrules::{OfCount, count_argument, named_entrypoint};
 use std::alloc::Global;
 
 /// The argument at a location as a type with an attribute. IllTyped has the location of its first fault; Memory where there is no
@@ -31,8 +30,8 @@ pub fn type_with(
 {
     match type_argument(alloc, attribute, node, place) {
         Ok(ty) => Ok(ty),
-        Err(RuleError::Fault(location)) => Err(CheckError::IllTyped(location)),
-        Err(RuleError::Memory) => Err(CheckError::Memory),
+        Err(TypingError::Fault(location)) => Err(CheckError::IllTyped(location)),
+        Err(TypingError::Memory) => Err(CheckError::Memory),
     }
 }
 
@@ -42,8 +41,8 @@ pub(crate) fn count_of_values(node: &Node, place: u32) -> Result<u32, CheckError
 {
     match count_argument(OfCount::Drop, node, place) {
         Ok(count) => Ok(count),
-        Err(RuleError::Fault(location)) => Err(CheckError::IllTyped(location)),
-        Err(RuleError::Memory) => Err(CheckError::Memory),
+        Err(TypingError::Fault(location)) => Err(CheckError::IllTyped(location)),
+        Err(TypingError::Memory) => Err(CheckError::Memory),
     }
 }
 
@@ -53,7 +52,7 @@ pub(crate) fn entrypoint_name(annots: &Texts, at: u32) -> Result<Entrypoint, Che
 {
     match named_entrypoint(annots, at) {
         Ok(name) => Ok(name),
-        Err(RuleError::Fault(location)) => Err(CheckError::IllTyped(location)),
-        Err(RuleError::Memory) => Err(CheckError::Memory),
+        Err(TypingError::Fault(location)) => Err(CheckError::IllTyped(location)),
+        Err(TypingError::Memory) => Err(CheckError::Memory),
     }
 }

@@ -8,7 +8,7 @@ ghost use Rattle.mich_base.specs.TypeView.{kind};
 ghost use Rattle.mich_base.specs.View.{trees};
 ghost use Rattle.mich_types.specs.Entered.{entry_of};
 ghost use Rattle.mich_overload.specs.View.{kinds};
-ghost use Rattle.mich_stackrules.specs.Answers.{found_from};
+ghost use Rattle.mich_outline.specs.Answers.{found_from};
 ghost use Rattle.mich_instr.specs.Typed.{HasForm};
 ghost use Rattle.mich_control.specs.Begun.{entry_in};
 ghost use Rattle.mich_control.specs.View.{context};

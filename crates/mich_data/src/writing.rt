@@ -40,7 +40,7 @@ pub fn value_node(alloc: Global, value: &Value) -> Result<Node, Memory>
         Value::Map(table) => table_node(alloc, table),
         Value::BigMap(big) => big_node(alloc, big.get()),
         Value::Lambda(body, recursive) => lambda_node(alloc, body.get(), *recursive),
-        Value::Operation(_) => Ok(Node::Seq(Rows::new(alloc))),
+        Value::Operation(_) => Ok(Node::Seq(Nodes::new(alloc))),
         Value::Ticket(ticket) => ticket_node(alloc, ticket.get()),
     }
 }
@@ -98,7 +98,7 @@ fn ticket_node(alloc: Global, ticket: &Ticket) -> Result<Node, Memory>
         (kind ticket.now.id.ty) (datum ticket.now.id.content) ticket.now.amount)) }
 {
     let issuer = ticket.id.issuer.bytes();
-    let mut parts = Rows::new(alloc);
+    let mut parts = Nodes::new(alloc);
     parts.push(Node::Bytes(Bytes::from_slice(alloc, issuer.as_slice())?))?;
     parts.push(type_node(alloc, &ticket.id.ty)?)?;
     parts.push(datum_node(alloc, &ticket.id.content)?)?;
@@ -114,14 +114,16 @@ fn list_node(alloc: Global, values: &Chain<Value>) -> Result<Node, Memory>
     for value in values.as_reversed_slice() {
         nodes.push(value_node(alloc, value)?)?;
     }
-    Ok(sequence(Rows::from_vec(nodes.into_vec())))
+    let rows = Rows::from_vec(nodes.into_vec());
+    let written = Nodes::from_rows(rows)?;
+    Ok(sequence(written))
 }
 
 #[tactic(auto, using(crate::proofs::Written::elements_written))]
 fn set_node(alloc: Global, elements: &Elements) -> Result<Node, Memory>
     ensures { IfOk result (λ n. tree n ≡ seq (canonicals (datums elements.now))) }
 {
-    let mut nodes = Rows::new(alloc);
+    let mut nodes = Nodes::new(alloc);
     for element in elements.iter() {
         nodes.push(datum_node(alloc, element)?)?;
     }
@@ -132,7 +134,7 @@ fn set_node(alloc: Global, elements: &Elements) -> Result<Node, Memory>
 fn entry_node(alloc: Global, key: &Datum, value: Node) -> Result<Node, Memory>
     ensures { IfOk result (λ n. tree n ≡ over_two (codes "Elt") (canonical (datum key.now)) (tree value)) }
 {
-    let mut args = Rows::with_capacity(alloc, 2)?;
+    let mut args = Nodes::with_capacity(alloc, 2)?;
     args.push(datum_node(alloc, key)?)?;
     args.push(value)?;
     application(alloc, b"Elt", args)
@@ -143,7 +145,7 @@ fn entry_node(alloc: Global, key: &Datum, value: Node) -> Result<Node, Memory>
 fn table_node(alloc: Global, table: &Table<Value>) -> Result<Node, Memory>
     ensures { IfOk result (λ n. tree n ≡ seq (canonical_entries (pairs table.now))) }
 {
-    let mut nodes = Rows::with_capacity(alloc, table.len())?;
+    let mut nodes = Nodes::with_capacity(alloc, table.len())?;
     for (key, value) in table.iter() {
         let literal = value_node(alloc, value)?;
         nodes.push(entry_node(alloc, key, literal)?)?;
@@ -156,7 +158,7 @@ fn table_node(alloc: Global, table: &Table<Value>) -> Result<Node, Memory>
 fn big_node(alloc: Global, big: &BigMap) -> Result<Node, Memory>
     ensures { IfOk result (λ n. tree n ≡ seq (canonical_entries (big_pairs big.now))) }
 {
-    let mut nodes = Rows::with_capacity(alloc, big.overlay.len())?;
+    let mut nodes = Nodes::with_capacity(alloc, big.overlay.len())?;
     for (key, change) in big.overlay.as_slice() {
         if let Some(value) = change {
             let literal = value_node(alloc, value)?;

@@ -86,5 +86,5 @@ pub fn scenario(alloc: Global, calls: u32) -> Result<Bytes, Memory>
         x = next(x);
         put_call(alloc, &mut text, x)?;
     }
-    Ok(Bytes::from_vec(text))
+    Bytes::from_vec(text)
 }

@@ -17,14 +17,10 @@ use mich_types::{application, bare, over_one, over_two};
 use std::alloc::Global;
 
 // Equal nodes.
-fn copied(alloc: Global, nodes: &Nodes) -> Result<Nodes, Memory>
+fn copied(_alloc: Global, nodes: &Nodes) -> Result<Nodes, Memory>
     ensures { IfOk result (λ ns. ns ≡ nodes.now) }
 {
-    let mut copies = Rows::new(alloc);
-    for node in nodes.as_slice() {
-        copies.push(copy_node(alloc, node)?)?;
-    }
-    Ok(copies)
+    nodes.share()
 }
 
 // An equal application.
@@ -70,7 +66,7 @@ fn self_node(alloc: Global, annots: &Texts) -> Result<Node, Memory>
 {
     let name = Text::from_slice(alloc, b"SELF")?;
     let annots = copy_texts(alloc, annots)?;
-    let args = Rows::new(alloc);
+    let args = Nodes::new(alloc);
     Ok(Node::Prim(App { name, annots, args }))
 }
 
@@ -87,7 +83,7 @@ pub fn erase(alloc: Global, code: &Rows<Instr>) -> Result<Node, Memory>
     ensures written { IfOk result (λ n. tree n ≡ seq (all_erased (view.codes code.now))) }
     ensures plain { (c : Context) (ts : Trees) (A B : List Kind) → AreCode c ts (view.codes code.now) A B → IfOk result (λ n. tree n ≡ plain (seq ts)) }
 {
-    let mut nodes = Rows::new(alloc);
+    let mut nodes = Nodes::new(alloc);
     for instr in code.as_slice() {
         nodes.push(erase_instr(alloc, instr)?)?;
     }

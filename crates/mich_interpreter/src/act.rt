@@ -1,6 +1,6 @@
 // What an instruction came to.
 use crate::frame::Frame;
-use mich_base::{Link, Ty};
+use mich_base::{Boxed, Link, Ty};
 use mich_instr::Block;
 use mich_step::Env;
 use mich_term::Value;
@@ -34,6 +34,6 @@ pub(crate) enum Act {
     // A block opens, over a frame or none.
     Open(Option<Frame>, Block),
     // A view opens.
-    View(Link<View>),
+    View(Boxed<View>),
     Failed(Failed),
 }

@@ -16,7 +16,7 @@ use crate::paying::pay_capped;
 use crate::stack::{pop, push};
 use crate::state::State;
 use mich_base::{
-    APPLIED_DEPTH, APPLIED_SIZE, Memory, Node, Rows, Shared, Ty, copy_node, depth_within,
+    APPLIED_DEPTH, APPLIED_SIZE, Memory, Node, Nodes, Shared, Ty, copy_node, depth_within,
     size_within,
 };
 use mich_data::value_node;
@@ -39,7 +39,7 @@ fn rec_node(alloc: Global, first: &Ty, second: &Ty, ret: &Ty, body: &Node) -> Re
 {
     let part = type_node(alloc, first)?;
     let both = over_two(alloc, b"pair", part, type_node(alloc, second)?)?;
-    let mut args = Rows::new(alloc);
+    let mut args = Nodes::new(alloc);
     args.push(both)?;
     args.push(type_node(alloc, ret)?)?;
     args.push(copy_node(alloc, body)?)?;
@@ -50,7 +50,7 @@ fn rec_node(alloc: Global, first: &Ty, second: &Ty, ret: &Ty, body: &Node) -> Re
 fn plain_node(alloc: Global, captured: &Ty, value: &Value, body: &Node) -> Result<Node, Memory>
     ensures { IfOk result (λ n. tree n ≡ seq (trees_of (push_node (kind captured.now) (val value.now) ∷ named (codes "PAIR") none ∷ tree body.now ∷ []))) }
 {
-    let mut nodes = Rows::new(alloc);
+    let mut nodes = Nodes::new(alloc);
     nodes.push(push_node(alloc, captured, value)?)?;
     nodes.push(bare(alloc, b"PAIR")?)?;
     nodes.push(copy_node(alloc, body)?)?;
@@ -68,7 +68,7 @@ fn recursive_node(
 ) -> Result<Node, Memory>
     ensures { IfOk result (λ n. tree n ≡ applied (kind captured.now) (kind rest.now) (kind ret.now) (val value.now) (tree body.now) true) }
 {
-    let mut nodes = Rows::new(alloc);
+    let mut nodes = Nodes::new(alloc);
     nodes.push(push_node(alloc, captured, value)?)?;
     nodes.push(bare(alloc, b"PAIR")?)?;
     nodes.push(rec_node(alloc, captured, rest, ret, body)?)?;

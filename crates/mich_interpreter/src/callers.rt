@@ -10,7 +10,7 @@ use crate::frame::Frame;
 use crate::machine::Machine;
 use crate::stack::{pop, push};
 use crate::state::State;
-use mich_base::{BLOCK_LIMIT, Link, Memory, Rows};
+use mich_base::{BLOCK_LIMIT, Boxed, Link, Memory, Rows};
 use mich_instr::{Block, Issued};
 use mich_step::Env;
 use mich_term::Value;
@@ -35,7 +35,7 @@ pub(crate) fn enter(
     alloc: Global,
     m: &mut Machine,
     callers: &mut Rows<Caller>,
-    view: Link<View>,
+    view: Boxed<View>,
 ) -> Result<bool, Memory>
     ensures { IfOk result (λ b. IsEntered b view m.old callers.old m.new callers.new) }
 {

@@ -41,13 +41,13 @@ fn key_hash_of(value: Value) -> KeyHash
 }
 
 // Takes the delegate on top, if there is one.
-fn pop_delegate(stack: &mut Rows<Value>) -> Option<KeyHash>
+fn pop_delegate(stack: &mut Rows<Value>) -> Result<Option<KeyHash>, Memory>
     requires { (big : Sight) × HasDelegate (tops big stack.old) }
-    ensures { (big : Sight) → tops big stack.old ≡ delegate_value result ∷ tops big stack.new }
+    ensures { IfOk result (λ hash. (big : Sight) → tops big stack.old ≡ delegate_value hash ∷ tops big stack.new) }
 {
     match stack.pop() {
-        Some(Value::None) => None,
-        Some(Value::Some(value)) => Some(key_hash_of(value.into_value())),
+        Some(Value::None) => Ok(None),
+        Some(Value::Some(value)) => Ok(Some(key_hash_of(value.into_value()?))),
         _ => unreachable!(),
     }
 }
@@ -88,7 +88,7 @@ pub(crate) fn act_create(
     if !pay(&mut m.meter, costs, Kind::CreateContract, 0) {
         return Ok(Act::Failed(Failed::OutOfGas));
     }
-    let delegate = pop_delegate(&mut m.stack);
+    let delegate = pop_delegate(&mut m.stack)?;
     let amount = pop_amount(&mut m.stack);
     let storage = pop(&mut m.stack);
     let Some(number) = count_operation(&mut m.counts) else {

@@ -1,7 +1,7 @@
 // What is left to do when the part above it has ended.
 use crate::items::Items;
 use crate::made::Making;
-use mich_base::{Link, Rows};
+use mich_base::{Boxed, Rows};
 use mich_instr::Block;
 use mich_term::Value;
 
@@ -16,7 +16,7 @@ pub(crate) enum Frame {
     // ITER's body, and the items that are left.
     Each(Block, Items),
     // MAP's body, and what it has made, while one more result is made.
-    Making(Block, Link<Making>),
+    Making(Block, Boxed<Making>),
     // The values above the stack that DIP works on.
     Under(Rows<Value>),
     // The stack below a call.

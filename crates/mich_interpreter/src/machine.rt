@@ -26,7 +26,7 @@ use crate::mapping::{act_map, next_made};
 use crate::stack::{put_all, put_below};
 use crate::state::State;
 use crate::straights::act_straight;
-use mich_base::{BLOCK_LIMIT, Link, Memory, Rows};
+use mich_base::{BLOCK_LIMIT, Boxed, Memory, Rows};
 use mich_check::cache::Bodies;
 use mich_gas::Costs;
 use mich_instr::{Block, Instr};
@@ -51,7 +51,7 @@ pub(crate) enum Step {
     // Something that was paid for.
     Paid,
     // A view opens, which was paid for.
-    View(Link<View>),
+    View(Boxed<View>),
     Done,
     Failed(Failed),
 }

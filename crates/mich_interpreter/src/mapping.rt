@@ -16,7 +16,7 @@ use crate::made::{Making, OverList, OverTable};
 use crate::paying::pay;
 use crate::stack::{pop, push};
 use crate::state::State;
-use mich_base::{Link, Memory, Rows};
+use mich_base::{Boxed, Link, Memory, Rows};
 use mich_gas::{Costs, Kind};
 use mich_instr::Block;
 use mich_term::{Chain, Datum, Table, Value};
@@ -52,7 +52,7 @@ fn open_value(
     }
     push(&mut m.stack, item)?;
     let code = body.share()?;
-    let making = Link::new(alloc, Making::Value(work))?;
+    let making = Boxed::new(alloc, Making::Value(work))?;
     Ok(Act::Open(Some(Frame::Making(body, making)), code))
 }
 
@@ -104,7 +104,7 @@ fn open_entry(
     let item = pair_of(alloc, &key, value)?;
     push(&mut m.stack, item)?;
     let code = body.share()?;
-    let making = Link::new(alloc, Making::Entry(work, key))?;
+    let making = Boxed::new(alloc, Making::Entry(work, key))?;
     Ok(Act::Open(Some(Frame::Making(body, making)), code))
 }
 
@@ -189,7 +189,7 @@ fn next_part(
     push(&mut m.stack, part)?;
     let below = body.share()?;
     let code = body.share()?;
-    let making = Link::new(alloc, Making::Part)?;
+    let making = Boxed::new(alloc, Making::Part)?;
     Ok(Act::Open(Some(Frame::Making(below, making)), code))
 }
 
@@ -222,7 +222,7 @@ fn begin_map(
             let made = Table::new(alloc);
             Ok(next_entry(alloc, m, costs, body, OverTable { left, made })?)
         }
-        Value::Some(part) => Ok(next_part(alloc, m, costs, body, part.into_value())?),
+        Value::Some(part) => Ok(next_part(alloc, m, costs, body, part.into_value()?)?),
         Value::None => {
             push(&mut m.stack, Value::None)?;
             Ok(Act::On)

@@ -75,8 +75,8 @@ pub(crate) fn open_union(stack: &mut Rows<Value>) -> Result<(), Memory>
     ensures { IfOk result (λ _. (big : Sight) → tops big stack.new ≡ opened (tops big stack.old)) }
 {
     match stack.pop() {
-        Some(Value::Left(value)) => push(stack, value.into_value()),
-        Some(Value::Right(value)) => push(stack, value.into_value()),
+        Some(Value::Left(value)) => push(stack, value.into_value()?),
+        Some(Value::Right(value)) => push(stack, value.into_value()?),
         _ => unreachable!(),
     }
 }
@@ -88,7 +88,7 @@ pub(crate) fn open_option(stack: &mut Rows<Value>) -> Result<(), Memory>
 {
     match stack.pop() {
         Some(Value::None) => Ok(()),
-        Some(Value::Some(value)) => push(stack, value.into_value()),
+        Some(Value::Some(value)) => push(stack, value.into_value()?),
         _ => unreachable!(),
     }
 }

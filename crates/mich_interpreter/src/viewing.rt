@@ -15,7 +15,7 @@ use crate::paying::pay;
 use crate::stack::{pop, pop_address, push};
 use crate::state::State;
 use crate::visits::{Visit, find_view};
-use mich_base::{Link, Memory, Text, Ty};
+use mich_base::{Boxed, Link, Memory, Text, Ty};
 use mich_forms::Place;
 use mich_gas::{Costs, Kind};
 use mich_step::Env;
@@ -40,7 +40,7 @@ fn env_at(env: &Env, hash: [u8; 20], balance: u64) -> Env
 }
 
 // The view that opens on an input.
-fn opening(alloc: Global, env: &Env, visit: Visit, input: Value) -> Result<Link<View>, Memory>
+fn opening(alloc: Global, env: &Env, visit: Visit, input: Value) -> Result<Boxed<View>, Memory>
     ensures code { IfOk result (λ w. w.code ≡ visit.code) }
     ensures value { IfOk result (λ w. (big : Sight) → seen big w.value ≡ both (seen big input) (seen big visit.storage)) }
     ensures env { IfOk result (λ w. w.env ≡ env_at env.entry.now visit.hash visit.balance) }
@@ -53,7 +53,7 @@ fn opening(alloc: Global, env: &Env, visit: Visit, input: Value) -> Result<Link<
         value: Value::Pair(first, second),
         env,
     };
-    let view = Link::new(alloc, view)?;
+    let view = Boxed::new(alloc, view)?;
     Ok(view)
 }
 

@@ -31,7 +31,7 @@ pub(crate) fn finish(
     ensures bases { IfOk result (λ _. Extends world.old.store.bases.present world.new.store.bases.present) }
     ensures keeps { WithMemory result (KeepsWorld world.old world.new) }
 {
-    let (numbers, storage) = parts(stack);
+    let (numbers, storage) = parts(stack)?;
     let mut all = by_number(alloc, issued)?;
     let Some(returned) = pick(alloc, &mut all, numbers)? else {
         return Err(RunError::Failed(Failure::OperationReplay));

@@ -17,18 +17,18 @@ use std::collections::BTreeMap;
 pub(crate) type Numbered = BTreeMap<u32, Issued>;
 
 // The operations and the new storage that code leaves.
-pub(crate) fn parts(stack: Rows<Value>) -> (Chain<Value>, Value)
+pub(crate) fn parts(stack: Rows<Value>) -> Result<(Chain<Value>, Value), Memory>
     requires { (big : Sight) × (vs : Vals) × (w : Val) × (tops big stack ≡ both (list vs) w ∷ []) }
-    ensures { (big : Sight) → tops big stack ≡ both (list (vals_of (map (seen big) result.0))) (seen big result.1) ∷ [] }
+    ensures { IfOk result (λ p. (big : Sight) → tops big stack ≡ both (list (vals_of (map (seen big) p.0))) (seen big p.1) ∷ []) }
 {
     let mut stack = stack;
     let Some(Value::Pair(operations, storage)) = stack.pop() else {
         unreachable!();
     };
-    let Value::List(operations) = operations.into_value() else {
+    let Value::List(operations) = operations.into_value()? else {
         unreachable!();
     };
-    (operations, storage.into_value())
+    Ok((operations, storage.into_value()?))
 }
 
 fn number(operation: &Issued) -> u32

@@ -20,7 +20,7 @@ ghost use Rattle.mich_operations.specs.Transfers.{CallsAccount, IsSent, PaysAcco
 use crate::applied::{Applied, ApplyError};
 use crate::crediting::credit;
 use crate::printing::{is_unit, printed};
-use mich_base::{Node, Rows};
+use mich_base::{Memory, Node, Rows};
 use mich_forms::{Address, Entrypoint, KeyHash, Place};
 use mich_ops::{Effect, Failure};
 use mich_term::{Ticket, Value, abandon};
@@ -121,9 +121,9 @@ fn is_ticket(value: &Value) -> bool
 }
 
 // The ticket that a value is.
-fn ticket_of(value: Value) -> Ticket
+fn ticket_of(value: Value) -> Result<Ticket, Memory>
     requires { (bs : Bases) × (is_some (as_ticket (val_in bs value)) ≡ true) }
-    ensures { (bs : Bases) → val_in bs value ≡ as_value (held result) }
+    ensures { IfOk result (λ ticket. (bs : Bases) → val_in bs value ≡ as_value (held ticket)) }
 {
     let Value::Ticket(ticket) = value else {
         unreachable!();
@@ -185,16 +185,8 @@ pub(crate) fn send_account(
     }
     if is_ticket(&value) {
         let argument = printed(alloc, world.store(), &value)?;
-        return send_ticket(
-            alloc,
-            world,
-            from,
-            to,
-            entry,
-            amount,
-            argument,
-            ticket_of(value),
-        );
+        let ticket = ticket_of(value)?;
+        return send_ticket(alloc, world, from, to, entry, amount, argument, ticket);
     }
     let paid = pay_account(alloc, world, from, to, entry, amount, &value);
     abandon(value);

@@ -51,7 +51,7 @@ fn pack_node(alloc: Global, node: &Node) -> Result<Bytes, PackError>
     let mut bytes = Vec::new(alloc);
     bytes.push(5)?;
     bytes.extend_from_slice(body.as_slice())?;
-    Ok(Bytes::from_vec(bytes))
+    Ok(Bytes::from_vec(bytes)?)
 }
 
 /// The packed form of a value: the byte 5, and the binary form of its canonical literal (Michelson reference, "PACK").

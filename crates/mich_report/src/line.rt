@@ -11,7 +11,7 @@ use std::alloc::Global;
 pub fn node_line(alloc: Global, node: &Node) -> Result<Text, Memory>
     ensures { IfOk result (λ written. written ≡ line (tree node.now)) }
 {
-    let mut line = print(alloc, node)?.into_vec();
+    let mut line = print(alloc, node)?.into_vec(alloc)?;
     line.push(b'\n')?;
-    Ok(Text::from_vec(line))
+    Text::from_vec(line)
 }

@@ -112,16 +112,25 @@ pub(crate) fn add_contracts(alloc: Global, world: &World, lines: &mut Texts) -> 
     Ok(())
 }
 
-/// A ticket with what was minted of it, what was burnt, and the rest, which is held.
+// A ticket with what was minted of it, what was burnt, and the rest, which is held.
+fn totals_node(alloc: Global, id: &TicketId, totals: Totals) -> Result<Node, Memory>
+    requires minted { pos 0 ≤ℤ totals.minted }
+    requires burnt { pos 0 ≤ℤ totals.burnt }
+    ensures { IfOk result (λ n. tree n ≡ totals_node totals (identity id.now)) }
+{
+    let mut fields = ticket_nodes(alloc, id, totals.minted)?;
+    fields.push(Node::Int(totals.burnt))?;
+    fields.push(Node::Int(totals.minted - totals.burnt))?;
+    application(alloc, b"Tickets", fields)
+}
+
+/// Its line.
 pub(crate) fn ticket_line(alloc: Global, id: &TicketId, totals: Totals) -> Result<Text, Memory>
     requires minted { pos 0 ≤ℤ totals.minted }
     requires burnt { pos 0 ≤ℤ totals.burnt }
     ensures { IfOk result (λ t. t ≡ line (totals_node totals (identity id.now))) }
 {
-    let mut fields = ticket_nodes(alloc, id, totals.minted)?;
-    fields.push(Node::Int(totals.burnt))?;
-    fields.push(Node::Int(totals.minted - totals.burnt))?;
-    let node = application(alloc, b"Tickets", fields)?;
+    let node = totals_node(alloc, id, totals)?;
     node_line(alloc, &node)
 }
 
@@ -197,5 +206,6 @@ pub fn state_text(alloc: Global, world: &World) -> Result<Text, Memory>
     for line in lines.as_slice() {
         text.extend_from_slice(line.as_slice())?;
     }
-    Ok(Text::from_vec(text))
+    let written = Text::from_vec(text)?;
+    Ok(written)
 }

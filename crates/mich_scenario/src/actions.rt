@@ -8,7 +8,7 @@ ghost use Rattle.mich_scenario.specs.Fronts.{call_with, called, gift_with, given
 
 use crate::counted::{eight, five};
 use crate::fields::{contract_place, entrypoint, gas, number, place, ticket_amount};
-use mich_base::{MOST_MUTEZ, Node, Nodes};
+use mich_base::{MOST_MUTEZ, Node, Rows};
 use mich_forms::{Entrypoint, Place};
 use mich_ops::{Action, Content};
 
@@ -43,7 +43,7 @@ pub(crate) struct Gift {
 
 // fee gas balance
 #[tactic(auto, using(crate::proofs::Counts::origin_fields))]
-fn read_origin(front: &Nodes) -> Option<Origin>
+fn read_origin(front: &Rows<Node>) -> Option<Origin>
     ensures { (script storage : Tree) → option_map (originated script storage) result ≡ content_by (codes "Originate") (nodes_of (trees front.now) ++ script ∷ storage ∷ []) }
 {
     let Some((fee, limit, balance)) = front.three() else {
@@ -56,7 +56,7 @@ fn read_origin(front: &Nodes) -> Option<Origin>
 }
 
 // fee gas balance script storage
-fn originate(fields: Nodes) -> Option<Content>
+fn originate(fields: Rows<Node>) -> Option<Content>
     ensures { option_map content result ≡ content_by (codes "Originate") (nodes_of (trees fields)) }
 {
     let mut fields = fields;
@@ -99,7 +99,7 @@ fn order_of(fee: &Node, limit: &Node, amount: &Node, to: &Node, entry: &Node) ->
 }
 
 #[tactic(auto, using(crate::proofs::Counts::order_fields))]
-fn read_order(front: &Nodes) -> Option<Order>
+fn read_order(front: &Rows<Node>) -> Option<Order>
     ensures { (argument : Tree) → option_map (called argument) result ≡ content_by (codes "Call") (nodes_of (trees front.now) ++ argument ∷ []) }
 {
     match five(front) {
@@ -109,7 +109,7 @@ fn read_order(front: &Nodes) -> Option<Order>
 }
 
 // fee gas amount destination "entrypoint" argument
-fn call(fields: Nodes) -> Option<Content>
+fn call(fields: Rows<Node>) -> Option<Content>
     ensures { option_map content result ≡ content_by (codes "Call") (nodes_of (trees fields)) }
 {
     let mut fields = fields;
@@ -169,7 +169,7 @@ fn gift_of(
 
 // fee gas issuer type content amount destination "entrypoint"
 #[tactic(auto, using(crate::proofs::Counts::gift_fields))]
-fn read_gift(fields: &Nodes) -> Option<Gift>
+fn read_gift(fields: &Rows<Node>) -> Option<Gift>
     ensures { MatchOption result (content_by (codes "Give") (nodes_of (trees fields.now)) ≡ None) (λ g. IsGift fields.now g) }
 {
     match eight(fields) {
@@ -179,7 +179,7 @@ fn read_gift(fields: &Nodes) -> Option<Gift>
 }
 
 // The same, with the type and the content as they are.
-fn give(fields: Nodes) -> Option<Content>
+fn give(fields: Rows<Node>) -> Option<Content>
     ensures { option_map content result ≡ content_by (codes "Give") (nodes_of (trees fields)) }
 {
     let gift = read_gift(&fields)?;
@@ -216,7 +216,7 @@ fn given(gift: Gift, ty: Node, literal: Node) -> Content
 }
 
 /// The content of a name with fields.
-pub(crate) fn content_by(name: &[u8], fields: Nodes) -> Option<Content>
+pub(crate) fn content_by(name: &[u8], fields: Rows<Node>) -> Option<Content>
     ensures { option_map content result ≡ content_by name.now (nodes_of (trees fields)) }
 {
     if name == b"Originate".as_slice() {

@@ -1,5 +1,5 @@
 // The forms of statements.
-ghost use Rattle.std.specs.Prelude.{◌≡◌, ◌^◌, ℕ, [], Some, None, option_map, MatchOption};
+ghost use Rattle.std.specs.Prelude.{◌≡◌, ◌^◌, ℕ, [], Some, None, IfOk, option_map, MatchOption};
 ghost use Rattle.rules_text.specs.nodes.Tree.{prim, seq};
 ghost use Rattle.rules_files.specs.statements.Statements.{account_of, block_of, chain_of, contents_of, content_by, costs_of, counted, each_content, form, group_of, named, nodes_of, profile_of, statement_by};
 ghost use Rattle.mich_base.specs.View.{tree, trees};
@@ -11,7 +11,8 @@ use crate::error::FormError;
 use crate::fields::{chain_id, key_hash, moment, number, within};
 use crate::statement::Statement;
 use mich_base::{
-    App, MOST_CONTENTS, MOST_LEVEL, MOST_MUTEZ, MOST_RATE, Node, Nodes, Rows, Text, copy_node,
+    App, MOST_CONTENTS, MOST_LEVEL, MOST_MUTEZ, MOST_RATE, Memory, Node, Nodes, Rows, Text,
+    copy_node,
 };
 use mich_forms::KeyHash;
 use mich_gas::is_table;
@@ -20,7 +21,7 @@ use std::alloc::Global;
 
 // id level moment
 #[tactic(auto, using(crate::proofs::Counts::chain_fields))]
-fn chain(fields: &Nodes) -> Option<Statement>
+fn chain(fields: &Rows<Node>) -> Option<Statement>
     ensures { option_map said result ≡ chain_of (nodes_of (trees fields.now)) }
 {
     let Some((id, level, moment_node)) = fields.three() else {
@@ -34,7 +35,7 @@ fn chain(fields: &Nodes) -> Option<Statement>
 
 // key_hash mutez
 #[tactic(auto, using(crate::proofs::Counts::account_fields))]
-fn account(fields: &Nodes) -> Option<Statement>
+fn account(fields: &Rows<Node>) -> Option<Statement>
     ensures { option_map said result ≡ account_of (nodes_of (trees fields.now)) }
 {
     let Some((who, mutez)) = fields.both() else {
@@ -47,7 +48,7 @@ fn account(fields: &Nodes) -> Option<Statement>
 
 // level moment
 #[tactic(auto, using(crate::proofs::Counts::block_fields))]
-fn block(fields: &Nodes) -> Option<Statement>
+fn block(fields: &Rows<Node>) -> Option<Statement>
     ensures { option_map said result ≡ block_of (nodes_of (trees fields.now)) }
 {
     let Some((level, moment_node)) = fields.both() else {
@@ -60,7 +61,7 @@ fn block(fields: &Nodes) -> Option<Statement>
 
 // 2 rate
 #[tactic(auto, using(crate::proofs::Counts::profile_fields))]
-fn profile(fields: &Nodes) -> Option<Statement>
+fn profile(fields: &Rows<Node>) -> Option<Statement>
     ensures { option_map said result ≡ profile_of (nodes_of (trees fields.now)) }
 {
     let Some((version, rate)) = fields.both() else {
@@ -72,7 +73,7 @@ fn profile(fields: &Nodes) -> Option<Statement>
 }
 
 // { Cost NAME base coefficient ; .. }
-fn costs(fields: Nodes) -> Option<Statement>
+fn costs(fields: Rows<Node>) -> Option<Statement>
     ensures { option_map said result ≡ costs_of (nodes_of (trees fields)) }
 {
     let mut fields = fields;
@@ -102,11 +103,13 @@ fn plain(node: Node) -> Option<(Text, Nodes)>
     }
 }
 
-fn one_content(node: Node) -> Option<Content>
-    ensures { option_map content result ≡ named content_by (tree node) }
+fn one_content(node: Node) -> Result<Option<Content>, Memory>
+    ensures { IfOk result (λ read. option_map content read ≡ named content_by (tree node)) }
 {
-    let (name, fields) = plain(node)?;
-    content_by(name.as_slice(), fields)
+    match plain(node) {
+        Some((name, fields)) => Ok(content_by(name.as_slice(), fields.into_rows()?)),
+        None => Ok(None),
+    }
 }
 
 // The contents that nodes are, in order.
@@ -115,8 +118,8 @@ fn each_content(alloc: Global, nodes: Nodes) -> Result<Rows<Content>, FormError>
     ensures { IsForm contents_said (each_content (nodes_of (trees nodes))) result }
 {
     let mut contents = Rows::new(alloc);
-    for node in nodes.into_vec() {
-        let Some(content) = one_content(node) else {
+    for node in nodes.into_vec()? {
+        let Some(content) = one_content(node)? else {
             return Err(FormError::BadStatement);
         };
         contents.push(content)?;
@@ -158,7 +161,7 @@ fn contents(alloc: Global, node: Node) -> Result<Rows<Content>, FormError>
 
 // The source, before the contents.
 #[tactic(auto, using(crate::proofs::Counts::group_fields))]
-fn source(front: &Nodes) -> Option<KeyHash>
+fn source(front: &Rows<Node>) -> Option<KeyHash>
     ensures { MatchOption result (IsNoSource (nodes_of (trees front.now))) (IsSource (nodes_of (trees front.now))) }
 {
     match front.only() {
@@ -168,7 +171,7 @@ fn source(front: &Nodes) -> Option<KeyHash>
 }
 
 // The source and the contents.
-fn group(alloc: Global, fields: Nodes) -> Result<Statement, FormError>
+fn group(alloc: Global, fields: Rows<Node>) -> Result<Statement, FormError>
     ensures { IsForm said (group_of (nodes_of (trees fields))) result }
 {
     let mut fields = fields;
@@ -184,7 +187,7 @@ fn group(alloc: Global, fields: Nodes) -> Result<Statement, FormError>
     }
 }
 
-fn statement_by(alloc: Global, name: &[u8], fields: Nodes) -> Result<Statement, FormError>
+fn statement_by(alloc: Global, name: &[u8], fields: Rows<Node>) -> Result<Statement, FormError>
     ensures { IsForm said (statement_by name.now (nodes_of (trees fields))) result }
 {
     if name == b"Chain".as_slice() {
@@ -208,12 +211,12 @@ fn statement_by(alloc: Global, name: &[u8], fields: Nodes) -> Result<Statement, 
 /// `Block level moment`, or `Group source { content ; .. }` of 1 to 1,000 contents, each `Originate fee gas balance script
 /// storage`, `Call fee gas amount destination "entrypoint" argument` or `Give fee gas issuer type content amount destination
 /// "entrypoint"`, with amounts in mutez and moments in seconds. BadStatement of another node; Memory where there is no room for
-/// the list of contents. No part of the node is copied.
+/// the list of contents. No part of the node is copied that nothing else holds.
 pub fn take_form(alloc: Global, node: Node) -> Result<Statement, FormError>
     ensures { IsForm said (form (tree node)) result }
 {
     match plain(node) {
-        Some((name, fields)) => statement_by(alloc, name.as_slice(), fields),
+        Some((name, fields)) => statement_by(alloc, name.as_slice(), fields.into_rows()?),
         None => Err(FormError::BadStatement),
     }
 }

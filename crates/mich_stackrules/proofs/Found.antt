@@ -17,27 +17,15 @@ use Rattle.std.specs.Prelude.{Some, None}
 use Rattle.mich_base.specs.declared.node.Node.{Node}
 use Rattle.mich_base.specs.TypeView.{kind}
 use Rattle.mich_base.specs.View.{tree, trees}
-use Rattle.mich_stackrules.specs.declared.error.RuleError.{RuleError}
-use Rattle.mich_stackrules.specs.declared.error.RuleError.TheVariants as error
+use Rattle.mich_outline.specs.declared.error.TypingError.{TypingError}
+use Rattle.mich_outline.specs.declared.error.TypingError.TheVariants as error
 use Rattle.mich_stackrules.specs.declared.written.OfType.{OfType}
 use Rattle.mich_stackrules.specs.declared.written.OfCount.{OfCount}
 use Rattle.mich_stackrules.specs.declared.written.Written.{Written}
 use Rattle.mich_base.specs.Counted.{IsNotEmpty}
-use Rattle.mich_stackrules.specs.Answers.{IsFound, found_from}
+use Rattle.mich_outline.specs.Answers.{IsFound, found_from}
 use Rattle.mich_stackrules.specs.View.{IsBare, IsNoText, is_annotated, asked_of_type, asked_of_value, empty_map, empty_row, least, most, of_count, of_type, type_of, with_count, with_type, written}
-use Rattle.mich_stackrules.proofs.Shifts.{reading_from, type_at_from}
-
-with_attribute_from : (n at : ℕ) (asked : Kind → Bool) (r : Reading) → with_attribute asked (n + at) (reading_from n r) ≡ found_from n (with_attribute asked at r)
-with_attribute_from n at asked (a_type a) = by (asked a)
-  where
-    by : (b : Bool) → (if b then found a else fault (n + at)) ≡ found_from n (if b then found a else fault at)
-    by true = refl
-    by false = refl
-with_attribute_from n at asked (bad_type l) = refl
-with_attribute_from n at asked too_large = refl
-
-pub argument_from : (n at : ℕ) (asked : Kind → Bool) (t : Tree) → type_argument asked (n + at) t ≡ found_from n (type_argument asked at t)
-argument_from n at asked t = ap (with_attribute asked (n + at)) (type_at_from n at t) ∙ with_attribute_from n at asked _
+use Rattle.mich_outline.proofs.ForCallers.{argument_from}
 
 -- ---- what is read goes on, or its fault is the fault
 
@@ -45,15 +33,15 @@ goes : {A : Type 0} (n : ℕ) (f : Found A) (a : A) (next : A → Found Instruct
 goes n (found b) a next e = let h : b ≡ a = cc in ap (λ x. found_from n (next x)) h
 goes n (fault l) a next e = absurd cc
 
-no_fault : {A T : Type 0} (view : T → A) (n : ℕ) (b : A) (e : RuleError) (f : Found Instruction) → IsFound view (found b) (Err e) → IsFound written f (Err e)
+no_fault : {A T : Type 0} (view : T → A) (n : ℕ) (b : A) (e : TypingError) (f : Found Instruction) → IsFound view (found b) (Err e) → IsFound written f (Err e)
 no_fault view n b (error.Fault l) f h = absurd cc
 no_fault view n b error.Memory f h = tt
 
-same_fault : {A T : Type 0} (view : T → A) (n m : ℕ) (e : RuleError) → IsFound view (fault (n + m)) (Err e) → IsFound written (fault (n + m)) (Err e)
+same_fault : {A T : Type 0} (view : T → A) (n m : ℕ) (e : TypingError) → IsFound view (fault (n + m)) (Err e) → IsFound written (fault (n + m)) (Err e)
 same_fault view n m (error.Fault l) h = let k : n + m ≡ l = cc in ap fault k
 same_fault view n m error.Memory h = tt
 
-fails : {A T : Type 0} (view : T → A) (n : ℕ) (f : Found A) (next : A → Found Instruction) (e : RuleError) →
+fails : {A T : Type 0} (view : T → A) (n : ℕ) (f : Found A) (next : A → Found Instruction) (e : TypingError) →
     IsFound view (found_from n f) (Err e) → IsFound written (found_from n (and_then f next)) (Err e)
 fails view n (found b) next e h = no_fault view n b e (found_from n (next b)) h
 fails view n (fault m) next e h = same_fault view n m e h
@@ -76,7 +64,7 @@ one_goes : (n : ℕ) (asked : Kind → Bool) (ts : Trees) (f : Kind → Instruct
     found_from n (one_type asked ts f) ≡ found (f a)
 one_goes n asked ts f a e = ap (found_from n) (one_is asked ts f) ∙ goes n (type_of asked ts) a (λ a. found (f a)) e
 
-one_fails : (n : ℕ) (asked : Kind → Bool) (ts : Trees) (f : Kind → Instruction) (e : RuleError) → IsFound kind (found_from n (type_of asked ts)) (Err e) →
+one_fails : (n : ℕ) (asked : Kind → Bool) (ts : Trees) (f : Kind → Instruction) (e : TypingError) → IsFound kind (found_from n (type_of asked ts)) (Err e) →
     IsFound written (found_from n (one_type asked ts f)) (Err e)
 one_fails n asked ts f e h =
     subst (λ g. IsFound written (found_from n g) (Err e)) (sym (one_is asked ts f)) (fails kind n (type_of asked ts) (λ a. found (f a)) e h)
@@ -86,7 +74,7 @@ pub type_goes : (n : ℕ) (f : OfType) (asked : Kind → Bool) (ts : Trees) (a :
 type_goes n f asked ts a r s e h =
     one_goes n (asked_of_type f) ts (λ t. row (of_type f t)) a (subst (λ q. found_from n (type_of q ts) ≡ found a) s e) ∙ ap (λ x. found (row x)) (sym h)
 
-pub type_fails : (n : ℕ) (f : OfType) (asked : Kind → Bool) (ts : Trees) (e : RuleError) → asked ≡ asked_of_type f →
+pub type_fails : (n : ℕ) (f : OfType) (asked : Kind → Bool) (ts : Trees) (e : TypingError) → asked ≡ asked_of_type f →
     IsFound kind (found_from n (type_of asked ts)) (Err e) → IsFound written (found_from n (with_type f ts)) (Err e)
 type_fails n f asked ts e s h =
     one_fails n (asked_of_type f) ts (λ t. row (of_type f t)) e (subst (λ q. IsFound kind (found_from n (type_of q ts)) (Err e)) s h)
@@ -96,7 +84,7 @@ argument_goes : (n at place : ℕ) (asked : Kind → Bool) (t : Tree) (a : Kind)
 argument_goes n at place asked t a next p e =
     goes n (type_argument asked at t) a next (sym (argument_from n at asked t) ∙ ap (λ m. type_argument asked m t) (sym p) ∙ e)
 
-argument_fails : (n at place : ℕ) (asked : Kind → Bool) (t : Tree) (next : Kind → Found Instruction) (e : RuleError) → place ≡ n + at →
+argument_fails : (n at place : ℕ) (asked : Kind → Bool) (t : Tree) (next : Kind → Found Instruction) (e : TypingError) → place ≡ n + at →
     IsFound kind (type_argument asked place t) (Err e) → IsFound written (found_from n (and_then (type_argument asked at t) next)) (Err e)
 argument_fails n at place asked t next e p h =
     fails kind n (type_argument asked at t) next e
@@ -120,13 +108,13 @@ map_goes n place big asked ns x y a b r e ea p s eb h =
     (subst (λ q. type_argument q place (tree y) ≡ found b) s eb)
     ∙ ap (λ x. found (row (on_collections x))) (sym h)
 
-pub key_fails : (n : ℕ) (big : Bool) (ns : List Node) (x y : Node) (e : RuleError) → ns ≡ x ∷ y ∷ [] →
+pub key_fails : (n : ℕ) (big : Bool) (ns : List Node) (x y : Node) (e : TypingError) → ns ≡ x ∷ y ∷ [] →
     IsFound kind (type_argument comparable (n + 1) (tree x)) (Err e) → IsFound written (found_from n (empty_map big (trees ns))) (Err e)
 key_fails n big ns x y e q h =
     subst (λ ms. IsFound written (found_from n (empty_map big (trees ms))) (Err e)) (sym q)
     (argument_fails n 1 (n + 1) comparable (tree x) (map_next big (tree x) (tree y)) e refl h)
 
-pub value_fails : (n place : ℕ) (big : Bool) (asked : Kind → Bool) (ns : List Node) (x y : Node) (a : Kind) (e : RuleError) → ns ≡ x ∷ y ∷ [] →
+pub value_fails : (n place : ℕ) (big : Bool) (asked : Kind → Bool) (ns : List Node) (x y : Node) (a : Kind) (e : TypingError) → ns ≡ x ∷ y ∷ [] →
     type_argument comparable (n + 1) (tree x) ≡ found a → place ≡ n + 1 + size (tree x) → asked ≡ asked_of_value big →
     IsFound kind (type_argument asked place (tree y)) (Err e) → IsFound written (found_from n (empty_map big (trees ns))) (Err e)
 value_fails n place big asked ns x y a e q ea p s h =
@@ -141,7 +129,7 @@ value_fails n place big asked ns x y a e q ea p s h =
 abbrev contract_next : Trees → List ℕ → Found Instruction
 contract_next ts name = one_type passable ts (λ t. row (on_operations (i.contract name t)))
 
-pub contract_unnamed : (n : ℕ) (annots : List (List ℕ)) (ts : Trees) (e : RuleError) → IsFound (λ (name : List ℕ). name) (found_from n (annotated default_name annots)) (Err e) →
+pub contract_unnamed : (n : ℕ) (annots : List (List ℕ)) (ts : Trees) (e : TypingError) → IsFound (λ (name : List ℕ). name) (found_from n (annotated default_name annots)) (Err e) →
     IsFound written (found_from n (instruction (Some p.OpContract) annots ts)) (Err e)
 contract_unnamed n annots ts e h = fails (λ (name : List ℕ). name) n (annotated default_name annots) (contract_next ts) e h
 
@@ -150,7 +138,7 @@ pub contract_goes : (n : ℕ) (annots : List (List ℕ)) (ts : Trees) (name : Li
 contract_goes n annots ts name a e h =
     goes n (annotated default_name annots) name (contract_next ts) e ∙ one_goes n passable ts (λ t. row (on_operations (i.contract name t))) a h
 
-pub contract_fails : (n : ℕ) (annots : List (List ℕ)) (ts : Trees) (name : List ℕ) (e : RuleError) → found_from n (annotated default_name annots) ≡ found name →
+pub contract_fails : (n : ℕ) (annots : List (List ℕ)) (ts : Trees) (name : List ℕ) (e : TypingError) → found_from n (annotated default_name annots) ≡ found name →
     IsFound kind (found_from n (type_of passable ts)) (Err e) → IsFound written (found_from n (instruction (Some p.OpContract) annots ts)) (Err e)
 contract_fails n annots ts name e q h =
     subst (λ f. IsFound written f (Err e)) (sym (goes n (annotated default_name annots) name (contract_next ts) q))
@@ -165,7 +153,7 @@ emit_is : (tag : List ℕ) (ns : List Node) → IsNotEmpty ns → emit_of tag (t
 emit_is tag [] h = absurd h
 emit_is tag (x ∷ ns) h = refl
 
-pub emit_unnamed : (n : ℕ) (annots : List (List ℕ)) (ts : Trees) (e : RuleError) → IsFound (λ (tag : List ℕ). tag) (found_from n (annotated [] annots)) (Err e) →
+pub emit_unnamed : (n : ℕ) (annots : List (List ℕ)) (ts : Trees) (e : TypingError) → IsFound (λ (tag : List ℕ). tag) (found_from n (annotated [] annots)) (Err e) →
     IsFound written (found_from n (instruction (Some p.OpEmit) annots ts)) (Err e)
 emit_unnamed n annots ts e h = fails (λ (tag : List ℕ). tag) n (annotated [] annots) (emit_next ts) e h
 
@@ -180,7 +168,7 @@ emit_goes n annots ns tag a e q h =
     goes n (annotated [] annots) tag (emit_next (trees ns)) e ∙ ap (found_from n) (emit_is tag ns q)
     ∙ one_goes n pushable (trees ns) (λ t. row (on_operations (i.emit tag t))) a h
 
-pub emit_fails : (n : ℕ) (annots : List (List ℕ)) (ns : List Node) (tag : List ℕ) (e : RuleError) → found_from n (annotated [] annots) ≡ found tag → IsNotEmpty ns →
+pub emit_fails : (n : ℕ) (annots : List (List ℕ)) (ns : List Node) (tag : List ℕ) (e : TypingError) → found_from n (annotated [] annots) ≡ found tag → IsNotEmpty ns →
     IsFound kind (found_from n (type_of pushable (trees ns))) (Err e) → IsFound written (found_from n (instruction (Some p.OpEmit) annots (trees ns))) (Err e)
 emit_fails n annots ns tag e f q h =
     subst (λ g. IsFound written g (Err e)) (sym (goes n (annotated [] annots) tag (emit_next (trees ns)) f ∙ ap (found_from n) (emit_is tag ns q)))
@@ -224,7 +212,7 @@ pub view_goes : (n : ℕ) (ns : List Node) (x y : Node) (name : List ℕ) (a : K
 view_goes n ns x y name a e f h q =
     well_named n ns x y name e f h ∙ argument_goes n 2 (n + 2) packable (tree y) a (view_row name) refl q
 
-pub view_fails : (n : ℕ) (ns : List Node) (x y : Node) (name : List ℕ) (e : RuleError) → ns ≡ x ∷ y ∷ [] → tree x ≡ str name → is_view_name name ≡ true →
+pub view_fails : (n : ℕ) (ns : List Node) (x y : Node) (name : List ℕ) (e : TypingError) → ns ≡ x ∷ y ∷ [] → tree x ≡ str name → is_view_name name ≡ true →
     IsFound kind (type_argument packable (n + 2) (tree y)) (Err e) → IsFound written (found_from n (view_of (trees ns))) (Err e)
 view_fails n ns x y name e q f h k =
     subst (λ g. IsFound written g (Err e)) (sym (well_named n ns x y name q f h)) (argument_fails n 2 (n + 2) packable (tree y) (view_row name) e refl k)
@@ -256,7 +244,7 @@ count_goes n f ns x k r q e h =
     ∙ goes n (count_of f (tree x)) k (count_next f) (sym (count_from n 1 (least f) (most f) (tree x)) ∙ e)
     ∙ ap (λ y. found (row y)) (sym h)
 
-pub count_fails : (n : ℕ) (f : OfCount) (ns : List Node) (x : Node) (e : RuleError) → ns ≡ x ∷ [] →
+pub count_fails : (n : ℕ) (f : OfCount) (ns : List Node) (x : Node) (e : TypingError) → ns ≡ x ∷ [] →
     IsFound (λ (k : ℕ). k) (count_argument (least f) (most f) (n + 1) (tree x)) (Err e) → IsFound written (found_from n (with_count f (trees ns))) (Err e)
 count_fails n f ns x e q h =
     subst (λ ms. IsFound written (found_from n (with_count f (trees ms))) (Err e)) (sym q)

@@ -17,8 +17,6 @@ use Rattle.mich_overload.specs.View.{straight}
 use Rattle.mich_overload.specs.Ops as ops
 use Rattle.mich_stackrules.specs.declared.written.Written.{Written}
 use Rattle.mich_stackrules.specs.declared.written.Written.TheVariants as w
-use Rattle.mich_stackrules.specs.declared.written.Attribute.{Attribute}
-use Rattle.mich_stackrules.specs.declared.written.Attribute.TheVariants as attribute
 use Rattle.mich_stackrules.specs.declared.written.OfType.{OfType}
 use Rattle.mich_stackrules.specs.declared.written.OfType.TheVariants as of
 use Rattle.mich_stackrules.specs.declared.written.OfCount.{OfCount}
@@ -30,15 +28,6 @@ written (w.Overloaded op) = ops.instruction op
 written (w.Emit tag) = r.overloaded (o.emit tag)
 written (w.View name t) = r.overloaded (o.view name (kind t))
 written w.Ticket = r.overloaded o.ticket
-
-abbrev pub asked : Attribute → Kind → Bool
-asked attribute.Any = any_kind
-asked attribute.Comparable = a.comparable
-asked attribute.Passable = a.passable
-asked attribute.Storable = a.storable
-asked attribute.Pushable = a.pushable
-asked attribute.Packable = a.packable
-asked attribute.BigValue = a.big_value
 
 -- the rule of an instruction with one type, and the attribute that the type must have
 abbrev pub of_type : OfType → Kind → Straight

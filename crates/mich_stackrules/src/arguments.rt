@@ -1,47 +1,20 @@
 // The arguments of instructions without bodies.
 ghost use Rattle.std.specs.Prelude.{◌≡◌, ◌+◌, ◌<◌, ◌^◌};
 ghost use Rattle.rules_text.specs.nodes.Tree.{size, sizes};
-ghost use Rattle.rules_code.specs.instructions.Arguments.{count_argument, type_argument};
+ghost use Rattle.rules_code.specs.instructions.Arguments.{count_argument};
 ghost use Rattle.mich_base.specs.TypeView.{kind};
 ghost use Rattle.mich_base.specs.View.{tree, trees};
-ghost use Rattle.mich_stackrules.specs.Answers.{IsFound, found_from};
+ghost use Rattle.mich_outline.specs.Answers.{IsFound, found_from};
+ghost use Rattle.mich_outline.specs.Attributes.{asked};
 ghost use Rattle.mich_overload.specs.View.{collection_row};
-ghost use Rattle.mich_stackrules.specs.View.{asked, asked_of_value, empty_map, empty_row, least, most, type_of, with_count, with_type, within, written};
+ghost use Rattle.mich_stackrules.specs.View.{asked_of_value, empty_map, empty_row, least, most, type_of, with_count, with_type, within, written};
 
-use crate::error::RuleError;
-use crate::written::{
-    Attribute, OfCount, OfType, Written, attribute_for, has, least, most, with_count, with_type,
-};
+use crate::written::{OfCount, OfType, Written, attribute_for, least, most, with_count, with_type};
 use mich_base::{Node, Nodes, Ty};
+use mich_outline::{Attribute, TypingError, type_argument};
 use mich_overload::{CollectionRow, Simple};
-use mich_types::{TypeError, behind, type_at};
+use mich_types::behind;
 use std::alloc::Global;
-
-/// The argument at a location as a type with an attribute (Michelson reference, "Instructions"). Fault has the location of the
-/// node that is no type, or that of the argument where the type lacks the attribute or has more than 2,000 nodes. Memory where
-/// there is no room.
-pub fn type_argument(
-    alloc: Global,
-    attribute: Attribute,
-    node: &Node,
-    place: u32,
-) -> Result<Ty, RuleError>
-    requires { place + size (tree node.now) < 2 ^ 32 }
-    ensures { IsFound kind (type_argument (asked attribute) place (tree node.now)) result }
-{
-    match type_at(alloc, node, place) {
-        Ok(ty) => {
-            if has(&ty, attribute) {
-                Ok(ty)
-            } else {
-                Err(RuleError::Fault(place))
-            }
-        }
-        Err(TypeError::BadType(location)) => Err(RuleError::Fault(location)),
-        Err(TypeError::TypeTooLarge) => Err(RuleError::Fault(place)),
-        Err(TypeError::RepeatedEntrypoint(_) | TypeError::Memory) => Err(RuleError::Memory),
-    }
-}
 
 // The one argument as a type with an attribute.
 #[tactic(auto, using(crate::proofs::Found::one_argument))]
@@ -50,12 +23,12 @@ pub(crate) fn type_of(
     attribute: Attribute,
     args: &Nodes,
     at: u32,
-) -> Result<Ty, RuleError>
+) -> Result<Ty, TypingError>
     requires { at + 1 + sizes (trees args.now) < 2 ^ 32 }
     ensures { IsFound kind (found_from at (type_of (asked attribute) (trees args.now))) result }
 {
     let Some(node) = args.only() else {
-        return Err(RuleError::Fault(at));
+        return Err(TypingError::Fault(at));
     };
     type_argument(alloc, attribute, node, at + 1)
 }
@@ -67,7 +40,7 @@ pub(crate) fn one_type(
     row: OfType,
     args: &Nodes,
     at: u32,
-) -> Result<Written, RuleError>
+) -> Result<Written, TypingError>
     requires { at + 1 + sizes (trees args.now) < 2 ^ 32 }
     ensures { IsFound written (found_from at (with_type row (trees args.now))) result }
 {
@@ -90,26 +63,26 @@ fn within(n: i128, least: u32, most: u32) -> Option<u32>
 
 /// The argument at a location as the count of an instruction, in its range (Michelson reference, "Instructions"). Fault has that
 /// location where it is none. Takes no memory.
-pub fn count_argument(row: OfCount, node: &Node, place: u32) -> Result<u32, RuleError>
+pub fn count_argument(row: OfCount, node: &Node, place: u32) -> Result<u32, TypingError>
     ensures { IsFound (λ n. n) (count_argument (least row) (most row) place (tree node.now)) result }
 {
     let Node::Int(n) = node else {
-        return Err(RuleError::Fault(place));
+        return Err(TypingError::Fault(place));
     };
     match within(*n, least(row), most(row)) {
         Some(count) => Ok(count),
-        None => Err(RuleError::Fault(place)),
+        None => Err(TypingError::Fault(place)),
     }
 }
 
 // An instruction with a count.
 #[tactic(auto, using(crate::proofs::Found::count_goes, crate::proofs::Found::count_fails))]
-pub(crate) fn one_count(row: OfCount, args: &Nodes, at: u32) -> Result<Written, RuleError>
+pub(crate) fn one_count(row: OfCount, args: &Nodes, at: u32) -> Result<Written, TypingError>
     requires { at + 1 + sizes (trees args.now) < 2 ^ 32 }
     ensures { IsFound written (found_from at (with_count row (trees args.now))) result }
 {
     let Some(node) = args.only() else {
-        return Err(RuleError::Fault(at));
+        return Err(TypingError::Fault(at));
     };
     match count_argument(row, node, at + 1) {
         Ok(count) => Ok(Written::Row(with_count(row, count))),
@@ -124,12 +97,12 @@ pub(crate) fn empty_map(
     big: bool,
     args: &Nodes,
     at: u32,
-) -> Result<Written, RuleError>
+) -> Result<Written, TypingError>
     requires { at + 1 + sizes (trees args.now) < 2 ^ 32 }
     ensures { IsFound written (found_from at (empty_map big (trees args.now))) result }
 {
     let Some((first, second)) = args.both() else {
-        return Err(RuleError::Fault(at));
+        return Err(TypingError::Fault(at));
     };
     let key = match type_argument(alloc, Attribute::Comparable, first, at + 1) {
         Ok(key) => key,

@@ -3,7 +3,6 @@
 
 mod arguments;
 mod effect;
-mod error;
 mod hashes;
 mod instruction;
 mod names;
@@ -15,9 +14,8 @@ mod tickets;
 mod unions;
 mod written;
 
-pub use arguments::{count_argument, type_argument};
+pub use arguments::count_argument;
 pub use effect::is_within_limit;
-pub use error::RuleError;
-pub use names::{is_view_name, named_entrypoint};
+pub use names::named_entrypoint;
 pub use rule::{apply_rule, rule_at};
-pub use written::{Attribute, OfCount};
+pub use written::OfCount;

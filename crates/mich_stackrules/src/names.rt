@@ -6,30 +6,22 @@ ghost use Rattle.rules_code.specs.instructions.Arguments.{annotated, is_view_nam
 ghost use Rattle.rules_code.specs.instructions.Instructions.{emit_of, instruction, view_of};
 ghost use Rattle.rules_text.specs.declared.nodes.Primitive.TheVariants.{OpContract, OpEmit};
 ghost use Rattle.mich_base.specs.View.{tree, trees};
-ghost use Rattle.mich_stackrules.specs.Answers.{IsFound, found_from};
+ghost use Rattle.mich_outline.specs.Answers.{IsFound, found_from};
 ghost use Rattle.mich_stackrules.specs.View.{IsNoText, written};
 
-use crate::arguments::{type_argument, type_of};
-use crate::error::RuleError;
-use crate::written::{Attribute, Written};
+use crate::arguments::type_of;
+use crate::written::Written;
 use mich_base::{Node, Nodes, Text, Texts};
-use mich_forms::{Entrypoint, all_name_bytes};
+use mich_forms::Entrypoint;
+use mich_outline::{Attribute, TypingError, is_view_name, type_argument};
 use mich_overload::{OperationRow, Simple};
 use mich_types::field_name;
 use std::alloc::Global;
 
-/// Whether a view may have this name: at most 31 characters of `A-Z a-z 0-9 _ . % @` (Michelson reference, "VIEW"). Takes no
-/// memory.
-pub fn is_view_name(name: &[u8]) -> bool
-    ensures { result ≡ is_view_name name.now }
-{
-    name.len() <= 31 && all_name_bytes(name)
-}
-
 /// The name of an entrypoint that the first field annotation gives, or `default` (Michelson reference, "SELF" and "CONTRACT").
 /// Fault has the location of the instruction where the name is none of an entrypoint. Takes no memory.
 #[tactic(auto, using(std::proofs::lemmas::Bool::false_from_ne_true))]
-pub fn named_entrypoint(annots: &Texts, at: u32) -> Result<Entrypoint, RuleError>
+pub fn named_entrypoint(annots: &Texts, at: u32) -> Result<Entrypoint, TypingError>
     ensures { IsFound (λ name. name) (found_from at (annotated default_name annots.now)) result }
 {
     let Some(name) = field_name(annots) else {
@@ -37,21 +29,21 @@ pub fn named_entrypoint(annots: &Texts, at: u32) -> Result<Entrypoint, RuleError
     };
     match Entrypoint::read(name) {
         Some(name) => Ok(name),
-        None => Err(RuleError::Fault(at)),
+        None => Err(TypingError::Fault(at)),
     }
 }
 
 // The tag that the first field annotation gives, or the empty one.
 #[tactic(auto, using(std::proofs::lemmas::Bool::false_from_ne_true))]
-fn tag(alloc: Global, annots: &Texts, at: u32) -> Result<Text, RuleError>
+fn tag(alloc: Global, annots: &Texts, at: u32) -> Result<Text, TypingError>
     ensures { IsFound (λ tag. tag) (found_from at (annotated [] annots.now)) result }
 {
     let Some(name) = field_name(annots) else {
-        return Ok(Text::from_vec(Vec::new(alloc)));
+        return Ok(Text::from_vec(Vec::new(alloc))?);
     };
     match Entrypoint::read(name) {
         Some(_) => Ok(Text::from_slice(alloc, name)?),
-        None => Err(RuleError::Fault(at)),
+        None => Err(TypingError::Fault(at)),
     }
 }
 
@@ -62,7 +54,7 @@ pub(crate) fn contract(
     annots: &Texts,
     args: &Nodes,
     at: u32,
-) -> Result<Written, RuleError>
+) -> Result<Written, TypingError>
     requires { at + 1 + sizes (trees args.now) < 2 ^ 32 }
     ensures { IsFound written (found_from at (instruction (Some OpContract) annots.now (trees args.now))) result }
 {
@@ -83,7 +75,7 @@ pub(crate) fn emit(
     annots: &Texts,
     args: &Nodes,
     at: u32,
-) -> Result<Written, RuleError>
+) -> Result<Written, TypingError>
     requires { at + 1 + sizes (trees args.now) < 2 ^ 32 }
     ensures { IsFound written (found_from at (instruction (Some OpEmit) annots.now (trees args.now))) result }
 {
@@ -112,18 +104,18 @@ fn text_of(node: &Node) -> Option<&Text>
 
 // VIEW with its name and the type of its output.
 #[tactic(auto, using(crate::proofs::Found::view_unnamed, crate::proofs::Found::view_misnamed, crate::proofs::Found::view_goes, crate::proofs::Found::view_fails))]
-pub(crate) fn view(alloc: Global, args: &Nodes, at: u32) -> Result<Written, RuleError>
+pub(crate) fn view(alloc: Global, args: &Nodes, at: u32) -> Result<Written, TypingError>
     requires { at + 1 + sizes (trees args.now) < 2 ^ 32 }
     ensures { IsFound written (found_from at (view_of (trees args.now))) result }
 {
     let Some((first, second)) = args.both() else {
-        return Err(RuleError::Fault(at));
+        return Err(TypingError::Fault(at));
     };
     let Some(name) = text_of(first) else {
-        return Err(RuleError::Fault(at + 1));
+        return Err(TypingError::Fault(at + 1));
     };
     if !is_view_name(name.as_slice()) {
-        return Err(RuleError::Fault(at + 1));
+        return Err(TypingError::Fault(at + 1));
     }
     let name = name.copy(alloc)?;
     match type_argument(alloc, Attribute::Packable, second, at + 2) {

@@ -2,11 +2,12 @@
 ghost use Rattle.std.specs.Prelude.{◌≡◌};
 ghost use Rattle.mich_base.specs.TypeView.{kind};
 ghost use Rattle.mich_overload.specs.View.{straight};
-ghost use Rattle.mich_stackrules.specs.View.{asked, asked_of_type, least, most, of_count, of_type};
+ghost use Rattle.mich_outline.specs.Attributes.{asked};
+ghost use Rattle.mich_stackrules.specs.View.{asked_of_type, least, most, of_count, of_type};
 
 use mich_base::{COUNT_LIMIT, PART_LIMIT, Text, Ty};
+use mich_outline::Attribute;
 use mich_overload::{CollectionRow, HashRow, Op, PairRow, Simple, StackRow, UnionRow};
-use mich_types::{big_value, comparable, packable, passable, pushable, storable};
 
 // One rule, or several of which the types on the stack choose.
 #[derive(Debug, Drop)]
@@ -16,32 +17,6 @@ pub(crate) enum Written {
     Emit(Text),
     View(Text, Ty),
     Ticket,
-}
-
-/// What a type must be (Michelson reference, "Types").
-#[derive(Clone, Copy, Debug)]
-pub enum Attribute {
-    Any,
-    Comparable,
-    Passable,
-    Storable,
-    Pushable,
-    Packable,
-    BigValue,
-}
-
-pub(crate) fn has(ty: &Ty, attribute: Attribute) -> bool
-    ensures { result ≡ asked attribute (kind ty.now) }
-{
-    match attribute {
-        Attribute::Any => true,
-        Attribute::Comparable => comparable(ty),
-        Attribute::Passable => passable(ty),
-        Attribute::Storable => storable(ty),
-        Attribute::Pushable => pushable(ty),
-        Attribute::Packable => packable(ty),
-        Attribute::BigValue => big_value(ty),
-    }
 }
 
 // The instructions with one type.

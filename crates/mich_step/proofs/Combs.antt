@@ -7,7 +7,7 @@ use Rattle.rules_code.specs.steps.Changes.{burns}
 use Rattle.rules_code.specs.steps.Step.{done, discarding, on_some}
 use Rattle.rules_data.specs.values.Val.{Val, both}
 use Rattle.rules_data.specs.values.Tickets.{Held, tickets}
-use Rattle.rules_code.specs.steps.Stack.{Part, Replaced, behind, comb, pair_step, passing, part_at, replaced}
+use Rattle.rules_code.specs.steps.Stack.{Part, Replaced, behind, comb, pair_step, parts, passing, part_at, replaced}
 use Rattle.mich_step.specs.Parts.{IsPart, IsReplaced}
 
 some_there : {A B : Type 0} (f : A → B) (o : Option A) → is_some (option_map f o) ≡ true → is_some o ≡ true
@@ -31,6 +31,10 @@ replaced_in v None c d h = h
 
 pub replaced_is : (n m : ℕ) (x c v w r d : Val) → n ≡ m + 1 + 1 → c ≡ both v w → IsReplaced (replaced m x w) r d → IsReplaced (replaced n x c) (both v r) d
 replaced_is n m x c v w r d e f h = subst (λ o. IsReplaced o (both v r) d) (sym (replaced_behind n m x c v w e f)) (replaced_in v (replaced m x w) r d h)
+
+-- the first part
+pub replaced_first : (n : ℕ) (x c v w r : Val) → n ≡ 1 → c ≡ both v w → both x w ≡ r → IsReplaced (replaced n x c) r v
+replaced_first n x c v w r e f g = subst (λ k. IsReplaced (replaced k x c) r v) (sym e) (subst (λ d. IsReplaced (replaced 1 x d) r v) (sym f) (g, refl))
 
 -- ---- a part that is found
 
@@ -74,3 +78,10 @@ pub comb_is : (n m : ℕ) (v : Val) (V : List Val) (w : Val) (W : List Val) (r :
 comb_is n m v V w W r e f h =
     let next : n ≡ suc m = omega (arith, e) in
     ap (λ k. comb k v V) next ∙ ap (comb (suc m) v) f ∙ ap (option_map (both v)) h
+
+-- ---- UNPAIR
+
+pub parts_there : (n m : ℕ) (c v w : Val) → n ≡ m + 1 → c ≡ both v w → is_some (parts n c) ≡ true → is_some (parts m w) ≡ true
+parts_there n m c v w e f h =
+    let next : n ≡ suc m = omega (arith, e) in
+    some_there (λ (vs : List Val). v ∷ vs) (parts m w) (subst (λ o. is_some o ≡ true) (ap (λ k. parts k c) next ∙ ap (parts (suc m)) f) h)

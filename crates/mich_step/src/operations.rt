@@ -34,7 +34,7 @@ fn implicit(alloc: Global, key_hash: &[u8]) -> Result<Value, Memory>
     let mut place = Vec::with_capacity(alloc, 22)?;
     place.push(0)?;
     place.extend_from_slice(key_hash)?;
-    Ok(Value::Bytes(Bytes::from_vec(place)))
+    Ok(Value::Bytes(Bytes::from_vec(place)?))
 }
 
 fn implicit_account(alloc: Global, stack: &mut Rows<Value>) -> Result<(), StepError>

@@ -59,7 +59,7 @@ fn put_parts(comb: Value, others: u32, stack: &mut Rows<Value>) -> Result<(), Me
     let Some(further) = others.checked_sub(1) else {
         return push(stack, comb);
     };
-    let (first, rest) = split_pair(comb);
+    let (first, rest) = split_pair(comb)?;
     put_parts(rest, further, stack)?;
     push(stack, first)
 }
@@ -76,14 +76,14 @@ fn unpair(count: u32, stack: &mut Rows<Value>) -> Result<(), StepError>
 }
 
 // The parts of a pair.
-pub(crate) fn split_pair(pair: Value) -> (Value, Value)
+pub(crate) fn split_pair(pair: Value) -> Result<(Value, Value), Memory>
     requires { (big : Sight) × IsPair (seen big pair) }
-    ensures { (big : Sight) → seen big pair ≡ both (seen big result.0) (seen big result.1) }
+    ensures { IfOk result (λ p. (big : Sight) → seen big pair ≡ both (seen big p.0) (seen big p.1)) }
 {
     let Value::Pair(first, second) = pair else {
         unreachable!()
     };
-    (first.into_value(), second.into_value())
+    Ok((first.into_value()?, second.into_value()?))
 }
 
 fn car(stack: &mut Rows<Value>) -> Result<Value, StepError>
@@ -93,7 +93,7 @@ fn car(stack: &mut Rows<Value>) -> Result<Value, StepError>
     let Some(whole) = pop(stack) else {
         unreachable!()
     };
-    let (first, second) = split_pair(whole);
+    let (first, second) = split_pair(whole)?;
     push(stack, first)?;
     Ok(second)
 }
@@ -105,7 +105,7 @@ fn cdr(stack: &mut Rows<Value>) -> Result<Value, StepError>
     let Some(whole) = pop(stack) else {
         unreachable!()
     };
-    let (first, second) = split_pair(whole);
+    let (first, second) = split_pair(whole)?;
     push(stack, second)?;
     Ok(first)
 }
@@ -119,7 +119,7 @@ fn take_part(alloc: Global, comb: Value, place: u32) -> Result<(Value, Value), M
     if place == 0 {
         return Ok((comb, Value::Unit));
     }
-    let (first, second) = split_pair(comb);
+    let (first, second) = split_pair(comb)?;
     let Some(further) = place.checked_sub(2) else {
         return Ok((first, second));
     };
@@ -155,7 +155,7 @@ fn replace_part(
     if place == 0 {
         return Ok((new, comb));
     }
-    let (first, second) = split_pair(comb);
+    let (first, second) = split_pair(comb)?;
     let Some(further) = place.checked_sub(2) else {
         let new = Link::new(alloc, new)?;
         let second = Link::new(alloc, second)?;

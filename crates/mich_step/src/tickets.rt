@@ -142,15 +142,15 @@ fn number_in(value: Value) -> i128
 }
 
 // Takes the two amounts on top.
-fn take_amounts(stack: &mut Rows<Value>) -> (i128, i128)
+fn take_amounts(stack: &mut Rows<Value>) -> Result<(i128, i128), Memory>
     requires { (big : Sight) × IsAmountsOnTop (values big stack.old) }
-    ensures { (big : Sight) → values big stack.old ≡ both (number result.0) (number result.1) ∷ values big stack.new }
+    ensures { IfOk result (λ p. (big : Sight) → values big stack.old ≡ both (number p.0) (number p.1) ∷ values big stack.new) }
 {
     let Some(pair) = pop(stack) else {
         unreachable!()
     };
-    let (first, second) = split_pair(pair);
-    (number_in(first), number_in(second))
+    let (first, second) = split_pair(pair)?;
+    Ok((number_in(first), number_in(second)))
 }
 
 // The tickets that one was split in, as an optional pair.
@@ -166,7 +166,7 @@ fn optional_parts(alloc: Global, parts: Option<(Ticket, Ticket)>) -> Result<Valu
     Ok(Value::Some(Link::new(alloc, pair)?))
 }
 
-#[tactic(auto, using(crate::proofs::Splitting::split_is, crate::proofs::Splitting::split_tells, crate::proofs::Splitting::ends_with, crate::proofs::Splitting::tells_with))]
+#[tactic(auto, using(mich_base::proofs::undo_lemmas::ForCallers::keeps_same, crate::proofs::Splitting::split_is, crate::proofs::Splitting::split_tells, crate::proofs::Splitting::ends_with, crate::proofs::Splitting::tells_with))]
 fn split_ticket(
     alloc: Global,
     stack: &mut Rows<Value>,
@@ -181,8 +181,8 @@ fn split_ticket(
     let Some(top) = pop(stack) else {
         unreachable!()
     };
-    let ticket = ticket_in(top);
-    let (a, b) = take_amounts(stack);
+    let ticket = ticket_in(top)?;
+    let (a, b) = take_amounts(stack)?;
     let parts = ledger.split(alloc, ticket, a, b)?;
     let value = optional_parts(alloc, parts)?;
     push(stack, value)?;
@@ -190,9 +190,9 @@ fn split_ticket(
 }
 
 // The ticket that a value is.
-fn ticket_in(value: Value) -> Ticket
+fn ticket_in(value: Value) -> Result<Ticket, Memory>
     requires { (big : Sight) × IsTicket (seen big value) }
-    ensures { (big : Sight) → seen big value ≡ as_value (held result) }
+    ensures { IfOk result (λ ticket. (big : Sight) → seen big value ≡ as_value (held ticket)) }
 {
     let Value::Ticket(ticket) = value else {
         unreachable!()
@@ -201,18 +201,18 @@ fn ticket_in(value: Value) -> Ticket
 }
 
 // Takes the two tickets on top.
-fn take_tickets(stack: &mut Rows<Value>) -> (Ticket, Ticket)
+fn take_tickets(stack: &mut Rows<Value>) -> Result<(Ticket, Ticket), Memory>
     requires { (big : Sight) × IsTicketsOnTop (values big stack.old) }
-    ensures { (big : Sight) → values big stack.old ≡ both (as_value (held result.0)) (as_value (held result.1)) ∷ values big stack.new }
+    ensures { IfOk result (λ p. (big : Sight) → values big stack.old ≡ both (as_value (held p.0)) (as_value (held p.1)) ∷ values big stack.new) }
 {
     let Some(pair) = pop(stack) else {
         unreachable!()
     };
-    let (first, second) = split_pair(pair);
-    (ticket_in(first), ticket_in(second))
+    let (first, second) = split_pair(pair)?;
+    Ok((ticket_in(first)?, ticket_in(second)?))
 }
 
-#[tactic(auto, using(crate::proofs::Splitting::join_is, crate::proofs::Splitting::join_tells, crate::proofs::Splitting::ends_with, crate::proofs::Splitting::tells_with))]
+#[tactic(auto, using(mich_base::proofs::undo_lemmas::ForCallers::keeps_same, crate::proofs::Splitting::join_is, crate::proofs::Splitting::join_tells, crate::proofs::Splitting::ends_with, crate::proofs::Splitting::tells_with))]
 fn join_tickets(
     alloc: Global,
     stack: &mut Rows<Value>,
@@ -225,7 +225,7 @@ fn join_tickets(
     ensures tells { IfOk result (λ _. (e : Environment) (total : Identity → ℤ) → TellsStep (ticket_step e total i.join_tickets) stack.old ledger.old ledger.new) }
     ensures keeps { KeepsBooks ledger.old.books ledger.new.books }
 {
-    let (first, second) = take_tickets(stack);
+    let (first, second) = take_tickets(stack)?;
     let joined = ledger.join(alloc, first, second)?;
     let value = optional_ticket(alloc, joined)?;
     push(stack, value)?;

@@ -7,7 +7,7 @@ ghost use Rattle.rules_data.specs.values.Order.{order, form as form_place};
 ghost use Rattle.laws_data.proofs.values_lemmas.ForCallers.{order_lawful};
 ghost use Rattle.mich_term.specs.View.{datum};
 
-use mich_base::{Bytes, Link, Memory, Text};
+use mich_base::{Bytes, Link, Memory, Share, Text};
 use std::alloc::Global;
 use std::cmp::Ordering;
 
@@ -133,8 +133,7 @@ impl Ord for Datum {
     }
 }
 
-/// An equal value. Memory where there is no room for it.
-#[cycle(copy)]
+/// An equal value, in constant time. Memory where there is no room for it.
 pub fn copy_datum(alloc: Global, value: &Datum) -> Result<Datum, Memory>
     ensures { IfOk result (λ d. d ≡ value.now) }
 {
@@ -145,20 +144,19 @@ pub fn copy_datum(alloc: Global, value: &Datum) -> Result<Datum, Memory>
         Datum::Text(text) => Ok(Datum::Text(text.copy(alloc)?)),
         Datum::Bytes(bytes) => Ok(Datum::Bytes(bytes.copy(alloc)?)),
         Datum::None => Ok(Datum::None),
-        Datum::Some(x) => Ok(Datum::Some(copy_link(alloc, x)?)),
-        Datum::Left(x) => Ok(Datum::Left(copy_link(alloc, x)?)),
-        Datum::Right(x) => Ok(Datum::Right(copy_link(alloc, x)?)),
+        Datum::Some(x) => Ok(Datum::Some(x.share()?)),
+        Datum::Left(x) => Ok(Datum::Left(x.share()?)),
+        Datum::Right(x) => Ok(Datum::Right(x.share()?)),
         Datum::Pair(x, y) => {
-            let first = copy_link(alloc, x)?;
-            let second = copy_link(alloc, y)?;
+            let first = x.share()?;
+            let second = y.share()?;
             Ok(Datum::Pair(first, second))
         }
     }
 }
 
-#[cycle(copy)]
-fn copy_link(alloc: Global, value: &Link<Datum>) -> Result<Link<Datum>, Memory>
-    ensures { IfOk result (λ d. d ≡ value.now) }
-{
-    Link::new(alloc, copy_datum(alloc, value.get())?)
+impl Share for Datum {
+    fn share(&self, alloc: Global) -> Result<Datum, Memory> {
+        copy_datum(alloc, self)
+    }
 }

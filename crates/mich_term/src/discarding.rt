@@ -20,16 +20,16 @@ pub fn discard<B: Burner>(alloc: Global, value: Value, burner: &mut B) -> Result
 {
     match value {
         Value::Some(x) | Value::Left(x) | Value::Right(x) => {
-            discard(alloc, x.into_value(), burner)
+            discard(alloc, x.into_value()?, burner)
         }
         Value::Pair(x, y) => {
-            discard(alloc, x.into_value(), burner)?;
-            discard(alloc, y.into_value(), burner)
+            discard(alloc, x.into_value()?, burner)?;
+            discard(alloc, y.into_value()?, burner)
         }
         Value::List(xs) => discard_all(alloc, xs, burner),
         Value::Map(entries) => discard_table(alloc, entries, burner),
-        Value::BigMap(big) => discard_big(alloc, big.into_value(), burner),
-        Value::Ticket(ticket) => burner.burn(alloc, ticket.into_value()),
+        Value::BigMap(big) => discard_big(alloc, big.into_value()?, burner),
+        Value::Ticket(ticket) => burner.burn(alloc, ticket.into_value()?),
         _ => Ok(()),
     }
 }

@@ -4,7 +4,7 @@ ghost use Rattle.rules_data.specs.values.Tickets.{Held};
 ghost use Rattle.mich_term.specs.TicketView.{held};
 
 use crate::datum::{Datum, copy_datum};
-use mich_base::{Memory, Ty, copy_type};
+use mich_base::{Memory, Share, Ty, copy_type};
 use mich_forms::Place;
 use std::alloc::Global;
 
@@ -61,7 +61,7 @@ pub fn copy_id(alloc: Global, id: &TicketId) -> Result<TicketId, Memory>
 }
 
 // The one copy of a ticket, for shadows.
-pub(crate) fn shadow_ticket(alloc: Global, ticket: &Ticket) -> Result<Ticket, Memory>
+fn shadow_ticket(alloc: Global, ticket: &Ticket) -> Result<Ticket, Memory>
     ensures { IfOk result (λ t. t ≡ ticket.now) }
 {
     let id = copy_id(alloc, &ticket.id)?;
@@ -69,4 +69,10 @@ pub(crate) fn shadow_ticket(alloc: Global, ticket: &Ticket) -> Result<Ticket, Me
         id,
         amount: ticket.amount,
     })
+}
+
+impl Share for Ticket {
+    fn share(&self, alloc: Global) -> Result<Ticket, Memory> {
+        shadow_ticket(alloc, self)
+    }
 }

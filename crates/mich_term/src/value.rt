@@ -7,8 +7,8 @@ use crate::chain::Chain;
 use crate::datum::{Datum, copy_datum};
 use crate::elements::Elements;
 use crate::table::Table;
-use crate::ticket::{Ticket, shadow_ticket};
-use mich_base::{Bytes, Link, Memory, Node, Rows, Shared, Text};
+use crate::ticket::Ticket;
+use mich_base::{Bytes, Link, Memory, Node, Rows, Share, Shared, Text};
 use std::alloc::Global;
 
 /// A value that scripts work on (Michelson reference, "Types").
@@ -63,20 +63,20 @@ pub fn shadow(alloc: Global, value: &Value) -> Result<Value, Memory>
         Value::Text(text) => Ok(Value::Text(text.copy(alloc)?)),
         Value::Bytes(bytes) => Ok(Value::Bytes(bytes.copy(alloc)?)),
         Value::None => Ok(Value::None),
-        Value::Some(x) => Ok(Value::Some(shadow_link(alloc, x)?)),
-        Value::Left(x) => Ok(Value::Left(shadow_link(alloc, x)?)),
-        Value::Right(x) => Ok(Value::Right(shadow_link(alloc, x)?)),
+        Value::Some(x) => Ok(Value::Some(x.share()?)),
+        Value::Left(x) => Ok(Value::Left(x.share()?)),
+        Value::Right(x) => Ok(Value::Right(x.share()?)),
         Value::Pair(x, y) => {
-            let first = shadow_link(alloc, x)?;
-            let second = shadow_link(alloc, y)?;
+            let first = x.share()?;
+            let second = y.share()?;
             Ok(Value::Pair(first, second))
         }
         Value::List(xs) => Ok(Value::List(shadow_all(alloc, xs)?)),
         Value::Set(xs) => Ok(Value::Set(xs.copy(alloc)?)),
         Value::Map(entries) => Ok(Value::Map(shadow_table(alloc, entries)?)),
         Value::BigMap(big) => {
-            let big = shadow_big(alloc, big.get())?;
-            Ok(Value::BigMap(Link::new(alloc, big)?))
+            let big = big.share()?;
+            Ok(Value::BigMap(big))
         }
         Value::Lambda(node, recursive) => {
             let node = node.share()?;
@@ -84,17 +84,10 @@ pub fn shadow(alloc: Global, value: &Value) -> Result<Value, Memory>
         }
         Value::Operation(n) => Ok(Value::Operation(*n)),
         Value::Ticket(ticket) => {
-            let ticket = shadow_ticket(alloc, ticket.get())?;
-            Ok(Value::Ticket(Link::new(alloc, ticket)?))
+            let ticket = ticket.share()?;
+            Ok(Value::Ticket(ticket))
         }
     }
-}
-
-#[cycle(shadow)]
-fn shadow_link(alloc: Global, value: &Link<Value>) -> Result<Link<Value>, Memory>
-    ensures { IfOk result (λ v. v ≡ value.now) }
-{
-    Link::new(alloc, shadow(alloc, value.get())?)
 }
 
 #[cycle(shadow)]
@@ -122,7 +115,6 @@ fn shadow_table(alloc: Global, table: &Table<Value>) -> Result<Table<Value>, Mem
     Ok(copies)
 }
 
-#[cycle(shadow)]
 fn shadow_big(alloc: Global, big: &BigMap) -> Result<BigMap, Memory>
     ensures { IfOk result (λ b. b ≡ big.now) }
 {
@@ -140,6 +132,18 @@ fn shadow_big(alloc: Global, big: &BigMap) -> Result<BigMap, Memory>
         base: big.base,
         overlay,
     })
+}
+
+impl Share for Value {
+    fn share(&self, alloc: Global) -> Result<Value, Memory> {
+        shadow(alloc, self)
+    }
+}
+
+impl Share for BigMap {
+    fn share(&self, alloc: Global) -> Result<BigMap, Memory> {
+        shadow_big(alloc, self)
+    }
 }
 
 /// An equal value, of one that holds no ticket. Memory where there is no room for it.

@@ -162,7 +162,7 @@ fn string_at(alloc: Global, text: &[u8]) -> Result<(Text, &[u8]), LexError>
     'units: loop {
         match unit_at(rest) {
             Unit::Bad(flaw) => return Err(LexError::Flaw(flaw)),
-            Unit::Closed(after) => return Ok((Text::from_vec(spelt), after)),
+            Unit::Closed(after) => return Ok((Text::from_vec(spelt)?, after)),
             Unit::Byte(byte, behind) => {
                 if spelt.len() == BYTE_LIMIT {
                     return Err(flaw(TextKind::TooLong, text));
@@ -301,7 +301,7 @@ fn bytes_at(alloc: Global, text: &[u8]) -> Result<(Bytes, &[u8]), LexError>
         return Err(flaw(TextKind::BadBytes, text));
     }
     match hex::decode(alloc, digits) {
-        Ok(bytes) => Ok((Bytes::from_vec(bytes), rest)),
+        Ok(bytes) => Ok((Bytes::from_vec(bytes)?, rest)),
         Err(FromHexError::OutOfMemory) => Err(LexError::Memory),
         Err(_) => Err(flaw(TextKind::BadBytes, text)),
     }

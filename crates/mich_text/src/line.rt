@@ -163,5 +163,5 @@ pub fn print(alloc: Global, node: &Node) -> Result<Text, Memory>
 {
     let mut line = Vec::new(alloc);
     put_node(alloc, &mut line, node)?;
-    Ok(Text::from_vec(line))
+    Text::from_vec(line)
 }

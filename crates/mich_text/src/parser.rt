@@ -20,7 +20,7 @@ pub enum Frame {
     // The list of statements, or a sequence in braces.
     Elements {
         braced: bool,
-        nodes: Nodes,
+        nodes: Rows<Node>,
         // Whether a further node may begin.
         ready: bool,
     },
@@ -189,7 +189,7 @@ fn close_elements(stack: &mut Vec<Frame>) -> Result<(), Memory>
     ensures { OnOk result (stack_view stack.new.items ≡ close_elements (stack_view stack.old.items)) }
 {
     match stack.pop() {
-        Some(Frame::Elements { nodes, .. }) => add(stack, sequence(nodes)),
+        Some(Frame::Elements { nodes, .. }) => add(stack, sequence(Nodes::from_rows(nodes)?)),
         _ => Ok(()),
     }
 }
@@ -218,20 +218,23 @@ fn put_name(alloc: Global, stack: &mut Vec<Frame>, name: Text) -> Result<(), Mem
         Some(Frame::Paren) => stack.push(Frame::Named {
             wrapped: true,
             name,
-            annotations: Rows::new(alloc),
-            arguments: Rows::new(alloc),
+            annotations: Texts::new(alloc),
+            arguments: Nodes::new(alloc),
         })?,
         Some(frame) => {
             let is_argument = matches!(frame, Frame::Named { .. });
             stack.push(frame)?;
             if is_argument {
-                add(stack, application(name, Rows::new(alloc), Rows::new(alloc)))?;
+                add(
+                    stack,
+                    application(name, Texts::new(alloc), Nodes::new(alloc)),
+                )?;
             } else {
                 stack.push(Frame::Named {
                     wrapped: false,
                     name,
-                    annotations: Rows::new(alloc),
-                    arguments: Rows::new(alloc),
+                    annotations: Texts::new(alloc),
+                    arguments: Nodes::new(alloc),
                 })?;
             }
         }

@@ -5,7 +5,7 @@ ghost use Rattle.rules_data.specs.types.Printing.{node_of, named};
 ghost use Rattle.mich_base.specs.View.{tree, trees};
 ghost use Rattle.mich_base.specs.TypeView.{kind};
 
-use mich_base::{App, Link, Memory, Node, Nodes, Rows, Text, Ty};
+use mich_base::{App, Link, Memory, Node, Nodes, Text, Texts, Ty};
 use std::alloc::Global;
 
 /// The node that spells a type: pairs have two parts, and there are no annotations (Michelson reference, "Types").
@@ -70,7 +70,7 @@ pub fn application(alloc: Global, name: &[u8], args: Nodes) -> Result<Node, Memo
     ensures { IfOk result (λ n. tree n ≡ prim name.now [] (trees args)) }
 {
     let name = Text::from_slice(alloc, name)?;
-    let annots = Rows::new(alloc);
+    let annots = Texts::new(alloc);
     Ok(Node::Prim(App { name, annots, args }))
 }
 
@@ -78,14 +78,14 @@ pub fn application(alloc: Global, name: &[u8], args: Nodes) -> Result<Node, Memo
 pub fn bare(alloc: Global, name: &[u8]) -> Result<Node, Memory>
     ensures { IfOk result (λ n. tree n ≡ named name.now none) }
 {
-    application(alloc, name, Rows::new(alloc))
+    application(alloc, name, Nodes::new(alloc))
 }
 
 /// The application of a name without annotations to one argument. Memory where there is no room for it.
 pub fn over_one(alloc: Global, name: &[u8], part: Node) -> Result<Node, Memory>
     ensures { IfOk result (λ n. tree n ≡ named name.now (more (tree part) none)) }
 {
-    let mut args = Rows::with_capacity(alloc, 1)?;
+    let mut args = Nodes::with_capacity(alloc, 1)?;
     args.push(part)?;
     application(alloc, name, args)
 }
@@ -94,7 +94,7 @@ pub fn over_one(alloc: Global, name: &[u8], part: Node) -> Result<Node, Memory>
 pub fn over_two(alloc: Global, name: &[u8], first: Node, second: Node) -> Result<Node, Memory>
     ensures { IfOk result (λ n. tree n ≡ named name.now (more (tree first) (more (tree second) none))) }
 {
-    let mut args = Rows::with_capacity(alloc, 2)?;
+    let mut args = Nodes::with_capacity(alloc, 2)?;
     args.push(first)?;
     args.push(second)?;
     application(alloc, name, args)

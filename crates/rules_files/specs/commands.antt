@@ -6,6 +6,7 @@ pub mod Answers
 pub mod Codec
 pub mod Scripts
 pub mod Packs
+pub mod Certificates
 pub mod Audits
 pub mod Commands
 pub mod Promise

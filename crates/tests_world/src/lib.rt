@@ -1,8 +1,11 @@
-//! Tests of tickets, big maps and worlds, by public calls.
+//! Tests of tickets, big maps, worlds, and of runs and groups in them, by public calls.
 #![tactic(auto)]
 
 pub mod bigmap;
+pub mod group;
+pub mod machine;
 #[cfg(test)]
 mod support;
 pub mod tickets;
+pub mod unpack;
 pub mod world;

@@ -20,7 +20,7 @@ use Rattle.std.specs.Prelude.{map}
 use Rattle.std.proofs.Common.{◌<◌, ◌≤◌, refl, subst}
 use Rattle.rules_code.specs.typing.Scripts.{with_views}
 use Rattle.mich_base.specs.TypeView.{kind}
-use Rattle.mich_check.specs.sections.View.{outline_of, view_of}
+use Rattle.mich_outline.specs.View.{outline_of, view_of}
 use Rattle.mich_instr.specs.declared.instr.Script.{Script, out-Script}
 use Rattle.mich_check.specs.Scripts.{AreTypedViews, largest_of}
 use Rattle.mich_check.proofs.CreateTyping.{created, create_script, shared_typed, storage_other}

@@ -13,7 +13,7 @@ use Rattle.mich_check.proofs.Blocks.{rest_type, Completes}
 use Rattle.std.specs.Prelude.{map}
 use Rattle.rules_code.specs.typing.Scripts.{with_views}
 use Rattle.mich_base.specs.TypeView.{kind}
-use Rattle.mich_check.specs.sections.View.{view_of}
+use Rattle.mich_outline.specs.View.{view_of}
 use Rattle.mich_check.specs.Scripts.{largest_of}
 use Rattle.mich_check.proofs.ScriptTyping.{Reached}
 use Rattle.mich_check.proofs.+check.Given as goal

@@ -80,13 +80,13 @@ pub(crate) fn get_map(alloc: Global, stack: &mut Rows<Value>) -> Result<(), Step
 }
 
 // Takes the optional value on top.
-fn take_option(stack: &mut Rows<Value>) -> Option<Value>
+fn take_option(stack: &mut Rows<Value>) -> Result<Option<Value>, Memory>
     requires { (big : Sight) × IsOptionOnTop (values big stack.old) }
-    ensures { (big : Sight) → values big stack.old ≡ optional (option_map (seen big) result) ∷ values big stack.new }
+    ensures { IfOk result (λ value. (big : Sight) → values big stack.old ≡ optional (option_map (seen big) value) ∷ values big stack.new) }
 {
     match pop(stack) {
-        Some(Value::Some(value)) => Some(value.into_value()),
-        Some(Value::None) => None,
+        Some(Value::Some(value)) => Ok(Some(value.into_value()?)),
+        Some(Value::None) => Ok(None),
         _ => unreachable!(),
     }
 }
@@ -98,7 +98,7 @@ fn exchange(alloc: Global, stack: &mut Rows<Value>) -> Result<Option<Value>, Mem
     ensures { IfOk result (λ old. (big : Sight) → IsExchange (values big stack.old) (option_map (seen big) old) (values big stack.new)) }
 {
     let key = take_key(alloc, stack)?;
-    let new = take_option(stack);
+    let new = take_option(stack)?;
     let table = take_map(stack);
     let (table, old) = map_with(table, key, new)?;
     push(stack, map_value(table))?;

@@ -92,9 +92,7 @@ pub(crate) fn update_set(alloc: Global, stack: &mut Rows<Value>) -> Result<(), S
     let Some(Value::Bool(present)) = pop(stack) else {
         unreachable!()
     };
-    let Some(Value::Set(set)) = pop(stack) else {
-        unreachable!()
-    };
+    let set = take_set(stack);
     let set = set_with(set, element, present)?;
     push(stack, Value::Set(set))?;
     Ok(())

@@ -29,7 +29,7 @@ fn concat_strings(alloc: Global, stack: &mut Rows<Value>) -> Result<(), StepErro
     };
     match join(alloc, s.as_slice(), t.as_slice())? {
         Some(bytes) => {
-            put(stack, 2, Value::Text(Text::from_vec(bytes)))?;
+            put(stack, 2, Value::Text(Text::from_vec(bytes)?))?;
             Ok(())
         }
         None => Err(StepError::Failed(StepFailure::SizeLimit)),
@@ -46,7 +46,7 @@ fn concat_bytes(alloc: Global, stack: &mut Rows<Value>) -> Result<(), StepError>
     };
     match join(alloc, s.as_slice(), t.as_slice())? {
         Some(bytes) => {
-            put(stack, 2, Value::Bytes(Bytes::from_vec(bytes)))?;
+            put(stack, 2, Value::Bytes(Bytes::from_vec(bytes)?))?;
             Ok(())
         }
         None => Err(StepError::Failed(StepFailure::SizeLimit)),
@@ -62,7 +62,7 @@ fn concat_string_list(alloc: Global, stack: &mut Rows<Value>) -> Result<(), Step
     drop(list);
     match joined {
         Some(bytes) => {
-            push(stack, text_value(bytes))?;
+            push(stack, text_value(bytes)?)?;
             Ok(())
         }
         None => Err(StepError::Failed(StepFailure::SizeLimit)),
@@ -78,7 +78,7 @@ fn concat_bytes_list(alloc: Global, stack: &mut Rows<Value>) -> Result<(), StepE
     drop(list);
     match joined {
         Some(bytes) => {
-            push(stack, bytes_value(bytes))?;
+            push(stack, bytes_value(bytes)?)?;
             Ok(())
         }
         None => Err(StepError::Failed(StepFailure::SizeLimit)),
@@ -86,17 +86,17 @@ fn concat_bytes_list(alloc: Global, stack: &mut Rows<Value>) -> Result<(), StepE
 }
 
 // Bytes as a string.
-fn text_value(joined: Vec<u8>) -> Value
-    ensures { (big : Sight) → seen big result ≡ text joined.items }
+fn text_value(joined: Vec<u8>) -> Result<Value, Memory>
+    ensures { IfOk result (λ value. (big : Sight) → seen big value ≡ text joined.items) }
 {
-    Value::Text(Text::from_vec(joined))
+    Ok(Value::Text(Text::from_vec(joined)?))
 }
 
 // Bytes as a value.
-fn bytes_value(joined: Vec<u8>) -> Value
-    ensures { (big : Sight) → seen big result ≡ bytes joined.items }
+fn bytes_value(joined: Vec<u8>) -> Result<Value, Memory>
+    ensures { IfOk result (λ value. (big : Sight) → seen big value ≡ bytes joined.items) }
 {
-    Value::Bytes(Bytes::from_vec(joined))
+    Ok(Value::Bytes(Bytes::from_vec(joined)?))
 }
 
 // An optional string.

@@ -43,7 +43,7 @@ fn mem_big_map(alloc: Global, stack: &mut Rows<Value>, store: &Store) -> Result<
     ensures { HandsOut store.now.bases.present i.mem_big_map stack.old stack.new result }
 {
     let key = take_key(alloc, stack)?;
-    let big = take_big(stack);
+    let big = take_big(stack)?;
     let found = is_there(store, &big, &key);
     drop(key);
     push(stack, truth_value(found))?;
@@ -57,7 +57,7 @@ fn get_big_map(alloc: Global, stack: &mut Rows<Value>, store: &Store) -> Result<
     ensures { HandsOut store.now.bases.present i.get_big_map stack.old stack.new result }
 {
     let key = take_key(alloc, stack)?;
-    let big = take_big(stack);
+    let big = take_big(stack)?;
     let value = copied(alloc, found(store, &big, &key))?;
     drop(big);
     drop(key);
@@ -73,8 +73,8 @@ fn exchange(alloc: Global, stack: &mut Rows<Value>, store: &Store) -> Result<Opt
     ensures { IfOk result (λ old. Exchanges store.now.bases.present stack.old old stack.new) }
 {
     let key = take_key(alloc, stack)?;
-    let new = take_option(stack);
-    let mut big = take_big(stack);
+    let new = take_option(stack)?;
+    let mut big = take_big(stack)?;
     let old = exchanged(alloc, store, &mut big, key, new)?;
     let big = big_value(alloc, big)?;
     push(stack, big)?;

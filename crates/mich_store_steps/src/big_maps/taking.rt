@@ -13,24 +13,24 @@ use mich_term::{BigMap, Value, shadow};
 use std::alloc::Global;
 
 // Takes the big map on top.
-pub(crate) fn take_big(stack: &mut Rows<Value>) -> BigMap
+pub(crate) fn take_big(stack: &mut Rows<Value>) -> Result<BigMap, Memory>
     requires { (big : Sight) × IsBigMapOnTop (values big stack.old) }
-    ensures { (big : Sight) → values big stack.old ≡ big_table (entries_by big result) ∷ values big stack.new }
+    ensures { IfOk result (λ map. (big : Sight) → values big stack.old ≡ big_table (entries_by big map) ∷ values big stack.new) }
 {
     match pop(stack) {
-        Some(Value::BigMap(map)) => map.into_value(),
+        Some(Value::BigMap(map)) => Ok(map.into_value()?),
         _ => unreachable!(),
     }
 }
 
 // Takes the optional value on top.
-pub(crate) fn take_option(stack: &mut Rows<Value>) -> Option<Value>
+pub(crate) fn take_option(stack: &mut Rows<Value>) -> Result<Option<Value>, Memory>
     requires { (big : Sight) × IsOptionOnTop (values big stack.old) }
-    ensures { (big : Sight) → values big stack.old ≡ optional (option_map (seen big) result) ∷ values big stack.new }
+    ensures { IfOk result (λ value. (big : Sight) → values big stack.old ≡ optional (option_map (seen big) value) ∷ values big stack.new) }
 {
     match pop(stack) {
-        Some(Value::Some(value)) => Some(value.into_value()),
-        Some(Value::None) => None,
+        Some(Value::Some(value)) => Ok(Some(value.into_value()?)),
+        Some(Value::None) => Ok(None),
         _ => unreachable!(),
     }
 }

@@ -42,5 +42,5 @@ pub(crate) fn key_digest(alloc: Global, key: &[u8]) -> Result<Bytes, Memory>
         bytes.push(*tag)?;
         bytes.extend_from_slice(digest.as_slice())?;
     }
-    Ok(Bytes::from_vec(bytes))
+    Bytes::from_vec(bytes)
 }

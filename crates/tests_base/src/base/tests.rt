@@ -1,9 +1,9 @@
 // What the calls give with ample memory, and the codes as Octez publishes them.
 use crate::support::node;
 use mich_base::{
-    Bytes, Memory, Node, Primitive, Rows, Shared, Text, Texts, Ty, at, code_of_primitive,
-    copy_node, copy_texts, copy_type, depth_within, prim_code, prim_name, primitive_of_code,
-    primitive_of_name, same_type, size_within,
+    Bytes, Link, Memory, Node, Nodes, Primitive, Rows, Shared, Text, Texts, Ty, at,
+    code_of_primitive, copy_node, copy_texts, copy_type, depth_within, prim_code, prim_name,
+    primitive_of_code, primitive_of_name, same_type, size_within,
 };
 use std::alloc::Global;
 use std::test::Fail;
@@ -46,7 +46,7 @@ fn depth_and_size_are_exact(rt: HostRuntime) -> Result<(), Fail> {
 fn nested(alloc: Global, depth: u32) -> Result<Node, Memory> {
     let mut node = Node::Int(0);
     for _ in 1..depth {
-        let mut parts = Rows::new(alloc);
+        let mut parts = Nodes::new(alloc);
         parts.push(node)?;
         node = Node::Seq(parts);
     }
@@ -92,28 +92,51 @@ fn a_copy_of_a_type_is_the_same(rt: HostRuntime) -> Result<(), Fail> {
     Ok(())
 }
 
-fn one_text(alloc: Global) -> Result<Texts, Memory> {
-    let mut texts = Rows::with_capacity(alloc, 1)?;
-    texts.push(Text::from_slice(alloc, b"a")?)?;
-    Ok(texts)
-}
-
-// The text, twice.
-fn two_texts(alloc: Global) -> Result<Texts, Memory> {
-    let texts = one_text(alloc)?;
-    let mut twice = copy_texts(alloc, &texts)?;
-    twice.append(texts)?;
-    Ok(twice)
-}
-
 fn are_two(alloc: Global) -> Result<bool, Memory> {
-    let texts = two_texts(alloc)?;
-    Ok(texts.len() == 2 && texts.three().is_none() && texts.both().is_some())
+    let mut numbers = Rows::with_capacity(alloc, 1)?;
+    numbers.push(1u8)?;
+    let mut others = Rows::new(alloc);
+    others.push(2u8)?;
+    numbers.append(others)?;
+    Ok(numbers.len() == 2 && numbers.three().is_none() && numbers.both().is_some())
 }
 
 #[test]
 fn lists_grow(rt: HostRuntime) -> Result<(), Fail> {
     assert!(rt; are_two(rt.alloc())?);
+    Ok(())
+}
+
+fn one_text(alloc: Global) -> Result<Texts, Memory> {
+    let mut texts = Texts::with_capacity(alloc, 1)?;
+    texts.push(Text::from_slice(alloc, b"a")?)?;
+    Ok(texts)
+}
+
+// Whether a holder that writes leaves what the other holds.
+fn are_parted(alloc: Global) -> Result<bool, Memory> {
+    let texts = one_text(alloc)?;
+    let mut twice = copy_texts(alloc, &texts)?;
+    twice.push(Text::from_slice(alloc, b"b")?)?;
+    Ok(texts.len() == 1 && twice.len() == 2 && twice.three().is_none() && twice.both().is_some())
+}
+
+#[test]
+fn shared_lists_part(rt: HostRuntime) -> Result<(), Fail> {
+    assert!(rt; are_parted(rt.alloc())?);
+    Ok(())
+}
+
+// Whether a list, held elsewhere too, is taken out of its holder and put back.
+fn are_taken_out(alloc: Global) -> Result<bool, Memory> {
+    let texts = one_text(alloc)?;
+    let rows = texts.share()?.into_rows()?;
+    Ok(rows.len() == 1 && Texts::from_rows(rows)? == texts)
+}
+
+#[test]
+fn shared_lists_are_taken_out(rt: HostRuntime) -> Result<(), Fail> {
+    assert!(rt; are_taken_out(rt.alloc())?);
     Ok(())
 }
 
@@ -128,6 +151,22 @@ fn a_value_is_shared(rt: HostRuntime) -> Result<(), Fail> {
     Ok(())
 }
 
+// Whether what is held twice is taken out of both.
+fn are_links_parted(alloc: Global) -> Result<bool, Memory> {
+    let part = Ty::List(Link::new(alloc, Ty::Int)?);
+    let link = Link::new(alloc, part)?;
+    let other = link.share()?;
+    let first = link.into_value()?;
+    let second = other.into_value()?;
+    Ok(same_type(&first, &second))
+}
+
+#[test]
+fn links_part(rt: HostRuntime) -> Result<(), Fail> {
+    assert!(rt; are_links_parted(rt.alloc())?);
+    Ok(())
+}
+
 fn are_bytes_copied(alloc: Global) -> Result<bool, Memory> {
     let bytes = Bytes::from_slice(alloc, b"ab")?;
     Ok(bytes.copy(alloc)? == bytes)
@@ -136,6 +175,24 @@ fn are_bytes_copied(alloc: Global) -> Result<bool, Memory> {
 #[test]
 fn bytes_are_copied(rt: HostRuntime) -> Result<(), Fail> {
     assert!(rt; are_bytes_copied(rt.alloc())?);
+    Ok(())
+}
+
+// Whether a text of these bytes shows them, and gives them back.
+fn are_kept(alloc: Global, bytes: &[u8]) -> Result<bool, Memory> {
+    let text = Text::from_slice(alloc, bytes)?;
+    let copy = text.copy(alloc)?;
+    if text.as_slice() != bytes || copy != text {
+        return Ok(false);
+    }
+    Ok(Text::from_vec(copy.into_vec(alloc)?)? == text)
+}
+
+#[test]
+fn texts_keep_their_bytes(rt: HostRuntime) -> Result<(), Fail> {
+    assert!(rt; are_kept(rt.alloc(), b"")?);
+    assert!(rt; are_kept(rt.alloc(), b"22 bytes are in place.")?);
+    assert!(rt; are_kept(rt.alloc(), b"23 bytes are elsewhere.")?);
     Ok(())
 }
 

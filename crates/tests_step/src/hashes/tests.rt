@@ -108,7 +108,7 @@ fn a_key_is_hashed_behind_its_tag(rt: HostRuntime) -> Result<(), Fail> {
 fn text(alloc: Global, count: usize) -> Result<Rows<Value>, Fail> {
     let mut stack = Rows::new(alloc);
     let bytes = vec![in alloc; b'a'; count]?;
-    stack.push(Value::Text(Text::from_vec(bytes)))?;
+    stack.push(Value::Text(Text::from_vec(bytes)?))?;
     Ok(stack)
 }
 

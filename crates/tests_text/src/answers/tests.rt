@@ -78,7 +78,7 @@ fn the_end_is_read(rt: HostRuntime) -> Result<(), Fail> {
 
 #[test]
 fn a_refusal_has_its_line(rt: HostRuntime) -> Result<(), Fail> {
-    let line = as_text(refusal_line(rt.alloc(), "BadStatement", 7)?);
+    let line = as_text(refusal_line(rt.alloc(), "BadStatement", 7)?)?;
     assert!(rt; line.as_slice() == b"Refused BadStatement 7\n".as_slice());
     Ok(())
 }

@@ -1,6 +1,6 @@
 // Binary forms worked out by hand from Octez "data encoding", and what is refused at which place.
 use DecodeKind::{BadInteger, BadLength, BadPrim, BadString, BadTag, Trailing};
-use mich_base::{App, Bytes, Memory, Node, Rows, Text, size_within};
+use mich_base::{App, Bytes, Memory, Node, Nodes, Text, Texts, size_within};
 use mich_binary::{DecodeError, DecodeKind, EncodeError, decode, encode};
 use std::alloc::Global;
 use std::test::Fail;
@@ -104,9 +104,9 @@ fn the_first_fault_is_reported(rt: HostRuntime) -> Result<(), Fail> {
 
 // A sequence in a sequence, to this depth.
 fn nested(alloc: Global, depth: u32) -> Result<Node, Memory> {
-    let mut node = Node::Seq(Rows::new(alloc));
+    let mut node = Node::Seq(Nodes::new(alloc));
     for _ in 1..depth {
-        let mut parts = Rows::new(alloc);
+        let mut parts = Nodes::new(alloc);
         parts.push(node)?;
         node = Node::Seq(parts);
     }
@@ -192,15 +192,15 @@ fn alone(alloc: Global, name: &[u8]) -> Result<Node, Memory> {
     let name = Text::from_slice(alloc, name)?;
     Ok(Node::Prim(App {
         name,
-        annots: Rows::new(alloc),
-        args: Rows::new(alloc),
+        annots: Texts::new(alloc),
+        args: Nodes::new(alloc),
     }))
 }
 
 fn with_nat(alloc: Global, name: &[u8], annot: &[u8]) -> Result<Node, Memory> {
-    let mut annots = Rows::new(alloc);
+    let mut annots = Texts::new(alloc);
     annots.push(Text::from_slice(alloc, annot)?)?;
-    let mut args = Rows::new(alloc);
+    let mut args = Nodes::new(alloc);
     args.push(alone(alloc, b"nat")?)?;
     let name = Text::from_slice(alloc, name)?;
     Ok(Node::Prim(App { name, annots, args }))

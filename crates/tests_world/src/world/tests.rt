@@ -3,7 +3,7 @@ ghost use Rattle.std.specs.Prelude.{◌≡◌, ℕ, List, pos, IfOk};
 ghost use Rattle.rules_data.specs.values.Tickets.{Identity};
 ghost use Rattle.mich_tickets.specs.Sums.{held_of};
 
-use mich_base::{Memory, Node, Rows, Shared, Ty};
+use mich_base::{Memory, Node, Nodes, Rows, Shared, Ty};
 use mich_forms::{ChainId, KeyHash, Place};
 use mich_instr::Script;
 use mich_term::Value;
@@ -70,7 +70,7 @@ fn script(alloc: Global) -> Result<Shared<Script>, Memory> {
     Shared::new(
         alloc,
         Script {
-            node: Node::Seq(Rows::new(alloc)),
+            node: Node::Seq(Nodes::new(alloc)),
             parameter: Parameter {
                 ty: Ty::Unit,
                 entries: Rows::new(alloc),

@@ -128,6 +128,9 @@ settle_all-returns-in-Ticket-clause-settles t c = s.settles_from _ _ _ _ _ c.in-
 pub settle_all-returns-in-Ticket-clause-lays : goal.settle_all-returns-in-Ticket-clause-lays
 settle_all-returns-in-Ticket-clause-lays t c = s.lays_same _
 
+pub settle_link-returns-in_err-into_value-clause-lays : goal.settle_link-returns-in_err-into_value-clause-lays
+settle_link-returns-in_err-into_value-clause-lays t c = s.lays_same _
+
 pub settle_list-loop-value-init : goal.settle_list-loop-value-init
 settle_list-loop-value-init t c =
     let is : into_iter_items c.into_iter-value-iterator.result ≡ c.args.values = search rules in

@@ -1,7 +1,7 @@
 use Rattle.std.proofs.Common.{rules}
 use Rattle.std.specs.Prelude.{Err}
 use Rattle.mich_base.specs.View.{tree}
-use Rattle.mich_stackrules.specs.Answers.{found_from}
+use Rattle.mich_outline.specs.Answers.{found_from}
 use Rattle.mich_control.specs.Answers.{IsFound}
 use Rattle.mich_control.specs.Arrows.{arrow_in, arrow_of}
 use Rattle.mich_control.proofs.LambdaTyping.{argument_fails, result_fails}

@@ -13,7 +13,7 @@ list_node-returns t c =
     let items = c.as_reversed_slice-value-items.result.now in
     let whole : reverse (take c.loop-value.value-index items) ≡ c.args.values.now =
     ap reverse (take_all _ items c.loop-value-test.false ∙ c.as_reversed_slice-value-items.ensures) ∙ reverse-reverse c.args.values.now in
-    c.sequence.ensures ∙ list_written c.loop-value.nodes _ (vals c.args.values.now) (c.from_vec.ensures ∙ c.into_vec.ensures)
+    c.sequence.ensures ∙ list_written c.loop-value.nodes _ (vals c.args.values.now) (c.in_ok-written.ensures ∙ c.from_vec-rows.ensures ∙ c.into_vec.ensures)
     (c.loop-value.invariant ∙ ap (λ (vs : List Value). element_trees (vals vs)) whole)
 
 pub big_node-returns : goal.big_node-returns

@@ -22,13 +22,13 @@ returns-then-not-pay-clause-acts c = λ x fs d Z o h.
     let s = script_code c.args.script.now in
     create_any_broke s _ (rw c.if-not-pay.true at c.pay.ensures) h (create_any_top s h)
 
-pub pop_delegate-delegate-requires : goal.pop_delegate-delegate-requires
-pop_delegate-delegate-requires c = (c.requires.0.sight, (create_takes (script_code c.args.script.now) c.requires.5).0)
+pub pop_delegate-requires : goal.pop_delegate-requires
+pop_delegate-requires c = (c.requires.0.sight, (create_takes (script_code c.args.script.now) c.requires.5).0)
 
 pub pop_amount-amount-requires : goal.pop_amount-amount-requires
 pop_amount-amount-requires c =
     let x = c.requires.0 in
-    (x.sight, subst (λ (V : List Val). HasAmount (drop 1 V)) (c.pop_delegate-delegate.ensures x.sight) (create_takes (script_code c.args.script.now) c.requires.5).1)
+    (x.sight, subst (λ (V : List Val). HasAmount (drop 1 V)) (c.in_ok-delegate.ensures x.sight) (create_takes (script_code c.args.script.now) c.requires.5).1)
 
 pub count_origination-hash-requires : goal.count_origination-hash-requires
 count_origination-hash-requires c =
@@ -41,7 +41,7 @@ count_origination-hash-requires c =
 pub pop-storage-requires : goal.pop-storage-requires
 pop-storage-requires c =
     let x = c.requires.0 in
-    (x.sight, storage_third c.pop_delegate-delegate.result (number (pos c.pop_amount-amount.result)) _ (rw (c.pop_delegate-delegate.ensures x.sight, c.pop_amount-amount.ensures x.sight) at (create_any_top (script_code c.args.script.now) c.requires.5)))
+    (x.sight, storage_third c.in_ok-delegate.delegate (number (pos c.pop_amount-amount.result)) _ (rw (c.in_ok-delegate.ensures x.sight, c.pop_amount-amount.ensures x.sight) at (create_any_top (script_code c.args.script.now) c.requires.5)))
 
 pub returns-clause-less : goal.returns-clause-less
 returns-clause-less c =
@@ -51,9 +51,9 @@ returns-clause-less c =
 pub returns-in_default-clause-acts : goal.returns-in_default-clause-acts
 returns-in_default-clause-acts c = λ x fs d Z o h.
     let p = rw c.if-not-pay.false at c.pay.ensures in
-    create_any_over (script_code c.args.script.now) c.pop_delegate-delegate.result c.pop_amount-amount.result (seen x.sight c.pop-storage.result) (tops x.sight c.pop-storage.new.stack) p.0
+    create_any_over (script_code c.args.script.now) c.in_ok-delegate.delegate c.pop_amount-amount.result (seen x.sight c.pop-storage.result) (tops x.sight c.pop-storage.new.stack) p.0
     (over_limit c.count_operation.result c.args.m.now.counts.issued c.count_operation.new.counts.issued c.in_default.not-Some c.count_operation.ensures.number)
-    (rw (c.pop_delegate-delegate.ensures x.sight, c.pop_amount-amount.ensures x.sight, c.pop-storage.ensures x.sight) at h)
+    (rw (c.in_ok-delegate.ensures x.sight, c.pop_amount-amount.ensures x.sight, c.pop-storage.ensures x.sight) at h)
 
 pub returns-clause-acts : goal.returns-clause-acts
 returns-clause-acts c = λ x fs d Z o h.
@@ -63,7 +63,7 @@ returns-clause-acts c = λ x fs d Z o h.
     let n = c.in-Some.ensures.number in
     let others = c.in-Some.ensures.others in
     let kept = c.count_origination-hash.ensures.others in
-    let delegate = c.pop_delegate-delegate.result in
+    let delegate = c.in_ok-delegate.delegate in
     let amount = c.pop_amount-amount.result in
     let y = seen x.sight c.pop-storage.result in
     let script = c.args.script.now in
@@ -72,7 +72,7 @@ returns-clause-acts c = λ x fs d Z o h.
     let originated : c.count_origination-hash.new.counts.originated ≡ suc old.originated = omega (arith, c.count_origination-hash.ensures.more, others.0) in
     let group : c.count_origination-hash.new.counts.group ≡ old.group = kept.1 ∙ others.1 in
     let same : c.count_origination-hash.result ≡ address = rw (others.0, others.1) at c.count_origination-hash.ensures.hash in
-    let meets = rw (c.pop_delegate-delegate.ensures x.sight, c.pop_amount-amount.ensures x.sight, c.pop-storage.ensures x.sight) at h in
+    let meets = rw (c.in_ok-delegate.ensures x.sight, c.pop_amount-amount.ensures x.sight, c.pop-storage.ensures x.sight) at h in
     stands_counted x c.args.costs.now c.args.m.now c.push-3.new.stack c.pay.new.meter c.count_origination-hash.new.counts c.push.new.self fs d Z o g.CreateContract 0 (suc old.originated)
     (origination delegate amount (script_node script) y address)
     (i.Origination number delegate amount c.in_ok-script.script c.pop-storage.result c.count_origination-hash.result) number p.1 n.0 counted originated group c.in_ok-push.ensures.pushed

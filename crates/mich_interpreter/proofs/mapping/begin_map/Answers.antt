@@ -27,11 +27,11 @@ returns-in_ok-next_entry-in-Map-clause-acts c = λ x fs d Z o h.
 pub next_part-requires : goal.next_part-requires
 next_part-requires c =
     let r = c.requires.waits in
-    (r.0, r.1, r.2, r.3, r.4, rw c.into_value.ensures (part_begins r.0.sight c.args.over c.in-Some.part c.in-Some.is r.5))
+    (r.0, r.1, r.2, r.3, r.4, rw c.in_ok-into_value-in-Some.ensures (part_begins r.0.sight c.args.over c.in-Some.part c.in-Some.is r.5))
 
 pub returns-in_ok-next_part-in-Some-clause-acts : goal.returns-in_ok-next_part-in-Some-clause-acts
 returns-in_ok-next_part-in-Some-clause-acts c = λ x fs d Z o h.
-    c.in_ok-next_part-in-Some.ensures.acts x fs d Z o (rw c.into_value.ensures (part_begins x.sight c.args.over c.in-Some.part c.in-Some.is h))
+    c.in_ok-next_part-in-Some.ensures.acts x fs d Z o (rw c.in_ok-into_value-in-Some.ensures (part_begins x.sight c.args.over c.in-Some.part c.in-Some.is h))
 
 pub returns-in_ok-push-in-None-clause-acts : goal.returns-in_ok-push-in-None-clause-acts
 returns-in_ok-push-in-None-clause-acts c = λ x fs d Z o h.

@@ -18,8 +18,8 @@ use Rattle.mich_machine.proofs.Ended.{some, shape, rising, ready, given_formed}
 use Rattle.mich_machine.proofs.Finishing.{numbers_so, storage_so, replay_so, picked_so, replace_so, there_still, based_so, stored_so, ends_so, hosting_so}
 use Rattle.mich_machine.proofs.ending.finish.Goals as goal
 
-pub parts-numbers-requires : goal.parts-numbers-requires
-parts-numbers-requires c = (sight c.args.world.now.store.bases.present, (shape c.requires).operations, (some c.requires).0.storage, (shape c.requires).is)
+pub parts-requires : goal.parts-requires
+parts-requires c = (sight c.args.world.now.store.bases.present, (shape c.requires).operations, (some c.requires).0.storage, (shape c.requires).is)
 
 pub by_number-requires : goal.by_number-requires
 by_number-requires c = rising c.requires
@@ -27,15 +27,15 @@ by_number-requires c = rising c.requires
 pub pick-requires : goal.pick-requires
 pick-requires c =
     let big = sight c.args.world.now.store.bases.present in
-    (big, (some c.requires).0.numbers, numbers_so c.requires c.parts-numbers.result.0 c.parts-numbers.result.1 (c.parts-numbers.ensures big))
+    (big, (some c.requires).0.numbers, numbers_so c.requires c.in_ok-numbers.numbers c.in_ok-numbers.storage (c.in_ok-numbers.ensures big))
 
 pub returns-in_default-clause-ends : goal.returns-in_default-clause-ends
 returns-in_default-clause-ends c = λ e.
     let e' = e in
     let big = sight c.args.world.now.store.bases.present in
-    let parts = c.parts-numbers.ensures big in
+    let parts = c.in_ok-numbers.ensures big in
     let ns = (some e').0.numbers in
-    let nums = numbers_so e' c.parts-numbers.result.0 c.parts-numbers.result.1 parts in
+    let nums = numbers_so e' c.in_ok-numbers.numbers c.in_ok-numbers.storage parts in
     let h = subst (λ (o : Option (List Issued)). IsPicked (picks c.in_ok-all.all.entries ns) o c.pick.new.all.entries) c.in_default.is (c.in_ok-returned.ensures big ns nums) in
     replay_so e' c.in_ok-all.all.entries c.pick.new.all.entries c.in_ok-all.ensures h
 
@@ -46,97 +46,97 @@ pub discard_left-requires : goal.discard_left-requires
 discard_left-requires c =
     let e' = c.requires in
     let big = sight c.args.world.now.store.bases.present in
-    let parts = c.parts-numbers.ensures big in
+    let parts = c.in_ok-numbers.ensures big in
     let ns = (some e').0.numbers in
-    let nums = numbers_so e' c.parts-numbers.result.0 c.parts-numbers.result.1 parts in
+    let nums = numbers_so e' c.in_ok-numbers.numbers c.in_ok-numbers.storage parts in
     let h = subst (λ (o : Option (List Issued)). IsPicked (picks c.in_ok-all.all.entries ns) o c.pick.new.all.entries) c.in-Some.is (c.in_ok-returned.ensures big ns nums) in
     let q = picked_so c.args.issued c.in_ok-all.all.entries c.pick.new.all.entries ns c.in-Some.returned c.in_ok-all.ensures h in
-    let so = storage_so e' c.parts-numbers.result.0 c.parts-numbers.result.1 parts in
+    let so = storage_so e' c.in_ok-numbers.numbers c.in_ok-numbers.storage parts in
     subst (λ (m : Numbered). IsReady c.args.world.now.ledger.books.present (handed (values_of m))) (sym q.3) (ready e' q.0 q.1)
 
 pub commit-requires-clause-there : goal.commit-requires-clause-there
 commit-requires-clause-there c =
     let e' = c.requires in
     let big = sight c.args.world.now.store.bases.present in
-    let parts = c.parts-numbers.ensures big in
+    let parts = c.in_ok-numbers.ensures big in
     let ns = (some e').0.numbers in
-    let nums = numbers_so e' c.parts-numbers.result.0 c.parts-numbers.result.1 parts in
+    let nums = numbers_so e' c.in_ok-numbers.numbers c.in_ok-numbers.storage parts in
     let h = subst (λ (o : Option (List Issued)). IsPicked (picks c.in_ok-all.all.entries ns) o c.pick.new.all.entries) c.in-Some.is (c.in_ok-returned.ensures big ns nums) in
     let q = picked_so c.args.issued c.in_ok-all.all.entries c.pick.new.all.entries ns c.in-Some.returned c.in_ok-all.ensures h in
-    let so = storage_so e' c.parts-numbers.result.0 c.parts-numbers.result.1 parts in
+    let so = storage_so e' c.in_ok-numbers.numbers c.in_ok-numbers.storage parts in
     let y = c.discard_left.new.world in
     let tells = subst (λ (m : Numbered). Tells (burns (handed (values_of m))) c.args.world.now.ledger y.ledger) q.3 c.in_ok-discard_left.ensures.tells in
-    there_still e' q.0 q.1 c.parts-numbers.result.1 so y c.discard_left.ensures.world tells
+    there_still e' q.0 q.1 c.in_ok-numbers.storage so y c.discard_left.ensures.world tells
 
 pub commit-requires-clause-replace : goal.commit-requires-clause-replace
 commit-requires-clause-replace c =
     let e' = c.requires in
     let big = sight c.args.world.now.store.bases.present in
-    let parts = c.parts-numbers.ensures big in
+    let parts = c.in_ok-numbers.ensures big in
     let ns = (some e').0.numbers in
-    let nums = numbers_so e' c.parts-numbers.result.0 c.parts-numbers.result.1 parts in
+    let nums = numbers_so e' c.in_ok-numbers.numbers c.in_ok-numbers.storage parts in
     let h = subst (λ (o : Option (List Issued)). IsPicked (picks c.in_ok-all.all.entries ns) o c.pick.new.all.entries) c.in-Some.is (c.in_ok-returned.ensures big ns nums) in
     let q = picked_so c.args.issued c.in_ok-all.all.entries c.pick.new.all.entries ns c.in-Some.returned c.in_ok-all.ensures h in
-    let so = storage_so e' c.parts-numbers.result.0 c.parts-numbers.result.1 parts in
+    let so = storage_so e' c.in_ok-numbers.numbers c.in_ok-numbers.storage parts in
     let y = c.discard_left.new.world in
     let tells = subst (λ (m : Numbered). Tells (burns (handed (values_of m))) c.args.world.now.ledger y.ledger) q.3 c.in_ok-discard_left.ensures.tells in
-    replace_so e' q.0 q.1 c.parts-numbers.result.1 so y c.discard_left.ensures.world tells
+    replace_so e' q.0 q.1 c.in_ok-numbers.storage so y c.discard_left.ensures.world tells
 
 pub commit-requires-clause-based : goal.commit-requires-clause-based
 commit-requires-clause-based c =
     let e' = c.requires in
     let big = sight c.args.world.now.store.bases.present in
-    let parts = c.parts-numbers.ensures big in
+    let parts = c.in_ok-numbers.ensures big in
     let ns = (some e').0.numbers in
-    let nums = numbers_so e' c.parts-numbers.result.0 c.parts-numbers.result.1 parts in
+    let nums = numbers_so e' c.in_ok-numbers.numbers c.in_ok-numbers.storage parts in
     let h = subst (λ (o : Option (List Issued)). IsPicked (picks c.in_ok-all.all.entries ns) o c.pick.new.all.entries) c.in-Some.is (c.in_ok-returned.ensures big ns nums) in
     let q = picked_so c.args.issued c.in_ok-all.all.entries c.pick.new.all.entries ns c.in-Some.returned c.in_ok-all.ensures h in
-    let so = storage_so e' c.parts-numbers.result.0 c.parts-numbers.result.1 parts in
+    let so = storage_so e' c.in_ok-numbers.numbers c.in_ok-numbers.storage parts in
     let y = c.discard_left.new.world in
     let tells = subst (λ (m : Numbered). Tells (burns (handed (values_of m))) c.args.world.now.ledger y.ledger) q.3 c.in_ok-discard_left.ensures.tells in
-    based_so e' q.0 q.1 c.parts-numbers.result.1 so y c.discard_left.ensures.world tells
+    based_so e' q.0 q.1 c.in_ok-numbers.storage so y c.discard_left.ensures.world tells
 
 pub commit-requires-clause-formed : goal.commit-requires-clause-formed
 commit-requires-clause-formed c =
     let e' = c.requires in
     let big = sight c.args.world.now.store.bases.present in
-    let parts = c.parts-numbers.ensures big in
+    let parts = c.in_ok-numbers.ensures big in
     let ns = (some e').0.numbers in
-    let nums = numbers_so e' c.parts-numbers.result.0 c.parts-numbers.result.1 parts in
+    let nums = numbers_so e' c.in_ok-numbers.numbers c.in_ok-numbers.storage parts in
     let h = subst (λ (o : Option (List Issued)). IsPicked (picks c.in_ok-all.all.entries ns) o c.pick.new.all.entries) c.in-Some.is (c.in_ok-returned.ensures big ns nums) in
     let q = picked_so c.args.issued c.in_ok-all.all.entries c.pick.new.all.entries ns c.in-Some.returned c.in_ok-all.ensures h in
-    let so = storage_so e' c.parts-numbers.result.0 c.parts-numbers.result.1 parts in
-    given_formed e' q.0 q.1 c.parts-numbers.result.1 so
+    let so = storage_so e' c.in_ok-numbers.numbers c.in_ok-numbers.storage parts in
+    given_formed e' q.0 q.1 c.in_ok-numbers.storage so
 
 pub returns-clause-ends : goal.returns-clause-ends
 returns-clause-ends c = λ e.
     let e' = e in
     let big = sight c.args.world.now.store.bases.present in
-    let parts = c.parts-numbers.ensures big in
+    let parts = c.in_ok-numbers.ensures big in
     let ns = (some e').0.numbers in
-    let nums = numbers_so e' c.parts-numbers.result.0 c.parts-numbers.result.1 parts in
+    let nums = numbers_so e' c.in_ok-numbers.numbers c.in_ok-numbers.storage parts in
     let h = subst (λ (o : Option (List Issued)). IsPicked (picks c.in_ok-all.all.entries ns) o c.pick.new.all.entries) c.in-Some.is (c.in_ok-returned.ensures big ns nums) in
     let q = picked_so c.args.issued c.in_ok-all.all.entries c.pick.new.all.entries ns c.in-Some.returned c.in_ok-all.ensures h in
-    let so = storage_so e' c.parts-numbers.result.0 c.parts-numbers.result.1 parts in
+    let so = storage_so e' c.in_ok-numbers.numbers c.in_ok-numbers.storage parts in
     let y = c.discard_left.new.world in
     let tells = subst (λ (m : Numbered). Tells (burns (handed (values_of m))) c.args.world.now.ledger y.ledger) q.3 c.in_ok-discard_left.ensures.tells in
     subst (λ (z : World). EndsWith e z (record { returned = c.in-Some.returned; changes = c.take_changes-changes.result })) (sym c.take_changes-changes.ensures.world)
-    (ends_so e' q.0 q.1 c.parts-numbers.result.1 so y c.discard_left.ensures.world tells c.commit.new.self c.in_ok-commit.ensures.commits c.in-Some.returned c.take_changes-changes.result q.2 c.take_changes-changes.ensures.taken)
+    (ends_so e' q.0 q.1 c.in_ok-numbers.storage so y c.discard_left.ensures.world tells c.commit.new.self c.in_ok-commit.ensures.commits c.in-Some.returned c.take_changes-changes.result q.2 c.take_changes-changes.ensures.taken)
 
 pub returns-clause-hosting : goal.returns-clause-hosting
 returns-clause-hosting c =
     let e' = c.requires in
     let big = sight c.args.world.now.store.bases.present in
-    let parts = c.parts-numbers.ensures big in
+    let parts = c.in_ok-numbers.ensures big in
     let ns = (some e').0.numbers in
-    let nums = numbers_so e' c.parts-numbers.result.0 c.parts-numbers.result.1 parts in
+    let nums = numbers_so e' c.in_ok-numbers.numbers c.in_ok-numbers.storage parts in
     let h = subst (λ (o : Option (List Issued)). IsPicked (picks c.in_ok-all.all.entries ns) o c.pick.new.all.entries) c.in-Some.is (c.in_ok-returned.ensures big ns nums) in
     let q = picked_so c.args.issued c.in_ok-all.all.entries c.pick.new.all.entries ns c.in-Some.returned c.in_ok-all.ensures h in
-    let so = storage_so e' c.parts-numbers.result.0 c.parts-numbers.result.1 parts in
+    let so = storage_so e' c.in_ok-numbers.numbers c.in_ok-numbers.storage parts in
     let y = c.discard_left.new.world in
     let tells = subst (λ (m : Numbered). Tells (burns (handed (values_of m))) c.args.world.now.ledger y.ledger) q.3 c.in_ok-discard_left.ensures.tells in
     subst IsHosting (sym c.take_changes-changes.ensures.world)
-    (hosting_so e' q.0 q.1 c.parts-numbers.result.1 so y c.discard_left.ensures.world tells c.commit.new.self c.in_ok-commit.ensures.commits (c.in_ok-commit.ensures.stored (stored_so e' q.0 q.1 c.parts-numbers.result.1 so y c.discard_left.ensures.world tells)))
+    (hosting_so e' q.0 q.1 c.in_ok-numbers.storage so y c.discard_left.ensures.world tells c.commit.new.self c.in_ok-commit.ensures.commits (c.in_ok-commit.ensures.stored (stored_so e' q.0 q.1 c.in_ok-numbers.storage so y c.discard_left.ensures.world tells)))
 
 pub returns-clause-keeps : goal.returns-clause-keeps
 returns-clause-keeps c =

@@ -16,24 +16,27 @@ returns-then-not-is_default-clause-keeps c = world_same _
 pub returns-in_err-argument-clause-keeps : goal.returns-in_err-argument-clause-keeps
 returns-in_err-argument-clause-keeps c = world_same _
 
+pub returns-in_err-ticket-clause-keeps : goal.returns-in_err-ticket-clause-keeps
+returns-in_err-ticket-clause-keeps c = world_same _
+
 pub send_ticket-requires-clause-sent : goal.send_ticket-requires-clause-sent
 send_ticket-requires-clause-sent c =
     let g = c.requires.sent in (
       g.0,
-      subst (λ (x : Val). IsSent c.args.world.now g.0 c.args.from.now c.args.to.now x) (c.ticket_of.ensures c.args.world.now.store.bases.present) g.1,
+      subst (λ (x : Val). IsSent c.args.world.now g.0 c.args.from.now c.args.to.now x) (c.in_ok-ticket.ensures c.args.world.now.store.bases.present) g.1,
     )
 
 pub send_ticket-requires-clause-printed : goal.send_ticket-requires-clause-printed
 send_ticket-requires-clause-printed c =
     c.in_ok-argument.ensures ∙ ap (λ (s : Stored). canonical (val_in s.bases.present c.args.value)) c.store.ensures
-    ∙ ap canonical (c.ticket_of.ensures c.args.world.now.store.bases.present)
+    ∙ ap canonical (c.in_ok-ticket.ensures c.args.world.now.store.bases.present)
 
 pub returns-then-is_ticket-clause-ends : goal.returns-then-is_ticket-clause-ends
 returns-then-is_ticket-clause-ends c = λ w gas counts sent.
     let named : c.args.entry.now ≡ default_name = search rules in
     let bs = c.args.world.now.store.bases.present in
     takes_ticket w c.args.from.now c.args.to.now c.args.entry.now c.args.amount (val_in bs c.args.value) gas counts
-    c.send_ticket.new.world c.args.world.now c.ticket_of.result c.send_ticket.result named (c.ticket_of.ensures bs) sent (λ s. c.send_ticket.ensures.ends w (value (val_in bs c.args.value)) gas counts s)
+    c.send_ticket.new.world c.args.world.now c.in_ok-ticket.ticket c.send_ticket.result named (c.in_ok-ticket.ensures bs) sent (λ s. c.send_ticket.ensures.ends w (value (val_in bs c.args.value)) gas counts s)
 
 pub pay_account-paid-requires-clause-plain : goal.pay_account-paid-requires-clause-plain
 pay_account-paid-requires-clause-plain c =

@@ -8,6 +8,11 @@ use Rattle.mich_replay.proofs.Happening.{came_new}
 use Rattle.mich_replay.proofs.Promise.{nothing}
 use Rattle.mich_replay.proofs.generating.generate.Goals as goal
 
+pub returns-in_err-session-clause-comes : goal.returns-in_err-session-clause-comes
+returns-in_err-session-clause-comes g c = λ content.
+    let p = err_from_is_err_and c.from_residual-in_err-session.result c.from_residual-in_err-session.ensures.1 in
+    rw p.1 (λ other h. nothing _ _)
+
 pub feed-requires : goal.feed-requires
 feed-requires g c = ([], [], came_new c.in_ok-session.session.reader c.in_ok-session.session.course c.in_ok-session.ensures.0 c.in_ok-session.ensures.1)
 

@@ -5,7 +5,7 @@ use Rattle.mich_report.proofs.state.state_text.Goals as goal
 
 pub returns : goal.returns
 returns c = λ w r.
-    c.from_vec.ensures
+    c.in_ok-written.ensures
     ∙ ended joined c.loop-line.text.items _ c.loop-line.line-index c.as_slice-line-items.result.now refl c.loop-line.invariant (omega arith)
     ∙ ap joined (c.as_slice-line-items.ensures ∙ c.in_ok-lines.ensures w r)
     ∙ joined_lines (state_nodes w)

@@ -14,15 +14,15 @@ take_part-requires t c =
       search rules,
       (
         big,
-        part_there c.args.place c.in-Some.further (seen big c.args.comb) (seen big c.split_pair-first.result.0) (seen big c.split_pair-first.result.1)
-            (search rules) (c.split_pair-first.ensures big) c.requires.1,
+        part_there c.args.place c.in-Some.further (seen big c.args.comb) (seen big c.in_ok-first.first) (seen big c.in_ok-first.second)
+            (search rules) (c.in_ok-first.ensures big) c.requires.1,
       ),
     )
 
 pub returns : goal.returns
 returns t c = λ big.
-    let e : tickets (seen big c.split_pair-first.result.0) ++ tickets (seen big c.in_ok-found.left) ≡ tickets (seen big (value.Pair c.in_ok-first.first c.in_ok-left.left)) =
-    ap tickets (pair_of big c.in_ok-first.first c.in_ok-left.left c.split_pair-first.result.0 c.in_ok-found.left c.in_ok-first.ensures c.in_ok-left.ensures) in
+    let e : tickets (seen big c.in_ok-first.first) ++ tickets (seen big c.in_ok-found.left) ≡ tickets (seen big (value.Pair c.in_ok-first-2.first c.in_ok-left.left)) =
+    ap tickets (pair_of big c.in_ok-first-2.first c.in_ok-left.left c.in_ok-first.first c.in_ok-found.left c.in_ok-first-2.ensures c.in_ok-left.ensures) in
     subst (λ ts. IsPart (part_at c.args.place (seen big c.args.comb)) (seen big c.in_ok-found.found) ts) e
-    (part_is c.args.place c.in-Some.further (seen big c.args.comb) (seen big c.split_pair-first.result.0) (seen big c.split_pair-first.result.1)
-    (seen big c.in_ok-found.found) (tickets (seen big c.in_ok-found.left)) (search rules) (c.split_pair-first.ensures big) (c.in_ok-found.ensures big))
+    (part_is c.args.place c.in-Some.further (seen big c.args.comb) (seen big c.in_ok-first.first) (seen big c.in_ok-first.second)
+    (seen big c.in_ok-found.found) (tickets (seen big c.in_ok-found.left)) (search rules) (c.in_ok-first.ensures big) (c.in_ok-found.ensures big))

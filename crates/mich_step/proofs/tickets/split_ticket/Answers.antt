@@ -13,23 +13,23 @@ use Rattle.mich_step.proofs.tickets.split_ticket.Goals as goal
 
 pub split-requires-clause-within : goal.split-requires-clause-within
 split-requires-clause-within c =
-    let t = c.ticket_in-ticket.result in
+    let t = c.in_ok-ticket.ticket in
     let b = c.args.ledger.now.books.present in
     ready_first b (held t) [] (split_ready b (plain c.args.stack.now) t (plain c.pop.new.stack)
-    (c.in-Some.ensures big_step ∙ ap (λ v. v ∷ plain c.pop.new.stack) (c.ticket_in-ticket.ensures big_step)) c.requires.ready)
+    (c.in-Some.ensures big_step ∙ ap (λ v. v ∷ plain c.pop.new.stack) (c.in_ok-ticket.ensures big_step)) c.requires.ready)
 
 pub returns-clause-tells : goal.returns-clause-tells
 returns-clause-tells c = λ e total big.
-    let t = c.ticket_in-ticket.result in
-    let a = c.take_amounts-a.result.0 in
-    let b = c.take_amounts-a.result.1 in
+    let t = c.in_ok-ticket.ticket in
+    let a = c.in_ok-a.a in
+    let b = c.in_ok-a.b in
     let V = values big c.args.stack.now in
-    let W = values big c.take_amounts-a.new.stack in
+    let W = values big c.take_amounts.new.stack in
     let parts = c.in_ok-parts.parts in
     let old = c.args.ledger.now in
     let new = c.split.new.self in
     let operands : V ≡ as_value (held t) ∷ both (number a) (number b) ∷ W =
-    c.in-Some.ensures big ∙ (λ i. c.ticket_in-ticket.ensures big i ∷ c.take_amounts-a.ensures big i) in
+    c.in-Some.ensures big ∙ (λ i. c.in_ok-ticket.ensures big i ∷ c.in_ok-a.ensures big i) in
     let fits_a : SFits w128 a = search rules in
     let fits_b : SFits w128 b = search rules in
     split_by e total W V t a b _ _ parts old new (to_z-of_z w128 a fits_a) (to_z-of_z w128 b fits_b) operands c.in_ok-parts.ensures.answer

@@ -6,6 +6,3 @@ invariant-shadow_all-loop-value l = l.copies ≡ reverse (take l.value-index l.v
 
 abbrev pub invariant-shadow_table-loop-key : goal.invariant-shadow_table-loop-key
 invariant-shadow_table-loop-key l = l.copies ++ l.key-iterator ≡ l.table
-
-abbrev pub invariant-shadow_big-loop-key : goal.invariant-shadow_big-loop-key
-invariant-shadow_big-loop-key l = l.overlay ≡ take l.key-index l.key-items

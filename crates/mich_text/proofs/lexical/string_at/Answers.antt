@@ -19,7 +19,7 @@ returns-in-Bad c =
 
 pub returns-in-Closed : goal.returns-in-Closed
 returns-in-Closed c =
-    rw c.from_vec.ensures (string_ends c.args.text.now c.units.spelt.items _
+    rw c.in_ok-from_vec-in-Closed.ensures (string_ends c.args.text.now c.units.spelt.items _
     (ap (prepend c.units.spelt.items) (sym c.in-Closed.ensures.step) ∙ c.units.invariant.whole) c.units.invariant.room refl)
 
 pub returns-then-len-eq-BYTE_LIMIT : goal.returns-then-len-eq-BYTE_LIMIT

@@ -14,6 +14,6 @@ returns c = λ big.
     let V = values big c.args.stack.now in
     let W = values big c.take_map-table.new.stack in
     subst (λ N. IsExchange V (option_map (seen big) c.in_ok-table.old) N) (sym (c.in_ok-push.ensures big ∙ ap (λ v. v ∷ W) (c.map_value.ensures big)))
-    (exchange_is V (datum c.in_ok-key.key) (option_map (seen big) c.take_option-new.result) (pairs_by big c.take_map-table.result) (pairs_by big c.in_ok-table.table) W (option_map (seen big) c.in_ok-table.old)
-    (c.in_ok-key.ensures big ∙ ap (λ X. datum c.in_ok-key.key ∷ X) (c.take_option-new.ensures big ∙ ap (λ X. optional (option_map (seen big) c.take_option-new.result) ∷ X) (c.take_map-table.ensures big ∙ ap (λ v. v ∷ values big c.take_map-table.new.stack) (map_seen big c.take_map-table.result))))
+    (exchange_is V (datum c.in_ok-key.key) (option_map (seen big) c.in_ok-new.new) (pairs_by big c.take_map-table.result) (pairs_by big c.in_ok-table.table) W (option_map (seen big) c.in_ok-table.old)
+    (c.in_ok-key.ensures big ∙ ap (λ X. datum c.in_ok-key.key ∷ X) (c.in_ok-new.ensures big ∙ ap (λ X. optional (option_map (seen big) c.in_ok-new.new) ∷ X) (c.take_map-table.ensures big ∙ ap (λ v. v ∷ values big c.take_map-table.new.stack) (map_seen big c.take_map-table.result))))
     (c.in_ok-table.ensures.old big) (c.in_ok-table.ensures.table big))

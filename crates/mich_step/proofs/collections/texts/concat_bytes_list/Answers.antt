@@ -13,7 +13,7 @@ returns-in_ok-push-in-Some c = λ big.
     let w = subst (λ o. IsWithinSize (joined xs) (option_map (λ (v : Vec ℕ Global). v.items) o)) c.in-Some.is (c.in_ok-joined.ensures big) in
     bytes_list_is (values big c.args.stack.now) xs (values big c.take_list-list.new.stack) (values big c.push.new.stack) c.in-Some.bytes.items
     (c.take_list-list.ensures big) w.0 w.1
-    (c.in_ok-push-in-Some.ensures big ∙ ap (λ v. v ∷ values big c.take_list-list.new.stack) (c.bytes_value.ensures big))
+    (c.in_ok-push-in-Some.ensures big ∙ ap (λ v. v ∷ values big c.take_list-list.new.stack) (c.in_ok-bytes_value-in-Some.ensures big))
 
 pub returns-in-None : goal.returns-in-None
 returns-in-None c = λ big.

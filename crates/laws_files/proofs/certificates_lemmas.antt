@@ -1,0 +1,11 @@
+pub mod Certified
+pub mod Entries
+pub mod Levels
+pub mod Typed
+pub mod Instructions
+pub mod Scripts
+pub mod Blocks
+pub mod Pending
+pub mod Types
+pub mod ScriptTypes
+pub mod Derived

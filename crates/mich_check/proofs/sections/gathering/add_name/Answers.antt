@@ -1,7 +1,0 @@
-use Rattle.std.proofs.Common.{ap, ◌∙◌}
-use Rattle.std.specs.List.{list_any}
-use Rattle.mich_check.proofs.sections_lemmas.Names.{is_named, any_inserted}
-use Rattle.mich_check.proofs.sections.gathering.add_name.Goals as goal
-
-pub returns-clause-added : goal.returns-clause-added
-returns-clause-added c = λ q. ap (list_any (is_named q)) c.in_ok-insert.ensures.keys ∙ any_inserted q c.args.names.now.keys c.args.name
