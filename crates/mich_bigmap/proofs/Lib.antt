@@ -2,6 +2,7 @@ pub mod Below
 pub mod BigMaps
 pub mod Distinct
 pub mod Extending
+pub mod Holding
 pub mod Journal
 pub mod Kept
 pub mod Keys

@@ -88,7 +88,7 @@ module _ (bs : Bases) where
   in_list : (xs : List Value) → val_in bs (v.List xs) ≡ list (vals_of (map (val_in bs) xs))
   in_list xs = ap (val_in bs) (sym (rolls-List xs)) ∙ rolled (Value-F.List xs)
 
-  in_map : (es : List (Datum × Value)) → val_in bs (v.Map es) ≡ table (pairs_of (map (entry_in bs) es))
+  pub in_map : (es : List (Datum × Value)) → val_in bs (v.Map es) ≡ table (pairs_of (map (entry_in bs) es))
   in_map es = ap (val_in bs) (sym (rolls-Map es)) ∙ rolled (Value-F.Map es)
 
   in_big : (b : BigMap) → val_in bs (v.BigMap b) ≡ big_table (big_val_in bs b)

@@ -9,13 +9,56 @@ ghost use Rattle.mich_bigmap.specs.Settling.{Settles, SettlesAll, SettlesEntries
 use crate::settling::settle;
 use crate::store::Store;
 use mich_base::{Link, Memory, Rows};
-use mich_term::{BigMap, Chain, Table, Value};
+use mich_term::{BigMap, Chain, Table, Value, holds};
 use std::alloc::Global;
 
-/// A value that stands for the same, where all big maps are settled: each that shares has a base and an empty overlay. After Memory
-/// the store is given up with its world (Octez "big_map").
+/// A value that stands for the same, where all big maps are settled: each that shares has a base and an empty overlay. Parts
+/// without big maps stay as they are, and are only looked at. After Memory the store is given up with its world (Octez "big_map").
 #[cycle(settle_all)]
 pub fn settle_all(alloc: Global, store: &mut Store, value: Value) -> Result<Value, Memory>
+    requires formed { AreFormed value }
+    requires based { HasBases store.old.bases.present value }
+    ensures settles { IfOk result (λ v. Settles store.old.bases.present store.new.bases.present value v) }
+    ensures lays { Lays store.old store.new }
+{
+    match value {
+        Value::Pair(x, y) => {
+            let first = settle_half(alloc, store, x)?;
+            let second = settle_half(alloc, store, y)?;
+            Ok(Value::Pair(first, second))
+        }
+        other => settle_part(alloc, store, other),
+    }
+}
+
+#[cycle(settle_all)]
+fn settle_half(alloc: Global, store: &mut Store, value: Link<Value>) -> Result<Link<Value>, Memory>
+    requires formed { AreFormed value }
+    requires based { HasBases store.old.bases.present value }
+    ensures settles { IfOk result (λ v. Settles store.old.bases.present store.new.bases.present value v) }
+    ensures lays { Lays store.old store.new }
+{
+    let settled = settle_all(alloc, store, value.into_value()?)?;
+    Link::new(alloc, settled)
+}
+
+// A value that is no pair.
+fn settle_part(alloc: Global, store: &mut Store, value: Value) -> Result<Value, Memory>
+    requires formed { AreFormed value }
+    requires based { HasBases store.old.bases.present value }
+    ensures settles { IfOk result (λ v. Settles store.old.bases.present store.new.bases.present value v) }
+    ensures lays { Lays store.old store.new }
+{
+    if holds(&value) {
+        settle_parts(alloc, store, value)
+    } else {
+        Ok(value)
+    }
+}
+
+// A value whose parts are all settled anew.
+#[cycle(settle_parts)]
+fn settle_parts(alloc: Global, store: &mut Store, value: Value) -> Result<Value, Memory>
     requires formed { AreFormed value }
     requires based { HasBases store.old.bases.present value }
     ensures settles { IfOk result (λ v. Settles store.old.bases.present store.new.bases.present value v) }
@@ -46,54 +89,54 @@ pub fn settle_all(alloc: Global, store: &mut Store, value: Value) -> Result<Valu
     }
 }
 
-#[cycle(settle_all)]
+#[cycle(settle_parts)]
 fn settle_link(alloc: Global, store: &mut Store, value: Link<Value>) -> Result<Link<Value>, Memory>
     requires formed { AreFormed value }
     requires based { HasBases store.old.bases.present value }
     ensures settles { IfOk result (λ v. Settles store.old.bases.present store.new.bases.present value v) }
     ensures lays { Lays store.old store.new }
 {
-    let settled = settle_all(alloc, store, value.into_value()?)?;
+    let settled = settle_parts(alloc, store, value.into_value()?)?;
     Link::new(alloc, settled)
 }
 
-#[cycle(settle_all)]
+#[cycle(settle_parts)]
 fn settle_list(
     alloc: Global,
     store: &mut Store,
-    values: Chain<Value>,
-) -> Result<Chain<Value>, Memory>
+    values: Link<Chain<Value>>,
+) -> Result<Link<Chain<Value>>, Memory>
     requires formed { AllByRecursion AreFormed values }
     requires based { AllByRecursion (HasBases store.old.bases.present) values }
     ensures settles { IfOk result (λ vs. SettlesAll store.old.bases.present store.new.bases.present values vs) }
     ensures lays { Lays store.old store.new }
 {
     let mut copies = Rows::new(alloc);
-    for value in values.into_vec() {
-        copies.push(settle_all(alloc, store, value)?)?;
+    for value in values.into_value()?.into_vec() {
+        copies.push(settle_parts(alloc, store, value)?)?;
     }
-    Ok(Chain::from_rows(copies))
+    Link::new(alloc, Chain::from_rows(copies))
 }
 
-#[cycle(settle_all)]
+#[cycle(settle_parts)]
 fn settle_table(
     alloc: Global,
     store: &mut Store,
-    table: Table<Value>,
-) -> Result<Table<Value>, Memory>
+    table: Link<Table<Value>>,
+) -> Result<Link<Table<Value>>, Memory>
     requires formed { AllByRecursion (λ e. AreFormed e.1) table }
     requires based { AllByRecursion (λ e. HasBases store.old.bases.present e.1) table }
     ensures settles { IfOk result (λ t. SettlesEntries store.old.bases.present store.new.bases.present table t) }
     ensures lays { Lays store.old store.new }
 {
-    let _count = table.len();
+    let _count = table.get().len();
     let mut copies = Table::new(alloc);
-    for (key, value) in table.into_entries() {
-        let settled = settle_all(alloc, store, value)?;
+    for (key, value) in table.into_value()?.into_entries() {
+        let settled = settle_parts(alloc, store, value)?;
         let old = copies.insert(key, settled)?;
         drop(old);
     }
-    Ok(copies)
+    Link::new(alloc, copies)
 }
 
 // A big map that is settled.

@@ -15,7 +15,7 @@ use crate::error::ValueError;
 use crate::parts::{Entry, big_value};
 use crate::reading::Reading;
 use crate::words::{Word, word_of_name};
-use mich_base::{Node, Nodes, Rows, Ty};
+use mich_base::{Link, Node, Nodes, Rows, Ty};
 use mich_term::{Chain, Datum, Elements, Table, Value, compare};
 use mich_types::duplicable;
 use std::alloc::Global;
@@ -48,7 +48,7 @@ impl Reading {
             let value = self.read(part, node)?;
             values.push(value)?;
         }
-        Ok(Value::List(Chain::from_rows(values)))
+        Ok(Value::List(Link::new(self.alloc, Chain::from_rows(values))?))
     }
 
     #[cycle(read)]
@@ -80,7 +80,7 @@ impl Reading {
             let element = key_behind(self.alloc, elements.last(), &value, at)?;
             elements.insert(element)?;
         }
-        Ok(Value::Set(elements))
+        Ok(Value::Set(Link::new(self.alloc, elements)?))
     }
 
     #[cycle(read)]
@@ -120,7 +120,7 @@ impl Reading {
     }
 
     // A map of the entries.
-    #[tactic(auto, using(crate::proofs::Steps::mapped_good, crate::proofs::Steps::fault_mapped))]
+    #[tactic(auto, using(crate::proofs::Steps::mapped_good, crate::proofs::Steps::fault_mapped, mich_term::proofs::Overlays::table_is))]
     #[cycle(read)]
     fn read_small(&mut self, key: &Ty, value: &Ty, nodes: &Nodes) -> Result<Value, ValueError>
         requires { self.old.next + sizes (trees nodes.now) < 2 ^ 32 }
@@ -129,7 +129,7 @@ impl Reading {
         ensures whole { IfOk result (λ v. IsWhole (k.map (kind key.now) (kind value.now)) v) }
     {
         let entries = self.read_entries(key, value, nodes)?;
-        Ok(Value::Map(entries))
+        Ok(Value::Map(Link::new(self.alloc, entries)?))
     }
 
     // A big map of the entries, which lie in the value itself.

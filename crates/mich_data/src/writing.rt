@@ -17,6 +17,7 @@ use std::alloc::Global;
 /// The canonical literal of a value: pairs have two parts, there are no annotations, and a lambda keeps its node. A ticket
 /// is `Ticket issuer type content amount`; an operation, which has no literal, is `{}`. A big map is the entries that lie
 /// in the value itself (Michelson reference, "PACK"). Memory where there is no room for the node.
+#[tactic(auto, using(mich_term::proofs::Overlays::table_is))]
 #[cycle(write)]
 pub fn value_node(alloc: Global, value: &Value) -> Result<Node, Memory>
     ensures { IfOk result (λ n. tree n ≡ canonical (val value.now)) }
@@ -35,9 +36,9 @@ pub fn value_node(alloc: Global, value: &Value) -> Result<Node, Memory>
             let first = value_node(alloc, first.get())?;
             over_two(alloc, b"Pair", first, value_node(alloc, second.get())?)
         }
-        Value::List(values) => list_node(alloc, values),
-        Value::Set(elements) => set_node(alloc, elements),
-        Value::Map(table) => table_node(alloc, table),
+        Value::List(values) => list_node(alloc, values.get()),
+        Value::Set(elements) => set_node(alloc, elements.get()),
+        Value::Map(table) => table_node(alloc, table.get()),
         Value::BigMap(big) => big_node(alloc, big.get()),
         Value::Lambda(body, recursive) => lambda_node(alloc, body.get(), *recursive),
         Value::Operation(_) => Ok(Node::Seq(Nodes::new(alloc))),

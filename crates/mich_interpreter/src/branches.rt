@@ -11,6 +11,7 @@ use crate::state::State;
 use mich_base::Memory;
 use mich_gas::{Costs, Kind};
 use mich_instr::Block;
+use std::alloc::Global;
 
 pub(crate) fn act_if(
     m: &mut State,
@@ -92,6 +93,7 @@ pub(crate) fn act_if_left(
 }
 
 pub(crate) fn act_if_cons(
+    alloc: Global,
     m: &mut State,
     costs: &Costs,
     first: &Block,
@@ -108,7 +110,7 @@ pub(crate) fn act_if_cons(
         return Ok(Act::Failed(Failed::OutOfGas));
     }
     let cons = is_cons(&m.stack);
-    open_list(&mut m.stack)?;
+    open_list(alloc, &mut m.stack)?;
     if cons {
         let body = first.share()?;
         Ok(Act::Open(None, body))

@@ -72,12 +72,16 @@ pub(crate) fn items_of(alloc: Global, value: Value) -> Result<Items, Memory>
     ensures { IfOk result (λ i. (big : Sight) → items_left big i ≡ items_in (seen big value)) }
 {
     match value {
-        Value::List(list) => Ok(Items::Values(values_of(list))),
+        Value::List(list) => {
+            let list = list.into_value()?;
+            Ok(Items::Values(values_of(list)))
+        }
         Value::Set(set) => {
-            let elements = elements_of(alloc, &set)?;
+            let elements = elements_of(alloc, set.get())?;
             Ok(Items::Values(values_of(Chain::from_rows(elements))))
         }
         Value::Map(table) => {
+            let table = table.into_value()?;
             let entries = entries_of(alloc, table)?;
             Ok(Items::Entries(backwards(entries)))
         }

@@ -83,7 +83,7 @@ fn perform(
         Instr::If(first, second) => Ok(act_if(m, costs, first, second)?),
         Instr::IfNone(first, second) => Ok(act_if_none(m, costs, first, second)?),
         Instr::IfLeft(first, second) => Ok(act_if_left(m, costs, first, second)?),
-        Instr::IfCons(first, second) => Ok(act_if_cons(m, costs, first, second)?),
+        Instr::IfCons(first, second) => Ok(act_if_cons(alloc, m, costs, first, second)?),
         Instr::Loop(body) => Ok(act_loop(m, costs, body)?),
         Instr::LoopLeft(body) => Ok(act_loop_left(m, costs, body)?),
         Instr::Iter(body) => Ok(act_iter(alloc, m, costs, body)?),

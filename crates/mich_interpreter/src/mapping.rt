@@ -75,7 +75,8 @@ fn next_value(
     match work.left.pop() {
         Some(item) => Ok(open_value(alloc, m, costs, body, work, item)?),
         None => {
-            push(&mut m.stack, Value::List(Chain::from_rows(work.made)))?;
+            let made = Link::new(alloc, Chain::from_rows(work.made))?;
+            push(&mut m.stack, Value::List(made))?;
             Ok(Act::On)
         }
     }
@@ -127,7 +128,8 @@ fn next_entry(
     match work.left.pop() {
         Some(entry) => Ok(open_entry(alloc, m, costs, body, work, entry)?),
         None => {
-            push(&mut m.stack, Value::Map(work.made))?;
+            let made = Link::new(alloc, work.made)?;
+            push(&mut m.stack, Value::Map(made))?;
             Ok(Act::On)
         }
     }
@@ -212,12 +214,14 @@ fn begin_map(
     match over {
         Value::List(list) => {
             let body = body.share()?;
+            let list = list.into_value()?;
             let left = values_of(list);
             let made = Rows::new(alloc);
             Ok(next_value(alloc, m, costs, body, OverList { left, made })?)
         }
         Value::Map(table) => {
             let body = body.share()?;
+            let table = table.into_value()?;
             let left = backwards(entries_of(alloc, table)?);
             let made = Table::new(alloc);
             Ok(next_entry(alloc, m, costs, body, OverTable { left, made })?)

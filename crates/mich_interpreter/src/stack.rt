@@ -8,9 +8,10 @@ ghost use Rattle.mich_interpreter.specs.View.{tops};
 ghost use Rattle.mich_interpreter.specs.Parts.{HasAddress, is_true_top, is_left_top, is_none_top, is_cons_top, opened};
 
 use crate::items::split_list;
-use mich_base::{Memory, Rows};
+use mich_base::{Link, Memory, Rows};
 use mich_forms::Address;
 use mich_term::Value;
+use std::alloc::Global;
 use std::mem;
 
 // Puts a value on top. Memory where there is no room for it.
@@ -99,20 +100,20 @@ pub(crate) fn is_cons(stack: &Rows<Value>) -> bool
     ensures { (big : Sight) → is_cons_top (tops big stack.now) ≡ result }
 {
     match stack.as_slice().last() {
-        Some(Value::List(list)) => !list.is_empty(),
+        Some(Value::List(list)) => !list.get().is_empty(),
         _ => unreachable!(),
     }
 }
 
 // Puts the first element of a list on top, if there is one, above the others.
-pub(crate) fn open_list(stack: &mut Rows<Value>) -> Result<(), Memory>
+pub(crate) fn open_list(alloc: Global, stack: &mut Rows<Value>) -> Result<(), Memory>
     requires { (big : Sight) × HasList (tops big stack.old) }
     ensures { IfOk result (λ _. (big : Sight) → tops big stack.new ≡ opened (tops big stack.old)) }
 {
     match stack.pop() {
-        Some(Value::List(list)) => match split_list(list) {
+        Some(Value::List(list)) => match split_list(list.into_value()?) {
             Some((first, rest)) => {
-                push(stack, Value::List(rest))?;
+                push(stack, Value::List(Link::new(alloc, rest)?))?;
                 push(stack, first)
             }
             None => Ok(()),

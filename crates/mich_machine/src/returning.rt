@@ -16,6 +16,17 @@ use std::collections::BTreeMap;
 // Issued operations by their numbers.
 pub(crate) type Numbered = BTreeMap<u32, Issued>;
 
+// The list that a value is.
+fn list_of(value: Value) -> Result<Chain<Value>, Memory>
+    requires { (big : Sight) × (vs : Vals) × (seen big value ≡ list vs) }
+    ensures { IfOk result (λ l. (big : Sight) → seen big value ≡ list (vals_of (map (seen big) l))) }
+{
+    match value {
+        Value::List(values) => values.into_value(),
+        _ => unreachable!(),
+    }
+}
+
 // The operations and the new storage that code leaves.
 pub(crate) fn parts(stack: Rows<Value>) -> Result<(Chain<Value>, Value), Memory>
     requires { (big : Sight) × (vs : Vals) × (w : Val) × (tops big stack ≡ both (list vs) w ∷ []) }
@@ -25,9 +36,7 @@ pub(crate) fn parts(stack: Rows<Value>) -> Result<(Chain<Value>, Value), Memory>
     let Some(Value::Pair(operations, storage)) = stack.pop() else {
         unreachable!();
     };
-    let Value::List(operations) = operations.into_value()? else {
-        unreachable!();
-    };
+    let operations = list_of(operations.into_value()?)?;
     Ok((operations, storage.into_value()?))
 }
 

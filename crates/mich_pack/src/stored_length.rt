@@ -45,6 +45,7 @@ fn pair_len(ticket: &Ticket) -> u64
         .saturating_add(10)
 }
 
+#[tactic(auto, using(mich_term::proofs::Overlays::table_is))]
 #[cycle(kept)]
 fn kept_len(value: &Value) -> u64
     ensures { result ≡ capped (value_length (as_pairs (val value.now))) }
@@ -54,8 +55,8 @@ fn kept_len(value: &Value) -> u64
         Value::Pair(x, y) => kept_len(x.get())
             .saturating_add(kept_len(y.get()))
             .saturating_add(2),
-        Value::List(xs) => kept_list_len(xs).saturating_add(5),
-        Value::Map(entries) => kept_table_len(entries).saturating_add(5),
+        Value::List(xs) => kept_list_len(xs.get()).saturating_add(5),
+        Value::Map(entries) => kept_table_len(entries.get()).saturating_add(5),
         Value::BigMap(big) => kept_big_len(big.get()).saturating_add(5),
         Value::Ticket(ticket) => pair_len(ticket.get()),
         Value::Number(_)

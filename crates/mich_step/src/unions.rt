@@ -31,7 +31,7 @@ fn in_front(value: Value, mut list: Chain<Value>) -> Result<Chain<Value>, Memory
     Ok(list)
 }
 
-fn cons(stack: &mut Rows<Value>) -> Result<(), StepError>
+fn cons(alloc: Global, stack: &mut Rows<Value>) -> Result<(), StepError>
     requires { Fits (union_step i.cons) stack.old }
     ensures { Keeps (union_step i.cons) stack.old stack.new result }
 {
@@ -41,8 +41,8 @@ fn cons(stack: &mut Rows<Value>) -> Result<(), StepError>
     let Some(Value::List(list)) = pop(stack) else {
         unreachable!()
     };
-    let list = in_front(value, list)?;
-    push(stack, Value::List(list))?;
+    let list = in_front(value, list.into_value()?)?;
+    push(stack, Value::List(Link::new(alloc, list)?))?;
     Ok(())
 }
 
@@ -57,8 +57,8 @@ pub fn union_step(alloc: Global, row: &UnionRow, stack: &mut Rows<Value>) -> Res
         UnionRow::Right(_) => Value::Right(boxed_top(alloc, stack)?),
         UnionRow::Some => Value::Some(boxed_top(alloc, stack)?),
         UnionRow::None(_) => Value::None,
-        UnionRow::Nil(_) => Value::List(Chain::new(alloc)),
-        UnionRow::Cons => return cons(stack),
+        UnionRow::Nil(_) => Value::List(Link::new(alloc, Chain::new(alloc))?),
+        UnionRow::Cons => return cons(alloc, stack),
     };
     push(stack, value)?;
     Ok(())

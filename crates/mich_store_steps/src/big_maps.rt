@@ -1,6 +1,5 @@
 //! What instructions on big maps make of a stack, and what they weigh, where big maps lie over the bases of a store.
 mod entries;
-mod holding;
 mod rows;
 mod taking;
 mod weights;

@@ -1,15 +1,19 @@
--- A big map is seen as the entries that its overlay puts, and the tickets among them.
-use Rattle.std.proofs.Common.{◌≡◌, ℕ, Bool, List, [], ◌∷◌, ◌++◌, refl, ap, ◌∙◌}
+-- A map is seen as its entries, a big map as the entries that its overlay puts, and the tickets among them.
+use Rattle.std.proofs.Common.{◌≡◌, ℕ, Bool, List, [], ◌∷◌, ◌++◌, refl, ap, sym, ◌∙◌}
 use Rattle.std.specs.Prelude.{Option, Some, None}
-use Rattle.rules_data.specs.values.Val.{Val, Pairs, more_pairs}
+use Rattle.rules_data.specs.values.Val.{Val, Pairs, more_pairs, table}
 use Rattle.rules_data.specs.values.Tickets.{tickets, pair_tickets}
 use Rattle.mich_term.specs.View.{datum}
-use Rattle.mich_term.specs.ValueView.{value_step, big_step, val, big_pairs, put_pairs}
+use Rattle.mich_term.specs.ValueView.{value_step, big_step, val, pairs, big_pairs, put_pairs}
 use Rattle.mich_term.specs.declared.datum.Datum.{Datum}
-use Rattle.mich_term.specs.declared.value.Value.{Value}
-use Rattle.mich_term.specs.declared.value.Value.TheOpen.{BigMap-F}
+use Rattle.mich_term.specs.declared.value.Value.{Value, fold-roll-Value}
+use Rattle.mich_term.specs.declared.value.Value.TheOpen.{Value-F, BigMap-F}
+use Rattle.mich_term.specs.declared.value.Value.TheVariants.{Map, rolls-Map}
 use Rattle.mich_term.specs.declared.value.BigMap.{BigMap, out-BigMap}
 use Rattle.mich_term.specs.declared.value.Value.TheFolds.{fold_out-BigMap, map-BigMap}
+
+pub table_is : (es : List (Datum × Value)) → val (Map es) ≡ table (pairs es)
+table_is es = ap val (sym (rolls-Map es)) ∙ fold-roll-Value Val Pairs value_step big_step (Value-F.Map es)
 
 -- one level of a big map with this overlay
 abbrev opened : Bool → Option ℕ → List (Datum × Option Value) → BigMap-F Value BigMap

@@ -1,3 +1,4 @@
+pub mod Holding
 pub mod IdentityOrder
 pub mod Keyed
 pub mod Layers

@@ -4,10 +4,11 @@ ghost use Rattle.rules_data.specs.values.Tickets.{Held, tickets, all_tickets, pa
 ghost use Rattle.mich_term.specs.ValueView.{val, vals, pairs, big_pairs};
 
 use crate::chain::Chain;
+use crate::holding::carries;
 use crate::table::Table;
 use crate::ticket::Burner;
 use crate::value::{BigMap, Value};
-use mich_base::Memory;
+use mich_base::{Link, Memory};
 use std::alloc::Global;
 
 /// Discards a value: each ticket in it is burnt, parts from left to right and entries by key. After Memory the burner is given
@@ -19,12 +20,41 @@ pub fn discard<B: Burner>(alloc: Global, value: Value, burner: &mut B) -> Result
     ensures stays_ready { IfOk result (λ _. (l : List Held) → B.ready burner.old (tickets (val value) ++ l) → B.ready burner.new l) }
 {
     match value {
-        Value::Some(x) | Value::Left(x) | Value::Right(x) => {
-            discard(alloc, x.into_value()?, burner)
-        }
         Value::Pair(x, y) => {
             discard(alloc, x.into_value()?, burner)?;
             discard(alloc, y.into_value()?, burner)
+        }
+        other => discard_part(alloc, other, burner),
+    }
+}
+
+// A value that is no pair; where it carries no ticket it is only looked at.
+fn discard_part<B: Burner>(alloc: Global, value: Value, burner: &mut B) -> Result<(), Memory>
+    requires { B.ready burner.old (tickets (val value)) }
+    ensures tells { IfOk result (λ _. B.told burner.new ≡ B.told burner.old ++ tickets (val value)) }
+    ensures stays_ready { IfOk result (λ _. (l : List Held) → B.ready burner.old (tickets (val value) ++ l) → B.ready burner.new l) }
+{
+    if carries(&value) {
+        discard_parts(alloc, value, burner)
+    } else {
+        Ok(())
+    }
+}
+
+// A value of which each part is discarded.
+#[cycle(discard_parts)]
+fn discard_parts<B: Burner>(alloc: Global, value: Value, burner: &mut B) -> Result<(), Memory>
+    requires { B.ready burner.old (tickets (val value)) }
+    ensures tells { IfOk result (λ _. B.told burner.new ≡ B.told burner.old ++ tickets (val value)) }
+    ensures stays_ready { IfOk result (λ _. (l : List Held) → B.ready burner.old (tickets (val value) ++ l) → B.ready burner.new l) }
+{
+    match value {
+        Value::Some(x) | Value::Left(x) | Value::Right(x) => {
+            discard_parts(alloc, x.into_value()?, burner)
+        }
+        Value::Pair(x, y) => {
+            discard_parts(alloc, x.into_value()?, burner)?;
+            discard_parts(alloc, y.into_value()?, burner)
         }
         Value::List(xs) => discard_all(alloc, xs, burner),
         Value::Map(entries) => discard_table(alloc, entries, burner),
@@ -34,36 +64,40 @@ pub fn discard<B: Burner>(alloc: Global, value: Value, burner: &mut B) -> Result
     }
 }
 
-#[cycle(discard)]
-fn discard_all<B: Burner>(alloc: Global, values: Chain<Value>, burner: &mut B) -> Result<(), Memory>
+#[cycle(discard_parts)]
+fn discard_all<B: Burner>(
+    alloc: Global,
+    values: Link<Chain<Value>>,
+    burner: &mut B,
+) -> Result<(), Memory>
     requires { B.ready burner.old (all_tickets (vals values)) }
     ensures tells { IfOk result (λ _. B.told burner.new ≡ B.told burner.old ++ all_tickets (vals values)) }
     ensures stays_ready { IfOk result (λ _. (l : List Held) → B.ready burner.old (all_tickets (vals values) ++ l) → B.ready burner.new l) }
 {
-    for value in values.into_vec() {
-        discard(alloc, value, burner)?;
+    for value in values.into_value()?.into_vec() {
+        discard_parts(alloc, value, burner)?;
     }
     Ok(())
 }
 
-#[cycle(discard)]
+#[cycle(discard_parts)]
 fn discard_table<B: Burner>(
     alloc: Global,
-    table: Table<Value>,
+    table: Link<Table<Value>>,
     burner: &mut B,
 ) -> Result<(), Memory>
     requires { B.ready burner.old (pair_tickets (pairs table)) }
     ensures tells { IfOk result (λ _. B.told burner.new ≡ B.told burner.old ++ pair_tickets (pairs table)) }
     ensures stays_ready { IfOk result (λ _. (l : List Held) → B.ready burner.old (pair_tickets (pairs table) ++ l) → B.ready burner.new l) }
 {
-    for (_, value) in table.into_entries() {
-        discard(alloc, value, burner)?;
+    for (_, value) in table.into_value()?.into_entries() {
+        discard_parts(alloc, value, burner)?;
     }
     Ok(())
 }
 
 #[tactic(auto, using(crate::proofs::Overlays::big_is))]
-#[cycle(discard)]
+#[cycle(discard_parts)]
 fn discard_big<B: Burner>(alloc: Global, big: BigMap, burner: &mut B) -> Result<(), Memory>
     requires { B.ready burner.old (pair_tickets (big_pairs big)) }
     ensures tells { IfOk result (λ _. B.told burner.new ≡ B.told burner.old ++ pair_tickets (big_pairs big)) }
@@ -74,7 +108,7 @@ fn discard_big<B: Burner>(alloc: Global, big: BigMap, burner: &mut B) -> Result<
         let Some(value) = change else {
             continue;
         };
-        discard(alloc, value, burner)?;
+        discard_parts(alloc, value, burner)?;
     }
     Ok(())
 }

@@ -27,9 +27,9 @@ pub enum Value {
     Left(Link<Value>),
     Right(Link<Value>),
     Pair(Link<Value>, Link<Value>),
-    List(Chain<Value>),
-    Set(Elements),
-    Map(Table<Value>),
+    List(Link<Chain<Value>>),
+    Set(Link<Elements>),
+    Map(Link<Table<Value>>),
     BigMap(Link<BigMap>),
     /// A lambda: its body, and whether it is recursive.
     Lambda(Shared<Node>, bool),
@@ -51,8 +51,7 @@ pub struct BigMap {
     pub overlay: Rows<(Datum, Option<Value>)>,
 }
 
-/// An equal value, its tickets too: the one call that copies tickets. Memory where there is no room for it.
-#[cycle(shadow)]
+/// An equal value, its tickets too, in constant time: the one call that copies tickets. Memory where there is no room for it.
 pub fn shadow(alloc: Global, value: &Value) -> Result<Value, Memory>
     ensures { IfOk result (λ v. v ≡ value.now) }
 {
@@ -71,9 +70,18 @@ pub fn shadow(alloc: Global, value: &Value) -> Result<Value, Memory>
             let second = y.share()?;
             Ok(Value::Pair(first, second))
         }
-        Value::List(xs) => Ok(Value::List(shadow_all(alloc, xs)?)),
-        Value::Set(xs) => Ok(Value::Set(xs.copy(alloc)?)),
-        Value::Map(entries) => Ok(Value::Map(shadow_table(alloc, entries)?)),
+        Value::List(list) => {
+            let list = list.share()?;
+            Ok(Value::List(list))
+        }
+        Value::Set(set) => {
+            let set = set.share()?;
+            Ok(Value::Set(set))
+        }
+        Value::Map(table) => {
+            let table = table.share()?;
+            Ok(Value::Map(table))
+        }
         Value::BigMap(big) => {
             let big = big.share()?;
             Ok(Value::BigMap(big))
@@ -90,7 +98,6 @@ pub fn shadow(alloc: Global, value: &Value) -> Result<Value, Memory>
     }
 }
 
-#[cycle(shadow)]
 fn shadow_all(alloc: Global, values: &Chain<Value>) -> Result<Chain<Value>, Memory>
     ensures { IfOk result (λ vs. vs ≡ values.now) }
 {
@@ -102,7 +109,6 @@ fn shadow_all(alloc: Global, values: &Chain<Value>) -> Result<Chain<Value>, Memo
 }
 
 #[tactic(auto, using(crate::proofs::Ends::table_step))]
-#[cycle(shadow)]
 fn shadow_table(alloc: Global, table: &Table<Value>) -> Result<Table<Value>, Memory>
     ensures { IfOk result (λ t. t ≡ table.now) }
 {
@@ -137,6 +143,24 @@ fn shadow_big(alloc: Global, big: &BigMap) -> Result<BigMap, Memory>
 impl Share for Value {
     fn share(&self, alloc: Global) -> Result<Value, Memory> {
         shadow(alloc, self)
+    }
+}
+
+impl Share for Chain<Value> {
+    fn share(&self, alloc: Global) -> Result<Chain<Value>, Memory> {
+        shadow_all(alloc, self)
+    }
+}
+
+impl Share for Elements {
+    fn share(&self, alloc: Global) -> Result<Elements, Memory> {
+        self.copy(alloc)
+    }
+}
+
+impl Share for Table<Value> {
+    fn share(&self, alloc: Global) -> Result<Table<Value>, Memory> {
+        shadow_table(alloc, self)
     }
 }
 

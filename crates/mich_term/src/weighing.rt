@@ -12,6 +12,7 @@ use crate::table::Table;
 use crate::value::Value;
 
 /// What a value weighs where gas is charged for it, at most 2^64-1; takes no memory (this host's cost table).
+#[tactic(auto, using(crate::proofs::Overlays::table_is))]
 #[cycle(weight)]
 pub fn weight(value: &Value) -> u64
     ensures { result ≡ capped (whole (val value.now)) }
@@ -21,9 +22,9 @@ pub fn weight(value: &Value) -> u64
         Value::Pair(x, y) => weight(x.get())
             .saturating_add(weight(y.get()))
             .saturating_add(1),
-        Value::List(xs) => list_weight(xs).saturating_add(1),
-        Value::Set(xs) => set_weight(xs).saturating_add(1),
-        Value::Map(entries) => table_weight(entries).saturating_add(1),
+        Value::List(xs) => list_weight(xs.get()).saturating_add(1),
+        Value::Set(xs) => set_weight(xs.get()).saturating_add(1),
+        Value::Map(entries) => table_weight(entries.get()).saturating_add(1),
         _ => 1,
     }
 }

@@ -116,6 +116,7 @@ account_write h bs b w who n t =
       held = λ id owner v. t.held id owner v ∙ by_owner id owner (is_implicit owner);
       minted = t.minted;
       burnt = t.burnt;
+      listed = t.listed;
     }
   where
     by_owner : (id : Identity) (owner : List ℕ) (c : Bool)
@@ -167,6 +168,7 @@ module _ (h : Holders) (bs : Bases) (b : Books) (w : PlainWorld) (hash : List �
         held = λ id owner v. t.held id owner v ∙ by_owner id owner (is_implicit owner);
         minted = t.minted;
         burnt = t.burnt;
+        listed = t.listed;
       })
     where
       by_owner : (id : Identity) (owner : List ℕ) (c : Bool)
@@ -236,6 +238,7 @@ fee_is h bs b w who fee t s v =
       held = l.held;
       minted = l.minted;
       burnt = l.burnt;
+      listed = l.listed;
     }
 
 -- ---- whole worlds

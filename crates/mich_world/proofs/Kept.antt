@@ -1,12 +1,14 @@
 -- What is kept stands.
 use Rattle.std.specs.Prelude.{if◌then◌else◌}
-use Rattle.std.proofs.Common.{◌≡◌, ℕ, Bool, true, false, ◌||◌, ◌&&◌, List, [], ◌∷◌, map, Some, refl, sym, ap, ◌∙◌, subst}
+use Rattle.std.proofs.Common.{◌≡◌, ℕ, Bool, true, false, ◌||◌, ◌&&◌, ◌↔◌, ◌++◌, List, [], ◌∷◌, map, is_some, Some, refl, sym, ap, ◌∙◌, subst}
 use Rattle.std.specs.List.{AllByRecursion}
+use Rattle.mich_base.specs.undo.History.{History}
 use Rattle.mich_bigmap.specs.Bases.{Bases}
 use Rattle.mich_bigmap.specs.Formed.{is_there}
 use Rattle.mich_bigmap.specs.Layers.{HasBases}
 use Rattle.mich_bigmap.specs.Kept.{has, kept_of, with_over, all_of}
 use Rattle.mich_bigmap.specs.Notes.{Notes}
+use Rattle.mich_bigmap.specs.Reached.{Reached, named, over, IsReachedBase}
 use Rattle.mich_bigmap.specs.Standing.{val_in}
 use Rattle.mich_bigmap.specs.Stored.{Stored, with_kept}
 use Rattle.mich_bigmap.specs.Ticketless.{HoldNoTickets}
@@ -62,6 +64,51 @@ pub kept_ticketless : (old mid new : Stored) (ns : List ℕ) → Notes ns old mi
 kept_ticketless old mid new ns notes e h =
     let kept : new.bases.present ≡ kept_of mid.noted old.bases.present = ap (λ (s : Stored). s.bases.present) e ∙ ap (λ x. kept_of mid.noted x.present) notes.bases in
     subst HoldNoTickets (sym kept) (ticketless mid.noted old.bases.present h)
+
+-- ---- which bases are left
+
+weaker : (a b t : Bool) → (a || (b && t)) ≡ true → (a || b) ≡ true
+weaker true b t p = refl
+weaker false true t p = refl
+weaker false false t p = p
+
+stronger : (a b t : Bool) → (a || b) ≡ true → t ≡ true → (a || (b && t)) ≡ true
+stronger true b t p q = refl
+stronger false b t p q = noted false b t p q
+
+-- what is reached from some numbers is reached from others that have those of them that are there
+reached_on : (ns ms : List ℕ) (bs : Bases) → ((k : ℕ) → has k ns ≡ true → is_there bs (Some k) ≡ true → has k ms ≡ true)
+    → (k : ℕ) → is_there bs (Some k) ≡ true → Reached ns bs k → Reached ms bs k
+reached_on ns ms bs h _ there (named k n) = named k (h k n there)
+reached_on ns ms bs h _ there (over j k b below r e o t) = over j k b below (reached_on ns ms bs h j (ap is_some e) r) e o t
+
+module _ (ns : List ℕ) (old mid : Stored) (notes : Notes ns old mid) where
+  abbrev all : List ℕ
+  all = old.noted ++ ns
+
+  abbrev bases : Bases
+  bases = old.bases.present
+
+  in_use : (k : ℕ) → IsReachedBase mid.noted bases k → IsReachedBase all bases k
+  in_use k (there, r) = (
+    there,
+    reached_on mid.noted all bases
+        (λ j n t. has_append j old.noted ns ∙ weaker (has j old.noted) (has j ns) (is_there bases (Some j)) (sym (notes.noted j) ∙ n)) k there r,
+  )
+
+  noted_there : (k : ℕ) → IsReachedBase all bases k → IsReachedBase mid.noted bases k
+  noted_there k (there, r) = (
+    there,
+    reached_on all mid.noted bases
+        (λ j n t. notes.noted j ∙ stronger (has j old.noted) (has j ns) (is_there bases (Some j)) (sym (has_append j old.noted ns) ∙ n) t) k there r,
+  )
+
+  pub left_in_use : (new : Stored) → ((k : ℕ) → (is_there new.bases.present (Some k) ≡ true) ↔ IsReachedBase mid.noted mid.bases.present k)
+      → (k : ℕ) → (is_there new.bases.present (Some k) ≡ true) ↔ IsReachedBase all bases k
+  left_in_use new h k = (
+    λ there. in_use k (subst (λ (x : History Bases). IsReachedBase mid.noted x.present k) notes.bases ((h k).0 there)),
+    λ reached. (h k).1 (subst (λ (x : History Bases). IsReachedBase mid.noted x.present k) (sym notes.bases) (noted_there k reached)),
+  )
 
 -- ---- where the store is as it was
 

@@ -2,6 +2,7 @@ pub mod Answers
 pub mod Before
 pub mod Holders
 pub mod Journal
+pub mod Kept
 pub mod Laws
 pub mod Lending
 pub mod Marks

@@ -1,10 +1,11 @@
 // The end of all marks.
-ghost use Rattle.std.specs.Prelude.{◌≡◌, [], map};
+ghost use Rattle.std.specs.Prelude.{◌≡◌, ◌↔◌, [], IsTrue, map};
 ghost use Rattle.std.specs.List.{AllByRecursion};
 ghost use Rattle.mich_bigmap.specs.Kept.{all_of};
 ghost use Rattle.mich_bigmap.specs.Notes.{Notes};
 ghost use Rattle.mich_bigmap.specs.Ticketless.{HoldNoTickets};
 ghost use Rattle.mich_base.specs.undo.History.{kept};
+ghost use Rattle.mich_world.specs.Kept.{IsDue, KeepsInUse};
 ghost use Rattle.mich_world.specs.Storages.{Stands, AreStored, named_in};
 
 use crate::maps::Contracts;
@@ -35,6 +36,7 @@ impl World {
         ensures books { self.new.ledger.books ≡ kept self.old.ledger.books }
         ensures changes { self.new.ledger.changes ≡ self.old.ledger.changes }
         ensures bases { self.new.store.bases.past ≡ [] }
+        ensures in_use { KeepsInUse self.old self.new }
         ensures noted { self.new.store.noted ≡ [] }
         ensures stands { AllByRecursion (Stands self.old.store.bases.present self.new.store.bases.present) self.old.funds.present.contracts }
         ensures stored { AreStored self.old → AreStored self.new }
@@ -47,7 +49,9 @@ impl World {
     }
 
     // Whether more bases were added since storages were last looked through than there are contracts, and some.
-    fn is_due(&self) -> bool {
+    fn is_due(&self) -> bool
+        ensures { IsTrue result ↔ IsDue self.now }
+    {
         let contracts = self.funds.contracts().len() as u64;
         self.store.height() > contracts.saturating_add(MOST_ADDED)
     }
@@ -62,6 +66,8 @@ impl World {
         ensures funds { self.new.funds ≡ kept self.old.funds }
         ensures books { self.new.ledger.books ≡ kept self.old.ledger.books }
         ensures changes { self.new.ledger.changes ≡ self.old.ledger.changes }
+        ensures due { IsDue self.old → KeepsInUse self.old self.new }
+        ensures early { (IsDue self.old → ⊥) → self.new.store ≡ self.old.store }
         ensures stands { AllByRecursion (Stands self.old.store.bases.present self.new.store.bases.present) self.old.funds.present.contracts }
         ensures stored { AreStored self.old → AreStored self.new }
         ensures ticketless { HoldNoTickets self.old.store.bases.present → HoldNoTickets self.new.store.bases.present }

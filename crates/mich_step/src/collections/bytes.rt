@@ -6,7 +6,7 @@ ghost use Rattle.mich_stack.specs.Views.{Sight, seen};
 ghost use Rattle.mich_step.specs.collections.Seen.{vals_by};
 ghost use Rattle.mich_step.specs.collections.Sizes.{IsWithinSize};
 
-use mich_base::{BYTE_LIMIT, Memory};
+use mich_base::{BYTE_LIMIT, Link, Memory};
 use mich_term::{Chain, Value, split_head};
 use std::alloc::Global;
 
@@ -35,11 +35,11 @@ pub fn bytes_of(value: &Value) -> &[u8]
 }
 
 // The bytes of the elements of a list, one behind the other. None where they are over the limit.
-pub(crate) fn join_all(alloc: Global, list: &Chain<Value>) -> Result<Option<Vec<u8>>, Memory>
+pub(crate) fn join_all(alloc: Global, list: &Link<Chain<Value>>) -> Result<Option<Vec<u8>>, Memory>
     ensures { IfOk result (λ o. (big : Sight) → IsWithinSize (joined (vals_by big list.now)) (option_map (λ v. v.items) o)) }
 {
     let mut bytes = Vec::new(alloc);
-    let mut left = list.as_reversed_slice();
+    let mut left = list.get().as_reversed_slice();
     while let Some((value, rest)) = split_head(left) {
         let more = bytes_of(value);
         if bytes.len() + more.len() > BYTE_LIMIT {

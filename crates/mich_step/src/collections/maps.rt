@@ -10,9 +10,9 @@ ghost use Rattle.mich_stack.specs.Given.{Gives};
 ghost use Rattle.mich_stack.specs.Keys.{IsKeyOnTop};
 ghost use Rattle.mich_step.specs.collections.Shapes.{IsOptionOnTop, IsMapOnTop, IsExchange};
 
-use crate::collections::tables::{has_key, list_size, map_size, map_with, take_out};
+use crate::collections::tables::{copy_at, has_key, list_size, map_size, map_with};
 use crate::collections::taking::{list_value, map_value, take_list, take_map, truth_value};
-use mich_base::{Memory, Rows, Ty};
+use mich_base::{Link, Memory, Rows, Ty};
 use mich_stack::{StepError, optional_value, pop, push, take_key};
 use mich_term::{Table, Value};
 use std::alloc::Global;
@@ -28,7 +28,7 @@ pub(crate) fn empty_map(
 {
     let _key = key;
     let _value = value;
-    push(stack, Value::Map(Table::new(alloc)))?;
+    push(stack, Value::Map(Link::new(alloc, Table::new(alloc))?))?;
     Ok(())
 }
 
@@ -72,9 +72,10 @@ pub(crate) fn get_map(alloc: Global, stack: &mut Rows<Value>) -> Result<(), Step
 {
     let key = take_key(alloc, stack)?;
     let table = take_map(stack);
-    let found = take_out(table, &key);
+    let value = copy_at(alloc, &table, &key)?;
+    drop(table);
     drop(key);
-    let found = optional_value(alloc, found)?;
+    let found = optional_value(alloc, value)?;
     push(stack, found)?;
     Ok(())
 }
@@ -100,7 +101,7 @@ fn exchange(alloc: Global, stack: &mut Rows<Value>) -> Result<Option<Value>, Mem
     let key = take_key(alloc, stack)?;
     let new = take_option(stack)?;
     let table = take_map(stack);
-    let (table, old) = map_with(table, key, new)?;
+    let (table, old) = map_with(alloc, table, key, new)?;
     push(stack, map_value(table))?;
     Ok(old)
 }

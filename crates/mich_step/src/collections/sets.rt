@@ -13,7 +13,7 @@ ghost use Rattle.mich_stack.specs.Keys.{IsKeyOnTop};
 
 use crate::collections::counting::count_value;
 use crate::collections::taking::{take_set, truth_value};
-use mich_base::{Memory, Rows, Ty};
+use mich_base::{Link, Memory, Rows, Ty};
 use mich_stack::{StepError, pop, push, take_key};
 use mich_term::{Datum, Elements, Value};
 use std::alloc::Global;
@@ -23,25 +23,25 @@ pub(crate) fn empty_set(alloc: Global, ty: &Ty, stack: &mut Rows<Value>) -> Resu
     ensures { Keeps (collection_step (i.empty_set (kind ty.now))) stack.old stack.new result }
 {
     let _element = ty;
-    push(stack, Value::Set(Elements::new(alloc)))?;
+    push(stack, Value::Set(Link::new(alloc, Elements::new(alloc))?))?;
     Ok(())
 }
 
 // How many elements a set has.
 #[tactic(auto, using(crate::proofs::collections_lemmas::Members::count_is))]
-fn set_size(set: &Elements) -> Value
+fn set_size(set: &Link<Elements>) -> Value
     ensures fits { int_or_limit (pos (element_count (datums set.now))) ≡ Ok (pos (element_count (datums set.now))) }
     ensures value { (big : Sight) → seen big result ≡ number (pos (element_count (datums set.now))) }
 {
-    count_value(set.len())
+    count_value(set.get().len())
 }
 
 // Whether a set has an element.
 #[tactic(auto, using(crate::proofs::collections_lemmas::Members::has_is))]
-fn has(set: &Elements, element: &Datum) -> bool
+fn has(set: &Link<Elements>, element: &Datum) -> bool
     ensures { result ≡ has_element (datum element.now) (datums set.now) }
 {
-    set.contains(element)
+    set.get().contains(element)
 }
 
 pub(crate) fn size_set(stack: &mut Rows<Value>) -> Result<(), StepError>
@@ -71,16 +71,21 @@ pub(crate) fn mem_set(alloc: Global, stack: &mut Rows<Value>) -> Result<(), Step
 
 // A set with an element, or without it.
 #[tactic(auto, using(crate::proofs::collections_lemmas::Members::put_is, crate::proofs::collections_lemmas::Members::taken_is))]
-fn set_with(set: Elements, element: Datum, present: bool) -> Result<Elements, Memory>
+fn set_with(
+    alloc: Global,
+    set: Link<Elements>,
+    element: Datum,
+    present: bool,
+) -> Result<Link<Elements>, Memory>
     ensures { IfOk result (λ s. datums s ≡ set_with present (datum element) (datums set)) }
 {
-    let mut set = set;
+    let mut set = set.into_value()?;
     if present {
         set.insert(element)?;
     } else {
         set.remove(&element);
     }
-    Ok(set)
+    Link::new(alloc, set)
 }
 
 pub(crate) fn update_set(alloc: Global, stack: &mut Rows<Value>) -> Result<(), StepError>
@@ -93,7 +98,7 @@ pub(crate) fn update_set(alloc: Global, stack: &mut Rows<Value>) -> Result<(), S
         unreachable!()
     };
     let set = take_set(stack);
-    let set = set_with(set, element, present)?;
+    let set = set_with(alloc, set, element, present)?;
     push(stack, Value::Set(set))?;
     Ok(())
 }

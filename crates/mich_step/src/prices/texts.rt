@@ -12,7 +12,7 @@ ghost use Rattle.mich_stack.specs.Views.{Sight, values};
 ghost use Rattle.mich_step.specs.prices.Operands.{HasText};
 
 use crate::collections::{bytes_of, cut};
-use mich_base::Rows;
+use mich_base::{Link, Rows};
 use mich_overload::TextRow;
 use mich_stack::{split_top, three_on_top, two_on_top};
 use mich_term::{Chain, Value, split_head};
@@ -44,11 +44,11 @@ fn bytes_weight(stack: &Rows<Value>) -> u64
 }
 
 // Those of all strings or bytes of a list, and the number of them.
-fn list_weight(list: &Chain<Value>) -> u64
+fn list_weight(list: &Link<Chain<Value>>) -> u64
     ensures { (big : Sight) → result ≡ capped (length (joined (vals_by big list.now)) + element_count (vals_by big list.now)) }
 {
     let mut total: u64 = 0;
-    let mut left = list.as_reversed_slice();
+    let mut left = list.get().as_reversed_slice();
     while let Some((value, rest)) = split_head(left) {
         total = total
             .saturating_add(bytes_of(value).len() as u64)

@@ -23,7 +23,6 @@ use Rattle.mich_term.specs.declared.value.Value.{Value}
 use Rattle.mich_bigmap.specs.Bases.{Changes}
 use Rattle.mich_bigmap.proofs.ForCallers.{by_lawful}
 use Rattle.mich_store_steps.specs.seen.Sights.{is_plain, entries_plain}
-use Rattle.mich_store_steps.specs.big_maps.Operands.{holds, any_holds, any_entry_holds}
 
 pub some_mapped : {A B : Type 0} (f : A → B) (o : Option A) → is_some (option_map f o) ≡ is_some o
 some_mapped f (Some x) = refl
@@ -84,42 +83,9 @@ nothing_of : (xs ys : List Held) → xs ++ ys ≡ [] → (xs ≡ []) × (ys ≡ 
 nothing_of [] ys h = (refl, h)
 nothing_of (x ∷ xs) ys h = cc
 
-both_nothing : (xs ys : List Held) → xs ≡ [] → ys ≡ [] → xs ++ ys ≡ []
-both_nothing xs ys h k = (λ i. h i ++ k i)
-
 pub ticketless_all : (ps : Pairs) → pair_tickets ps ≡ [] → AllValues Ticketless ps
 ticketless_all no_pair h = tt
 ticketless_all (more_pairs k v ps) h = let q = nothing_of (tickets v) (pair_tickets ps) h in (q.0, ticketless_all ps q.1)
-
--- ---- a value that holds neither
-
-pub or_next : (b c d : Bool) → ((b || c) || d) ≡ (b || (c || d))
-or_next true c d = refl
-or_next false c d = refl
-
-or_parts : (b c : Bool) → (b || c) ≡ false → (b ≡ false) × (c ≡ false)
-or_parts false c h = (refl, h)
-or_parts true c h = absurd cc
-
-mutual
-  pub holds_none : (x : Val) → holds x ≡ false → tickets x ≡ []
-  holds_none (some x) h = holds_none x h
-  holds_none (left x) h = holds_none x h
-  holds_none (right x) h = holds_none x h
-  holds_none (both x y) h = let q = or_parts (holds x) (holds y) h in both_nothing (tickets x) (tickets y) (holds_none x q.0) (holds_none y q.1)
-  holds_none (list xs) h = none_of_list xs h
-  holds_none (table ps) h = none_of_entries ps h
-  holds_none (big_table ps) h = absurd cc
-  holds_none (ticket issuer kind content amount) h = absurd cc
-  holds_none _ h = refl
-
-  none_of_list : (xs : Vals) → any_holds xs ≡ false → all_tickets xs ≡ []
-  none_of_list no_val h = refl
-  none_of_list (more_vals x xs) h = let q = or_parts (holds x) (any_holds xs) h in both_nothing (tickets x) (all_tickets xs) (holds_none x q.0) (none_of_list xs q.1)
-
-  none_of_entries : (ps : Pairs) → any_entry_holds ps ≡ false → pair_tickets ps ≡ []
-  none_of_entries no_pair h = refl
-  none_of_entries (more_pairs k x ps) h = let q = or_parts (holds x) (any_entry_holds ps) h in both_nothing (tickets x) (pair_tickets ps) (holds_none x q.0) (none_of_entries ps q.1)
 
 -- ---- changes by increasing keys
 

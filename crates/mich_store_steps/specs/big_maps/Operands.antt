@@ -50,25 +50,3 @@ HasKey i.get_big_map V = IsKeyOnTop V
 HasKey i.update_big_map V = IsKeyOnTop V
 HasKey i.get_and_update_big_map V = IsKeyOnTop V
 HasKey row V = Unit {0}
-
-abbrev mutual
-  -- whether a ticket or a big map is in a value
-  pub holds : Val → Bool
-  holds (some v) = holds v
-  holds (left v) = holds v
-  holds (right v) = holds v
-  holds (both v w) = holds v || holds w
-  holds (list vs) = any_holds vs
-  holds (table ps) = any_entry_holds ps
-  holds (big_table ps) = true
-  holds (ticket issuer kind content amount) = true
-  holds _ = false
-
-  pub any_holds : Vals → Bool
-  any_holds no_val = false
-  any_holds (more_vals v vs) = holds v || any_holds vs
-
-  -- keys hold none
-  pub any_entry_holds : Pairs → Bool
-  any_entry_holds no_pair = false
-  any_entry_holds (more_pairs k v ps) = holds v || any_entry_holds ps

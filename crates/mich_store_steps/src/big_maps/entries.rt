@@ -11,12 +11,11 @@ ghost use Rattle.mich_term.specs.declared.value.Value.{Value};
 ghost use Rattle.mich_term.specs.declared.value.BigMap.{out-BigMap};
 ghost use Rattle.mich_store_steps.specs.seen.Sights.{is_plain, sight};
 ghost use Rattle.mich_store_steps.specs.big_maps.Given.{entries_changed, entries_seen, entries_with, seen_in};
-ghost use Rattle.mich_store_steps.specs.big_maps.Operands.{AreEntries, holds};
+ghost use Rattle.mich_store_steps.specs.big_maps.Operands.{AreEntries};
 
-use crate::big_maps::holding::holds;
 use mich_base::{Memory, Rows, Ty};
 use mich_bigmap::{Store, erase, get, unshared, write};
-use mich_term::{BigMap, Datum, Value};
+use mich_term::{BigMap, Datum, Value, holds};
 use mich_types::duplicable;
 use std::alloc::Global;
 

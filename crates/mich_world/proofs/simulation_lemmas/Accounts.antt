@@ -124,6 +124,7 @@ account_those h bs b c w who a more k t i there balance amounts m = record {
   held = λ id o p. m.held id o ∙ by id o p (bytes_eq o (implicit_place who)) refl ∙ sym (account_holds w who a id o p);
   minted = λ id. ap (λ (x : Totals). x.minted) (m.totals id) ∙ t.minted id;
   burnt = λ id. ap (λ (x : Totals). x.burnt) (m.totals id) ∙ t.burnt id;
+  listed = m.listed ∙ t.listed;
 }
   where
     place_is : is_place (implicit_place who) ≡ true
@@ -197,6 +198,7 @@ balance_those h k bs b w who n key t ea ec ef eb eg er =
       held = λ id o p. t.held id o p ∙ by id o p (bytes_eq o (implicit_place who)) refl ∙ sym (account_holds w who a id o p);
       minted = t.minted;
       burnt = t.burnt;
+      listed = t.listed;
     }
   where
     by : (id : Identity) (o : List ℕ) → is_place o ≡ true → (s : Bool) → bytes_eq o (implicit_place who) ≡ s

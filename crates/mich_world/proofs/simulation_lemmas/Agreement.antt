@@ -50,6 +50,7 @@ use Rattle.mich_world.specs.simulation.Laws.{NewWorldsAgree, ClocksAgree, RatesA
 use Rattle.mich_world.proofs.simulation_lemmas.Accounts.{keys_seen, account_is, account_held, credit_those, debit_those, balance_those, holder_there}
 use Rattle.mich_world.proofs.simulation_lemmas.Contracts.{contract_is, later, standing, balance_same, nobody, length_is, amounts, before_held, storage_held, contract_those, made_held, replaced_held, made_contracts, replaced_contracts}
 use Rattle.laws_data.proofs.forms_lemmas.ForCallers.{contract_is as contract_place_is, implicit_is}
+use Rattle.mich_world.proofs.simulation_lemmas.Runs.{listed_more}
 use Rattle.mich_world.proofs.simulation_lemmas.Owners.{place_length, implicit_of, hash_of}
 
 -- ---- new worlds and the clock
@@ -69,6 +70,7 @@ new_worlds_agree chain level moment = record {
     held = λ id o p. by id o (is_implicit o);
     minted = λ id. refl;
     burnt = λ id. refl;
+    listed = refl;
   };
 }
   where
@@ -93,6 +95,7 @@ clocks_agree v w level moment s = record {
     held = s.those.held;
     minted = s.those.minted;
     burnt = s.those.burnt;
+    listed = s.those.listed;
   };
 }
 
@@ -132,6 +135,7 @@ endowed_those h bs b w who n key t =
       held = a.held;
       minted = a.minted;
       burnt = a.burnt;
+      listed = a.listed;
     }
 
 above : (a b : ℕ) → b < a → nat_le a b ≡ false
@@ -256,7 +260,7 @@ installs_agree u v w from hash mutez script given s i stored ticketless is there
     (ap (λ (y : Val). record { balance = mutez; paid = 0; script = script_node script; storage = y }) installs.settles.same))
     (λ id o p. made_held b v.ledger.books.present x hash (tickets (val given)) storage twenty none
     (λ j. less.held j (contract_place hash) (contract_place_is hash twenty)) (λ j. amounts bs given j ticketless formed) installs.enters id o)
-    installs.enters.totals))
+    installs.enters.totals installs.enters.listed))
 
 pub commits_agree : CommitsAgree
 commits_agree u v w hash given before s i stored ticketless there formed commits =
@@ -285,7 +289,7 @@ commits_agree u v w hash given before s i stored ticketless there formed commits
     (λ id o p. replaced_held b c w hash (stored_tickets (contract_at h hash)) (tickets (val given)) before storage twenty there
     (λ j. t.held j (contract_place hash) (contract_place_is hash twenty)) (λ j. before_held h bs b w hash before j t stored ticketless there)
     (λ j. amounts bs given j ticketless formed) commits.replaces id o)
-    (λ id. commits.replaces.entered.totals id ∙ commits.replaces.left.totals id)))
+    (λ id. commits.replaces.entered.totals id ∙ commits.replaces.left.totals id) (commits.replaces.entered.listed ∙ commits.replaces.left.listed)))
 
 -- ---- runs
 
@@ -307,6 +311,7 @@ runs_agree u v w changes s stored r =
             held = λ id o p. r.adds.held id o ∙ t.held id o p;
             minted = λ id. r.adds.minted id ∙ ap (λ (z : ℤ). z +ℤ minted_in id changes) (t.minted id) ∙ sym (minted_append id w.log changes);
             burnt = λ id. r.adds.burnt id ∙ ap (λ (z : ℤ). z +ℤ burnt_in id changes) (t.burnt id) ∙ sym (burnt_append id w.log changes);
+            listed = r.adds.listed ∙ listed_more u.ledger.books.present w changes t.minted t.listed;
           });
     }
 
@@ -400,6 +405,7 @@ keeping_agrees u v w s stored c l m f b stand =
             held = t.held;
             minted = t.minted;
             burnt = t.burnt;
+            listed = t.listed;
           }));
     }
 
@@ -435,6 +441,7 @@ rates_agree u v w rate s e p =
       held = t.held;
       minted = t.minted;
       burnt = t.burnt;
+      listed = t.listed;
     })
 
 abbrev resized : ℕ → PlainContract → PlainContract
@@ -465,7 +472,7 @@ module _ (k : Holders) (bs : Bases) (b : Books) (x : PlainWorld) (hash : List �
   paid_those : AreThose (with_change (repaid size) k hash) bs b (with_contract x hash (resized size (plain bs c)))
   paid_those =
       contract_those k (with_change (repaid size) k hash) bs bs b b x hash (resized size (plain bs c)) twenty t refl refl refl refl refl
-      resized_contracts (λ id o p. resized_held id o (bytes_eq o (contract_place hash)) refl) (λ id. refl)
+      resized_contracts (λ id o p. resized_held id o (bytes_eq o (contract_place hash)) refl) (λ id. refl) refl
 
 all_of_it : (n m : ℕ) → n ≤ m → n + (m - n) ≡ m
 all_of_it n m h = omega (arith, h)
@@ -495,6 +502,7 @@ payments_agree u v w hash who size burn c s i key there le e p =
       held = less.held;
       minted = less.minted;
       burnt = less.burnt;
+      listed = less.listed;
     } in
     let twenty = length_is w hash (plain bs c) i (contract_is h bs b w hash t ∙ ap (option_map (plain bs)) there) in
     let found : plain_contract_at x hash ≡ Some (plain bs c) = contract_is (burnt h who burn) bs b x hash burnt_those ∙ ap (option_map (plain bs)) there in

@@ -32,6 +32,7 @@ use Rattle.mich_term.specs.ValueView.{val}
 use Rattle.mich_term.specs.declared.value.Value.{Value}
 use Rattle.mich_tickets.specs.Books.{Books}
 use Rattle.mich_tickets.specs.Carrying.{Enters}
+use Rattle.mich_tickets.specs.Effects.{listed_in}
 use Rattle.mich_tickets.specs.Sums.{held_of, totals_of}
 use Rattle.mich_tickets.specs.declared.totals.Totals.{Totals}
 use Rattle.mich_base.specs.undo.Undone.{changed_at}
@@ -153,9 +154,9 @@ pub contract_those : (h k : Holders) (bs ns : Bases) (b c : Books) (w : PlainWor
     → k.accounts ≡ h.accounts → k.fees ≡ h.fees → k.storage_burn ≡ h.storage_burn → k.granted ≡ h.granted → k.rate ≡ h.rate
     → (with_plain_contract w hash d).contracts ≡ map (contract_in ns) k.contracts
     → ((id : Identity) (o : List ℕ) → is_place o ≡ true → held_of c id o ≡ (if bytes_eq o (contract_place hash) then amount_in id d.storage else held_of b id o))
-    → ((id : Identity) → totals_of c id ≡ totals_of b id)
+    → ((id : Identity) → totals_of c id ≡ totals_of b id) → listed_in c ≡ listed_in b
     → AreThose k ns c (with_plain_contract w hash d)
-contract_those h k bs ns b c w hash d twenty t ea ef eb eg er ec eh et = record {
+contract_those h k bs ns b c w hash d twenty t ea ef eb eg er ec eh et el = record {
   accounts = t.accounts ∙ sym ea;
   contracts = ec;
   fees = t.fees ∙ sym ef;
@@ -167,6 +168,7 @@ contract_those h k bs ns b c w hash d twenty t ea ef eb eg er ec eh et = record 
       ∙ sym (contract_holds w hash d twenty id o p);
   minted = λ id. ap (λ (x : Totals). x.minted) (et id) ∙ t.minted id;
   burnt = λ id. ap (λ (x : Totals). x.burnt) (et id) ∙ t.burnt id;
+  listed = el ∙ t.listed;
 }
 
 -- made, where none was

@@ -5,11 +5,14 @@ use Rattle.std.proofs.lemmas.Int.{ints}
 use Rattle.std.specs.Ordering.{int_eq}
 use Rattle.rules_code.specs.steps.Changes.{Change, minted, burnt, identity_of, amount_of, minted_in, burnt_in}
 use Rattle.rules_data.specs.values.Tickets.{Identity}
+use Rattle.rules_world.specs.world.Holdings.{minted_ever}
+use Rattle.rules_world.specs.world.World.{World as PlainWorld}
 use Rattle.laws_world.proofs.accounts.ForCallers.{minted_append, burnt_append}
 use Rattle.mich_bigmap.proofs.ForCallers.{extends_same, extends_trans}
 use Rattle.mich_tickets.specs.Books.{Books}
 use Rattle.mich_tickets.specs.Effects.{Adds, listed_after, listed_in}
 use Rattle.mich_tickets.specs.Sums.{minted_of, burnt_of}
+use Rattle.mich_world.specs.Standing.{listed_ever}
 use Rattle.mich_world.specs.simulation.Laws.{RunsBegin, RunsGoOn, LedgersRun, StoresRun}
 
 -- ---- changes that are added
@@ -32,6 +35,16 @@ listed_twice before ids (minted t ∷ cs) ds =
     let now = if int_eq (before (identity_of t)) (pos 0) then ids ++ identity_of t ∷ [] else ids in
     listed_twice (λ j. before j +ℤ amount_of j t) now cs ds
     ∙ (λ i. listed_after (λ j. regroup (before j) (amount_of j t) (minted_in j cs) i) (listed_after (λ j. before j +ℤ amount_of j t) now cs) ds)
+
+none_before : (a n : ℤ) → a ≡ n → a ≡ pos 0 +ℤ n
+none_before a n e = omega (arith, ints, e)
+
+-- those of books that are a world's, where the world's log grows
+pub listed_more : (b : Books) (w : PlainWorld) (changes : List Change) → ((id : Identity) → minted_of b id ≡ minted_ever w id) → listed_in b ≡ listed_ever w
+    → listed_after (minted_of b) (listed_in b) changes ≡ listed_ever (record w { log = w.log ++ changes })
+listed_more b w changes made lists =
+    (λ i. listed_after (λ j. none_before (minted_of b j) (minted_ever w j) (made j) i) (lists i) changes)
+    ∙ sym (listed_twice (λ id. pos 0) [] w.log changes)
 
 summed : (a b c m n k : ℤ) → c ≡ b +ℤ n → b ≡ a +ℤ m → k ≡ m +ℤ n → c ≡ a +ℤ k
 summed a b c m n k e f g = omega (arith, ints, e, f, g)

@@ -1,7 +1,7 @@
 // What no clause says: that the calls answer with ample memory.
 
 use crate::support::Recorder;
-use mich_base::{Memory, Rows, Text};
+use mich_base::{Link, Memory, Rows, Text};
 use mich_overload::{CollectionRow, TextRow};
 use mich_stack::{StepError, three_on_top, two_on_top};
 use mich_step::collections::{collection_step, text_step};
@@ -43,7 +43,7 @@ fn concat(alloc: Global, stack: &mut Rows<Value>) -> Result<(), StepError> {
 // A set with 7 alone.
 fn with_7(alloc: Global) -> Result<Rows<Value>, StepError> {
     let mut stack = Rows::new(alloc);
-    stack.push(Value::Set(Elements::new(alloc)))?;
+    stack.push(Value::Set(Link::new(alloc, Elements::new(alloc))?))?;
     stack.push(Value::Bool(true))?;
     stack.push(Value::Number(7))?;
     update_set(alloc, &mut stack)?;

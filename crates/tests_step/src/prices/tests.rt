@@ -1,5 +1,5 @@
 // What no clause says: that the calls answer with ample memory. Weights are worked out by hand from the cost table.
-use mich_base::{Memory, Rows, Text};
+use mich_base::{Link, Memory, Rows, Text};
 use mich_overload::{CollectionRow, Simple, StackRow, TextRow};
 use mich_stack::{three_on_top, two_on_top};
 use mich_step::prices::weigh;
@@ -54,7 +54,7 @@ fn list(alloc: Global, first: &str, second: &str) -> Result<Value, Memory> {
     let mut parts = Rows::new(alloc);
     parts.push(text(alloc, first)?)?;
     parts.push(text(alloc, second)?)?;
-    Ok(Value::List(Chain::from_rows(parts)))
+    Ok(Value::List(Link::new(alloc, Chain::from_rows(parts))?))
 }
 
 // A map from 7 to a list of two strings.
@@ -62,7 +62,7 @@ fn map(alloc: Global) -> Result<Value, Memory> {
     let mut table = Table::new(alloc);
     let old = table.insert(Datum::Number(7), list(alloc, "ab", "c")?)?;
     drop(old);
-    Ok(Value::Map(table))
+    Ok(Value::Map(Link::new(alloc, table)?))
 }
 
 // What GET weighs, where a number and a map stand.

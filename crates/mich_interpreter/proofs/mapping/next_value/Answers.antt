@@ -18,4 +18,4 @@ returns-in_ok-open_value-in-Some-clause-acts c = λ x fs d Z o h.
 
 pub returns-in_ok-push-in-None-clause-acts : goal.returns-in_ok-push-in-None-clause-acts
 returns-in_ok-push-in-None-clause-acts c = λ x fs d Z o h.
-    rw (c.in_ok-push-in-None.ensures x.sight, c.from_rows.ensures) (list_ends x.sight c.args.work c.in-None.ensures.0 h)
+    rw (c.in_ok-push-in-None.ensures x.sight, c.in_ok-made-in-None.ensures, c.from_rows.ensures) (list_ends x.sight c.args.work c.in-None.ensures.0 h)

@@ -1,6 +1,6 @@
 -- `Chain` as a type that may hold the type that holds it. Its value is the list of its elements, of which its vector has the head last.
 use Rattle.std.specs.Prelude.{◌≡◌, ℕ, ◌<◌, ◌-◌, List, [], ◌∷◌, map, length, reverse, refl}
-use Rattle.std.proofs.Common.{arith, get_or}
+use Rattle.std.proofs.Common.{arith}
 use Rattle.std.proofs.lemmas.List.{length-reverse, reverse-reverse, get_or-reverse}
 use mathlib.Core.List.{reverse_aux}
 use mathlib.Core.Path.{sym, ap, ◌∙◌, subst}

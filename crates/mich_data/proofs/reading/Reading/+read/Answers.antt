@@ -6,7 +6,7 @@ use Rattle.rules_data.specs.values.Literals.{good, mapped, with_pending, read, r
 use Rattle.mich_base.specs.TypeView.{kind}
 use Rattle.mich_base.specs.View.{tree, trees}
 use Rattle.mich_data.specs.View.{all_pending}
-use Rattle.mich_term.specs.View.{datum}
+use Rattle.mich_term.specs.View.{datum, datums}
 use Rattle.mich_data.specs.Answers.{IsFault, told}
 use Rattle.mich_data.specs.Wrapped.{wrapped}
 use Rattle.mich_data.proofs.Places.{sizes_at, sizes_end}
@@ -17,6 +17,7 @@ use Rattle.mich_data.proofs.Combs.{two_good, two_last_fault, more_first_fault, m
 use Rattle.mich_data.proofs.Typed.{val_list, val_set, kind_pair, kind_list, kind_set, kind_map, kind_big_map}
 use Rattle.mich_data.proofs.Steps.{mapped_good, at_kind, rest_at_kind}
 use Rattle.mich_term.specs.ValueView.{vals}
+use Rattle.mich_term.specs.declared.datum.Datum.{Datum}
 use Rattle.mich_term.specs.declared.value.Value.{Value}
 use Rattle.std.specs.List.{AllByRecursion}
 use Rattle.mich_data.specs.Whole.{IsWhole}
@@ -68,7 +69,7 @@ read_elements-loop-node-preserved t c = (
 
 pub read_elements-returns-clause-found : goal.read_elements-returns-clause-found
 read_elements-returns-clause-found t c = (
-  elements_done _ _ c.loop-node-test.false _ _ _ _ _ _ c.loop-node.invariant.0 ∙ ap (λ x. good x (all_pending c.loop-node.self.pending)) (sym (val_list c.from_rows.result ∙ ap (λ (vs : List Value). list (vals vs)) c.from_rows.ensures)),
+  elements_done _ _ c.loop-node-test.false _ _ _ _ _ _ c.loop-node.invariant.0 ∙ ap (λ x. good x (all_pending c.loop-node.self.pending)) (sym (val_list c.in_ok-new.field-0 ∙ ap (λ (vs : List Value). list (vals vs)) (c.in_ok-new.ensures ∙ c.from_rows.ensures))),
   sizes_end _ _ _ _ c.loop-node-test.false c.loop-node.invariant.1,
 )
 
@@ -93,7 +94,7 @@ read_increasing-loop-node-preserved t c = (
 
 pub read_increasing-returns-clause-found : goal.read_increasing-returns-clause-found
 read_increasing-returns-clause-found t c = (
-  set_done _ _ c.loop-node-test.false _ _ _ _ _ _ c.loop-node.invariant.0 ∙ ap (λ x. good x (all_pending c.loop-node.self.pending)) (sym (val_set c.loop-node.elements)),
+  set_done _ _ c.loop-node-test.false _ _ _ _ _ _ c.loop-node.invariant.0 ∙ ap (λ x. good x (all_pending c.loop-node.self.pending)) (sym (val_set c.in_ok-new.field-0 ∙ ap (λ (ds : List Datum). set (datums ds)) c.in_ok-new.ensures)),
   sizes_end _ _ _ _ c.loop-node-test.false c.loop-node.invariant.1,
 )
 
@@ -191,7 +192,8 @@ read_rest-returns-in-Pair-clause-whole t c =
 
 pub read_elements-returns-clause-whole : goal.read_elements-returns-clause-whole
 read_elements-returns-clause-whole t c =
-    list_whole (kind c.args.part.now) c.from_rows.result (subst (AllByRecursion (IsWhole (kind c.args.part.now))) (sym c.from_rows.ensures) c.loop-node.invariant.2)
+    list_whole (kind c.args.part.now) c.in_ok-new.field-0
+    (subst (AllByRecursion (IsWhole (kind c.args.part.now))) (sym (c.in_ok-new.ensures ∙ c.from_rows.ensures)) c.loop-node.invariant.2)
 
 pub read_argument-returns-clause-found : goal.read_argument-returns-clause-found
 read_argument-returns-clause-found t c = (

@@ -1,6 +1,6 @@
 use Rattle.std.proofs.Common.{sym, ◌∙◌}
 use Rattle.mich_term.specs.ValueView.{val}
-use Rattle.mich_store_steps.proofs.big_maps_lemmas.Values.{holds_none}
+use Rattle.mich_term.proofs.ForCallers.{holds_none}
 use Rattle.mich_store_steps.proofs.big_maps.entries.is_barred.Goals as goal
 
 pub returns-then-big : goal.returns-then-big

@@ -6,7 +6,7 @@ use Rattle.mich_bigmap.specs.Notes.{Notes}
 use Rattle.mich_world.specs.Holders.{Holders}
 use Rattle.mich_world.specs.Storages.{named_in, IsStored}
 use Rattle.mich_world.specs.declared.contract.Contract.{Contract}
-use Rattle.mich_world.proofs.Kept.{all_stand, stored_standing, kept_ticketless}
+use Rattle.mich_world.proofs.Kept.{all_stand, left_in_use, stored_standing, kept_ticketless}
 use Rattle.mich_world.proofs.world.World.keep.Goals as goal
 
 pub returns-clause-stands : goal.returns-clause-stands
@@ -31,3 +31,11 @@ returns-clause-stored c =
 pub returns-clause-ticketless : goal.returns-clause-ticketless
 returns-clause-ticketless c =
     rw (← c.self.view_is) (kept_ticketless c.self.inside.store c.note_storages.new.store c.keep.new.self _ c.note_storages.ensures c.keep.ensures.kept)
+
+pub returns-clause-in_use : goal.returns-clause-in_use
+returns-clause-in_use c =
+    let cs = c.self.inside.funds.present.contracts in
+    let old = c.self.inside.store in
+    let mid = c.note_storages.new.store in
+    let notes = subst (λ (es : List (List ℕ × Contract)). Notes (all_of (map named_in es)) old mid) c.contracts.ensures c.note_storages.ensures in
+    rw (← c.self.view_is) (left_in_use (all_of (map named_in cs)) old mid notes c.keep.new.self c.keep.ensures.reached)

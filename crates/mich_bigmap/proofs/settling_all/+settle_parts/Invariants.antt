@@ -4,7 +4,7 @@ use Rattle.std.specs.List.{AllByRecursion}
 use Rattle.mich_term.specs.Layers.{AreFormed}
 use Rattle.mich_bigmap.specs.Layers.{HasBases}
 use Rattle.mich_bigmap.specs.Settling.{SettlesAll, SettlesEntries, Lays}
-use Rattle.mich_bigmap.proofs.settling_all.+settle_all.Given as goal
+use Rattle.mich_bigmap.proofs.settling_all.+settle_parts.Given as goal
 
 abbrev pub invariant-settle_list-loop-value : goal.invariant-settle_list-loop-value
 invariant-settle_list-loop-value l =

@@ -3,7 +3,7 @@ use Rattle.std.specs.Vec.Iter.{into_iter_items}
 use Rattle.rules_data.specs.values.Tickets.{Held, all_tickets, pair_tickets}
 use Rattle.mich_term.specs.ValueView.{vals, pairs, put_pairs, big_pairs}
 use Rattle.mich_term.specs.declared.value.BigMap.{out-BigMap}
-use Rattle.mich_term.proofs.discarding.+discard.Given as goal
+use Rattle.mich_term.proofs.discarding.+discard_parts.Given as goal
 
 abbrev pub invariant-discard_all-loop-value : goal.invariant-discard_all-loop-value
 invariant-discard_all-loop-value g l =

@@ -2,8 +2,8 @@ use Rattle.std.proofs.Common.{◌≡◌, ◌++◌, reverse, take, map}
 use Rattle.std.specs.Prelude.{◌||◌}
 use Rattle.std.specs.Map.Iter.{deref_pair}
 use Rattle.mich_term.specs.ValueView.{vals, pairs}
-use Rattle.mich_store_steps.specs.big_maps.Operands.{any_holds, any_entry_holds}
-use Rattle.mich_store_steps.proofs.big_maps.holding.+holding.Given as goal
+use Rattle.mich_term.specs.Holding.{any_holds, any_entry_holds}
+use Rattle.mich_term.proofs.holding.+holding.Given as goal
 
 abbrev pub invariant-list_holds-loop-value : goal.invariant-list_holds-loop-value
 invariant-list_holds-loop-value l = l.found ≡ any_holds (vals (reverse (take l.value-index l.value-items)))

@@ -4,7 +4,7 @@ use Rattle.std.specs.Vec.Iter.{into_iter_items}
 use Rattle.rules_data.specs.values.Tickets.{Held, tickets, pair_tickets}
 use Rattle.mich_term.specs.ValueView.{val, put_pairs}
 use Rattle.mich_term.proofs.Overlays.{put_tickets}
-use Rattle.mich_term.proofs.discarding.+discard.Goals as goal
+use Rattle.mich_term.proofs.discarding.+discard_parts.Goals as goal
 
 pub discard_big-loop-key-preserved : goal.discard_big-loop-key-preserved
 discard_big-loop-key-preserved g t c =
@@ -18,10 +18,10 @@ discard_big-loop-key-preserved g t c =
     let split : pair_tickets (put_pairs iter) ≡ here ++ behind =
     put_tickets iter rest c.in-Some.key c.in-Some.change c.in-Some-change.value first c.in-Some-change.is in
     record {
-      told = ap (λ (x : List Held). x ++ behind) c.in_ok-discard.ensures.tells ∙ append_assoc (told c.loop-key.burner) here behind
+      told = ap (λ (x : List Held). x ++ behind) c.in_ok-discard_parts.ensures.tells ∙ append_assoc (told c.loop-key.burner) here behind
           ∙ ap (λ (x : List Held). told c.loop-key.burner ++ x) (sym split) ∙ c.loop-key.invariant.told;
-      ready = c.in_ok-discard.ensures.stays_ready behind (subst (λ (x : List Held). ready c.loop-key.burner x) split c.loop-key.invariant.ready);
-      stays = λ m start. c.in_ok-discard.ensures.stays_ready (behind ++ m)
+      ready = c.in_ok-discard_parts.ensures.stays_ready behind (subst (λ (x : List Held). ready c.loop-key.burner x) split c.loop-key.invariant.ready);
+      stays = λ m start. c.in_ok-discard_parts.ensures.stays_ready (behind ++ m)
           (subst (λ (x : List Held). ready c.loop-key.burner x) (ap (λ (x : List Held). x ++ m) split ∙ append_assoc here behind m)
           (c.loop-key.invariant.stays m start));
       place = append_assoc c.loop-key.yielded ((c.in-Some.key, c.in-Some.change) ∷ []) rest
