@@ -1,0 +1,19 @@
+//! Certificates: a script with the derivation of its typing.
+#![tactic(auto)]
+
+mod certifying;
+mod create;
+mod creating;
+mod ends;
+mod error;
+mod forms;
+mod length;
+mod levels;
+mod literals;
+mod nodes;
+mod plain;
+mod scripts;
+mod told;
+
+pub use certifying::certify;
+pub use error::CertError;
