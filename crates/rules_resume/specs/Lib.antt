@@ -1,0 +1,3 @@
+pub mod Resumption
+pub mod Snapshot
+pub mod Words
