@@ -5,7 +5,7 @@ use Rattle.mich_group.specs.declared.course.course.Course.{Course}
 use Rattle.mich_replay.specs.Steps.{FollowsIf}
 use Rattle.mich_replay.proofs.Generated.{followed, generated}
 use Rattle.mich_replay.proofs.Happening.{came_new}
-use Rattle.mich_replay.proofs.Promise.{nothing}
+use Rattle.mich_replay.proofs.Written.{nothing}
 use Rattle.mich_replay.proofs.generating.generate.Goals as goal
 
 pub returns-in_err-session-clause-comes : goal.returns-in_err-session-clause-comes
