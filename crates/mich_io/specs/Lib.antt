@@ -1,3 +1,4 @@
 pub use Rattle.rules_text.specs.streams.Causes
 pub use Rattle.rules_text.specs.streams.Known
+pub mod Handed
 pub mod Opened

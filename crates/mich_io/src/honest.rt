@@ -1,9 +1,10 @@
 // A file that is as it says, and a sink that takes all that it is given: no call of either fails.
-ghost use Rattle.std.specs.Prelude.{◌≡◌, ◌<◌, ◌≤◌, ℕ, List, [], ◌∷◌, ◌++◌, drop, take, min, length, IsOk, OnOk, IfOk, OnErr, Contains, Some, IfErr, IsOkAnd, IsErrOf};
+ghost use Rattle.std.specs.Prelude.{◌≡◌, ◌<◌, ◌≤◌, ℕ, List, [], ◌∷◌, ◌++◌, drop, take, min, length, IsOk, OnOk, IfOk, OnErr, Contains, None, Some, IfErr, IsOkAnd, IsErrOf};
 ghost use Rattle.std.specs.Io.{ReadsAtMost, WritesAtMost};
 ghost use Rattle.std.specs.Io.KnownBytes.{Appends, Keeps, ReadConsumes};
 ghost use Rattle.rules_text.specs.streams.Causes.{HasCause};
 ghost use Rattle.rules_text.specs.streams.Known.{AppendsFront, SameFiles, content_at};
+ghost use Rattle.mich_io.specs.Handed.{WriteHands};
 
 use crate::{Files, FilesFault, Sink, SinkFault};
 use mich_base::{Bytes, Text};
@@ -122,6 +123,8 @@ impl HonestSink {
 impl Sink for HonestSink {
     ghost written = { λ s. Some s };
 
+    ghost handed = { λ _. None };
+
     ghost faults = { λ _. 0 };
 
     fn write(&mut self, bytes: &[u8]) -> Result<usize, SinkFault>
@@ -133,6 +136,7 @@ impl Sink for HonestSink {
         ensures ok { IfOk result (λ n. Appends (Some self.old) (Some self.new) (take n bytes.now)) }
         ensures front { OnErr result (AppendsFront (Some self.old) (Some self.new) bytes.now) }
         ensures memory { IsErrOf result SinkFault.Memory → Keeps (Some self.old) (Some self.new) }
+        ensures handed { WriteHands None None result bytes.now }
         ensures cause { HasCause SinkFault.Failed 0 0 result }
     {
         match self.bytes.extend_from_slice(bytes) {

@@ -5,6 +5,7 @@ ghost use Rattle.std.specs.Option.{option_map, option_copied};
 ghost use Rattle.std.specs.Io.{ReadsAtMost, WritesAtMost};
 ghost use Rattle.std.specs.Io.KnownBytes.{Appends, Keeps, ReadConsumes};
 ghost use Rattle.rules_text.specs.streams.Causes.{HasCause};
+ghost use Rattle.mich_io.specs.Handed.{WriteHands};
 ghost use Rattle.rules_text.specs.streams.Known.{AppendsFront, SameFiles, content_in, held_at, known_from};
 ghost use Rattle.rules_text.specs.streams.Held.{is_listed, one_more, start_fails, read_fails, call_failed, started, count_given, read_from, write_fails, write_failed, written_to};
 
@@ -203,6 +204,8 @@ impl MemSink {
 impl Sink for MemSink {
     ghost written = { λ s. Some s.bytes };
 
+    ghost handed = { λ _. None };
+
     ghost faults = { λ s. s.faults };
 
     fn write(&mut self, bytes: &[u8]) -> Result<usize, SinkFault>
@@ -215,6 +218,7 @@ impl Sink for MemSink {
         ensures ok { IfOk result (λ n. Appends (Some self.old.bytes) (Some self.new.bytes) (take n bytes.now)) }
         ensures front { OnErr result (AppendsFront (Some self.old.bytes) (Some self.new.bytes) bytes.now) }
         ensures memory { IsErrOf result SinkFault.Memory → Keeps (Some self.old.bytes) (Some self.new.bytes) }
+        ensures handed { WriteHands None None result bytes.now }
         ensures cause { HasCause SinkFault.Failed self.old.faults self.new.faults result }
     {
         if is_listed(self.fails.as_slice(), self.calls) {

@@ -1,10 +1,11 @@
 // A sink over one of std's writers.
-ghost use Rattle.std.specs.Prelude.{◌≡◌, ◌<◌, ◌≤◌, ℕ, List, [], take, length, OnOk, OnErr, IfOk, IsErrOf};
+ghost use Rattle.std.specs.Prelude.{◌≡◌, ◌<◌, ◌≤◌, ℕ, List, [], None, take, length, OnOk, OnErr, IfOk, IsErrOf};
 ghost use Rattle.std.specs.Io.{WritesAtMost};
 ghost use Rattle.std.specs.Io.KnownBytes.{Appends, Keeps};
 ghost use Rattle.rules_text.specs.streams.Causes.{HasCause};
 ghost use Rattle.rules_text.specs.streams.Held.{one_more};
 ghost use Rattle.rules_text.specs.streams.Known.{AppendsFront};
+ghost use Rattle.mich_io.specs.Handed.{WriteHands};
 
 use crate::{Sink, SinkFault};
 use std::io::{self, Write};
@@ -52,6 +53,8 @@ fn put<W: Write>(out: &mut W, bytes: &[u8]) -> Result<usize, SinkFault>
 impl<W: Write + Drop> Sink for WriterSink<W> {
     ghost written = { λ s. W.contents s.out };
 
+    ghost handed = { λ _. None };
+
     ghost faults = { λ s. s.faults };
 
     fn write(&mut self, bytes: &[u8]) -> Result<usize, SinkFault>
@@ -63,6 +66,7 @@ impl<W: Write + Drop> Sink for WriterSink<W> {
         ensures ok { IfOk result (λ n. Appends (W.contents self.old.out) (W.contents self.new.out) (take n bytes.now)) }
         ensures failed { OnErr result (AppendsFront (W.contents self.old.out) (W.contents self.new.out) bytes.now) }
         ensures memory { IsErrOf result SinkFault.Memory → Keeps (W.contents self.old.out) (W.contents self.new.out) }
+        ensures handed { WriteHands None None result bytes.now }
         ensures cause { HasCause SinkFault.Failed self.old.faults self.new.faults result }
     {
         match put(&mut self.out, bytes) {

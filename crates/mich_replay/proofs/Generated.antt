@@ -14,6 +14,7 @@ use Rattle.mich_group.specs.declared.course.course.Course.{Course}
 use Rattle.mich_reader.specs.Held.{Held}
 use Rattle.mich_replay.specs.Coming.{Came, Comes}
 use Rattle.mich_replay.specs.Generating.{AreCounts, IsCounted, Summed}
+use Rattle.mich_replay.specs.Output.{Output}
 use Rattle.mich_replay.specs.Steps.{FollowsIf}
 use Rattle.mich_replay.specs.declared.generating.Counts.{Counts}
 use Rattle.mich_replay.specs.declared.stop.Stop.{Stop}
@@ -47,12 +48,12 @@ workload_answer calls r c receipts p h is end = (
   refl,
 )
 
-shows : (a b : Option (List ℕ)) (line : List ℕ) (r : Result ℕ Stop) → Summed a b line r → Shows a b (done_with line) r
+shows : (a b : Output) (line : List ℕ) (r : Result ℕ Stop) → Summed a b line r → Shows a b (done_with line) r
 shows a b line (Ok status) h = h
 shows a b line (Err e) h = h
 
 -- its summary was written
-pub generated : (calls : ℕ) (content : List ℕ → Option (List ℕ)) (a b : Option (List ℕ)) (text : List ℕ) (r : Held) (o : Option Course) (c : Course) (counts : Counts)
+pub generated : (calls : ℕ) (content : List ℕ → Option (List ℕ)) (a b : Output) (text : List ℕ) (r : Held) (o : Option Course) (c : Course) (counts : Counts)
     (result : Result ℕ Stop) → text ≡ scenario calls → o ≡ Some c → IsCounted text r o counts × IsEndAt text r.place →
     ((receipts : List Receipt) (p : PlainCourse) → Follows c p → AreCounts receipts counts → Summed a b (summary_line calls receipts p.world) result) →
     Comes (Generating calls) content a b result

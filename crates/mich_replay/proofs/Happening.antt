@@ -1,12 +1,11 @@
 -- What comes next of a file that comes in pieces.
-use Rattle.std.proofs.Common.{◌≡◌, ℕ, ◌+◌, ◌<◌, ◌^◌, Bool, false, List, [], ◌∷◌, ◌++◌, length, Option, None, Result, Ok, Err, refl, sym, ap, ◌∙◌, subst, append-nil, arith}
+use Rattle.std.proofs.Common.{◌≡◌, ℕ, ◌+◌, ◌<◌, ◌^◌, Bool, false, List, [], ◌∷◌, ◌++◌, length, Option, None, Result, Ok, Err, refl, sym, ap, ◌∙◌, subst, arith}
 use Rattle.std.proofs.lemmas.List.{length-append}
-use Rattle.std.proofs.KnownBytes.{Appends-nil, Appends-trans, Consumes-trans}
-use Rattle.std.specs.Io.KnownBytes.{Appends, Consumes}
+use Rattle.std.proofs.KnownBytes.{Consumes-trans}
+use Rattle.std.specs.Io.KnownBytes.{Consumes}
 use Rattle.rules_text.specs.nodes.Tree.{size}
-use Rattle.rules_text.specs.streams.Known.{AppendsFront}
 use Rattle.rules_world.specs.lines.Nodes.{line, group_node}
-use Rattle.rules_files.specs.commands.Lines.{group_lines, text_of}
+use Rattle.rules_files.specs.commands.Lines.{group_lines}
 use Rattle.rules_files.specs.commands.Replay.{FileFault, Run, going, stopped, stuck_run, taken}
 use Rattle.rules_files.specs.statements.Statements.{form}
 use Rattle.rules_text.specs.declared.text.TextKind.{TextKind}
@@ -14,20 +13,19 @@ use Rattle.rules_world.specs.world.Receipts.{Receipt}
 use Rattle.mich_base.specs.View.{tree}
 use Rattle.mich_base.specs.declared.memory.Memory.{Memory}
 use Rattle.mich_group.specs.declared.course.course.Course.{Course}
-use Rattle.mich_io.proofs.ForCallers.{AppendsFront-more}
 use Rattle.mich_reader.specs.Held.{Held, fresh, fed}
 use Rattle.mich_reader.specs.Reading.{IsNext}
 use Rattle.mich_reader.specs.declared.reader.Next.TheVariants as next
 use Rattle.mich_text.specs.declared.fault.TextError.TheVariants as texts
 use Rattle.mich_text.specs.declared.reader.Placed.{Placed}
 use Rattle.mich_replay.specs.Coming.{Came, Cut, Happens, IsRefused, Told}
+use Rattle.mich_replay.specs.Output.{Output, Writes, WritesFront}
 use Rattle.mich_replay.specs.Steps.{HasRoom, IsTaken, groups_of}
 use Rattle.mich_replay.specs.View.{file_fault_seen}
 use Rattle.mich_replay.specs.declared.steps.Event.{Event}
 use Rattle.mich_replay.specs.declared.steps.Event.TheVariants as event
 use Rattle.mich_replay.proofs.Coming.{reads_fresh, reads_fed, reads_more, reads_end, reads_fault, reads_further, reads_short, reads_place, reads_taken, reads_stopped}
-use Rattle.mich_replay.proofs.Promise.{one_text}
-use Rattle.mich_replay.proofs.Written.{lines-more, text_of-append}
+use Rattle.mich_replay.proofs.Written.{front_then, lines-more, writes_front, writes_nothing, writes_then}
 
 -- ---- sessions
 
@@ -117,50 +115,48 @@ module _ (bytes : List ℕ) (last : Bool) (r s : Held) (receipts : List Receipt)
 -- ---- lines
 
 one_more : (receipts : List Receipt) (found : Receipt) (n : ℕ) → n ≡ length (receipts ++ found ∷ []) →
-    text_of (group_lines 1 (receipts ++ found ∷ [])) ≡ text_of (group_lines 1 receipts) ++ line (group_node n found)
+    group_lines 1 (receipts ++ found ∷ []) ≡ group_lines 1 receipts ++ line (group_node n found) ∷ []
 one_more receipts found n e =
     let number : length receipts + 1 ≡ n = omega (arith, e, length-append receipts (found ∷ [])) in
-    ap text_of (lines-more 1 receipts (found ∷ []))
-    ∙ text_of-append (group_lines 1 receipts) (group_lines (length receipts + 1) (found ∷ []))
-    ∙ ap (λ (l : List ℕ). text_of (group_lines 1 receipts) ++ l) (one_text (line (group_node (length receipts + 1) found)) ∙ ap (λ (k : ℕ). line (group_node k found)) number)
+    lines-more 1 receipts (found ∷ []) ∙ ap (λ (k : ℕ). group_lines 1 receipts ++ line (group_node k found) ∷ []) number
 
 module _ (bytes : List ℕ) (last : Bool) (r : Held) (c : Option Course) (receipts : List Receipt) (found : Receipt) (h : Came bytes last r c (receipts ++ found ∷ []))
-    (before now after : Option (List ℕ)) (p : Appends before now (text_of (group_lines 1 receipts))) where
-  pub told_more : Appends now after (line (group_node (groups_of c) found)) → Told bytes last before after r c
+    (before now after : Output) (p : Writes before now (group_lines 1 receipts)) where
+  pub told_more : Writes now after (line (group_node (groups_of c) found) ∷ []) → Told bytes last before after r c
   told_more q = record {
     receipts = receipts ++ found ∷ [];
     came = h;
-    lines = subst (Appends before after) (sym (one_more receipts found (groups_of c) h.stands.count))
-        (Appends-trans before now after (text_of (group_lines 1 receipts)) (line (group_node (groups_of c) found)) p q);
+    lines = subst (Writes before after) (sym (one_more receipts found (groups_of c) h.stands.count))
+        (writes_then before now after (group_lines 1 receipts) (line (group_node (groups_of c) found) ∷ []) p q);
   }
 
-  pub cut_more : AppendsFront now after (line (group_node (groups_of c) found)) → Cut bytes last before after
+  pub cut_more : WritesFront now after (line (group_node (groups_of c) found) ∷ []) → Cut bytes last before after
   cut_more q = record {
     receipts = receipts ++ found ∷ [];
     plain = h.plain;
     place = r.place;
     begun = h.reads.begun;
-    lines = AppendsFront-more before now after (text_of (group_lines 1 receipts)) (line (group_node (groups_of c) found)) (text_of (group_lines 1 (receipts ++ found ∷ [])))
-        (one_more receipts found (groups_of c) h.stands.count) p q;
+    lines = subst (WritesFront before after) (sym (one_more receipts found (groups_of c) h.stands.count))
+        (front_then before now after (group_lines 1 receipts) (line (group_node (groups_of c) found) ∷ []) p q);
   }
 
 -- all of the lines were written, so a front of them was
-pub told_cut : (bytes : List ℕ) (last : Bool) (before now : Option (List ℕ)) (r : Held) (c : Option Course) → Told bytes last before now r c → Cut bytes last before now
+pub told_cut : (bytes : List ℕ) (last : Bool) (before now : Output) (r : Held) (c : Option Course) → Told bytes last before now r c → Cut bytes last before now
 told_cut bytes last before now r c h = record {
   receipts = h.receipts;
   plain = h.came.plain;
   place = r.place;
   begun = h.came.reads.begun;
-  lines = (text_of (group_lines 1 h.receipts), [], sym (append-nil (text_of (group_lines 1 h.receipts))), h.lines);
+  lines = writes_front before now (group_lines 1 h.receipts) h.lines;
 }
 
 -- nothing was told yet
-pub told_fresh : (a : Option (List ℕ)) (r : Held) (c : Option Course) → r ≡ fresh → c ≡ None → Told [] false a a r c
+pub told_fresh : (a : Output) (r : Held) (c : Option Course) → r ≡ fresh → c ≡ None → Told [] false a a r c
 told_fresh a r c e f =
-    subst (λ (x : Held). Told [] false a a x c) (sym e) (subst (λ (x : Option Course). Told [] false a a fresh x) (sym f) (record { receipts = []; came = came_fresh; lines = Appends-nil a }))
+    subst (λ (x : Held). Told [] false a a x c) (sym e) (subst (λ (x : Option Course). Told [] false a a fresh x) (sym f) (record { receipts = []; came = came_fresh; lines = writes_nothing a }))
 
 -- a piece is fed
-pub told_fed : (bytes piece : List ℕ) (last : Bool) (before now : Option (List ℕ)) (r s : Held) (c d : Option Course) (h : Told bytes false before now r c) →
+pub told_fed : (bytes piece : List ℕ) (last : Bool) (before now : Output) (r s : Held) (c d : Option Course) (h : Told bytes false before now r c) →
     Came (bytes ++ piece) last s d h.receipts → Told (bytes ++ piece) last before now s d
 told_fed bytes piece last before now r s c d h came = record { receipts = h.receipts; came = came; lines = h.lines }
 

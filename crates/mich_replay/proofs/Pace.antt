@@ -5,7 +5,6 @@ use Rattle.std.specs.Io.KnownBytes.{Appends, Consumes}
 use Rattle.std.specs.Prelude.{OnOk, OnErr, IsErrOf}
 use Rattle.std.proofs.KnownBytes.{Appends-nil, Appends-trans}
 use Rattle.rules_text.specs.nodes.Limits.{file_limit}
-use Rattle.rules_text.specs.streams.Known.{AppendsFront}
 use Rattle.rules_files.specs.commands.Answers.{status_of}
 use Rattle.rules_files.specs.commands.Commands.{Verb, Replaying, Command, OnFile, Generating, NoCommand, file_of}
 use Rattle.rules_files.specs.commands.Lines.{group_lines, text_of, ending_lines}
@@ -14,6 +13,7 @@ use Rattle.mich_group.specs.declared.course.course.Course.{Course}
 use Rattle.mich_reader.specs.Held.{Held}
 use Rattle.mich_replay.specs.Coming.{Closes, Grows, Told}
 use Rattle.mich_replay.specs.Pace.{Gives, NoneIsClosedAt, NotStarted, WritesAsItReads, piece_limit}
+use Rattle.mich_replay.specs.Output.{Output, Writes, WritesFront}
 use Rattle.mich_replay.specs.View.{status_in, whole_seen}
 use Rattle.mich_replay.specs.declared.command.WholeVerb.{WholeVerb}
 use Rattle.mich_replay.specs.declared.command.WholeVerb.TheVariants as wholes
@@ -28,13 +28,13 @@ grows_nothing a = ([], Appends-nil a)
 pub grows_trans : (a b c : Option (List ℕ)) → Grows a b → Grows b c → Grows a c
 grows_trans a b c p q = (p.0 ++ q.0, Appends-trans a b c p.0 q.0 p.1 q.1)
 
-pub grows_by : {T E : Type 0} → (a b : Option (List ℕ)) (text : List ℕ) (r : Result T E) → OnOk r (Appends a b text) → OnErr r (AppendsFront a b text) → Grows a b
-grows_by a b text (Ok t) p q = (text, p)
-grows_by a b text (Err e) p q = (q.0, q.3)
+pub grows_by : {T E : Type 0} → (a b : Output) (lines : List (List ℕ)) (r : Result T E) → OnOk r (Writes a b lines) → OnErr r (WritesFront a b lines) → Grows a.written b.written
+grows_by a b lines (Ok t) p q = (text_of lines, p.text)
+grows_by a b lines (Err e) p q = (q.text.0, q.text.3)
 
-pub grows_closed : (a b : Option (List ℕ)) (ending : Ending) (r : Result ℕ Stop) → Closes a b ending r → Grows a b
-grows_closed a b ending (Ok status) p = (text_of (ending_lines ending), p.1)
-grows_closed a b ending (Err e) p = (p.0, p.3)
+pub grows_closed : (a b : Output) (ending : Ending) (r : Result ℕ Stop) → Closes a b ending r → Grows a.written b.written
+grows_closed a b ending (Ok status) p = (text_of (ending_lines ending), p.1.text)
+grows_closed a b ending (Err e) p = (p.text.0, p.text.3)
 
 -- ---- statuses
 
@@ -43,7 +43,7 @@ three (State w) e = absurd (omega (arith, e))
 three (RefusedAt fault place) e = absurd (omega (arith, e))
 
 -- what ended, or was given up but for a read, has no read fault's status
-pub no_three : (a b : Option (List ℕ)) (ending : Ending) (r : Result ℕ Stop) → Closes a b ending r → (IsErrOf r stop.Read → ⊥) → status_in r ≡ 3 → ⊥
+pub no_three : (a b : Output) (ending : Ending) (r : Result ℕ Stop) → Closes a b ending r → (IsErrOf r stop.Read → ⊥) → status_in r ≡ 3 → ⊥
 no_three a b ending (Ok status) p none e = three ending (sym p.0 ∙ e)
 no_three a b ending (Err stop.Read) p none e = none refl
 no_three a b ending (Err stop.Write) p none e = absurd (omega (arith, e))
@@ -61,7 +61,7 @@ not_started before left a stop.Memory none same = (refl, same, inr refl)
 
 -- ---- what was told
 
-module _ (fed : List ℕ) (a b : Option (List ℕ)) (r : Held) (c : Option Course) (t : Told fed false a b r c) (none : NoneIsClosedAt fed r.place) (within : length fed ≤ file_limit) where
+module _ (fed : List ℕ) (a b : Output) (r : Held) (c : Option Course) (t : Told fed false a b r c) (none : NoneIsClosedAt fed r.place) (within : length fed ≤ file_limit) where
   never : false ≡ true → ⊥
   never e = absurd cc
 
@@ -76,7 +76,7 @@ module _ (fed : List ℕ) (a b : Option (List ℕ)) (r : Held) (c : Option Cours
   }
 
   -- all that was taken was told, and nothing else
-  pub all_told : (content before left : Option (List ℕ)) (status : ℕ) → Consumes content left fed → WritesAsItReads content before left a b status
+  pub all_told : (content before left : Option (List ℕ)) (status : ℕ) → Consumes content left fed → WritesAsItReads content before left a.written b.written status
   all_told content before left status bytes = inr (
     fed,
     bytes,
@@ -89,14 +89,14 @@ module _ (fed : List ℕ) (a b : Option (List ℕ)) (r : Held) (c : Option Cours
       receipts = t.receipts;
       gives = gives;
       rest = [];
-      lines = subst (Appends a b) (sym (append-nil (text_of (group_lines 1 t.receipts)))) t.lines;
+      lines = subst (Appends a.written b.written) (sym (append-nil (text_of (group_lines 1 t.receipts)))) t.lines.text;
       read_fault = λ e. (refl, refl);
     },
   )
 
   -- a piece was taken, and more was written
-  pub one_behind : (content before left now : Option (List ℕ)) (piece : List ℕ) (status : ℕ) → Consumes content left (fed ++ piece) → length piece ≤ piece_limit → Grows b now →
-      (status ≡ 3 → ⊥) → WritesAsItReads content before left a now status
+  pub one_behind : (content before left : Option (List ℕ)) (now : Output) (piece : List ℕ) (status : ℕ) → Consumes content left (fed ++ piece) → length piece ≤ piece_limit → Grows b.written now.written →
+      (status ≡ 3 → ⊥) → WritesAsItReads content before left a.written now.written status
   one_behind content before left now piece status bytes short grown none = inr (
     fed ++ piece,
     bytes,
@@ -109,7 +109,7 @@ module _ (fed : List ℕ) (a b : Option (List ℕ)) (r : Held) (c : Option Cours
       receipts = t.receipts;
       gives = gives;
       rest = grown.0;
-      lines = Appends-trans a b now (text_of (group_lines 1 t.receipts)) grown.0 t.lines grown.1;
+      lines = Appends-trans a.written b.written now.written (text_of (group_lines 1 t.receipts)) grown.0 t.lines.text grown.1;
       read_fault = λ e. absurd (none e);
     },
   )

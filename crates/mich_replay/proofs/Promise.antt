@@ -1,17 +1,16 @@
 -- What is promised, where the whole text was written, and where a front of it was.
-use Rattle.std.proofs.Common.{◌≡◌, ◌≢◌, ◌≤◌, ℕ, List, [], ◌∷◌, IsSome, IfOk, Result, Ok, Err, inl, inr, refl, sym, ◌∙◌, subst, append-nil, arith}
+use Rattle.std.proofs.Common.{◌≡◌, ◌≢◌, ◌≤◌, ℕ, List, IsSome, IfOk, Result, Ok, Err, inl, inr, refl, sym, ◌∙◌, subst, arith}
 use Rattle.std.specs.declared.option.Option.{Option}
-use Rattle.std.specs.Io.KnownBytes.{Appends, IsAtEnd}
-use Rattle.std.proofs.KnownBytes.{Appends-nil}
+use Rattle.std.specs.Io.KnownBytes.{IsAtEnd}
 use Rattle.rules_text.specs.streams.Causes.{Rose}
-use Rattle.rules_text.specs.streams.Known.{AppendsFront}
-use Rattle.rules_files.specs.commands.Lines.{text_of}
 use Rattle.rules_files.specs.commands.Answers.{Answer}
 use Rattle.rules_files.specs.commands.Commands.{Command, OnFile, Generating, NoCommand, IsOwn, IsTold, IsAnswer, command_of, file_of}
 use Rattle.rules_files.specs.commands.Promise.{Meets}
 use Rattle.mich_replay.specs.Coming.{Comes}
+use Rattle.mich_replay.specs.Output.{Output, HandsLines, Writes, WritesFront}
 use Rattle.mich_replay.specs.declared.stop.Stop.{Stop}
 use Rattle.mich_replay.proofs.Once.{answers-one}
+use Rattle.mich_replay.proofs.Written.{writes_front}
 
 own_known : (command : Command) (status : ℕ) → IsOwn command status → status ≤ 2
 own_known (OnFile verb path) status (inl e) = omega (arith, e)
@@ -37,42 +36,35 @@ told (Generating calls) content answer h = tt
 told NoCommand content answer h = tt
 
 -- each answer is this one
-front : (command : Command) (content : List ℕ → Option (List ℕ)) (a b : Option (List ℕ)) (answer : Answer) → (IsTold command content → IsAnswer command content answer) →
-    (other : Answer) → IsAnswer command content other → AppendsFront a b (text_of answer.lines) → AppendsFront a b (text_of other.lines)
+front : (command : Command) (content : List ℕ → Option (List ℕ)) (a b : Output) (answer : Answer) → (IsTold command content → IsAnswer command content answer) →
+    (other : Answer) → IsAnswer command content other → WritesFront a b answer.lines → WritesFront a b other.lines
 front command content a b answer exact other h p =
     let same : answer ≡ other = answers-one command content answer other (exact (told command content other h)) h in
-    subst (λ (x : Answer). AppendsFront a b (text_of x.lines)) same p
-
-whole_front : (a b : Option (List ℕ)) (text : List ℕ) → Appends a b text → AppendsFront a b text
-whole_front a b text p = (text, [], sym (append-nil text), p)
+    subst (λ (x : Answer). WritesFront a b x.lines) same p
 
 -- ---- how a command ends
 
--- this answer's text was written, with its status; or a front of it was
-abbrev pub Shows : Option (List ℕ) → Option (List ℕ) → Answer → Result ℕ Stop → Type 0
-Shows a b answer (Ok status) = (status ≡ answer.status) × Appends a b (text_of answer.lines)
-Shows a b answer (Err e) = AppendsFront a b (text_of answer.lines)
+-- this answer's lines were written, with its status; or a front of them was
+abbrev pub Shows : Output → Output → Answer → Result ℕ Stop → Type 0
+Shows a b answer (Ok status) = (status ≡ answer.status) × Writes a b answer.lines
+Shows a b answer (Err e) = WritesFront a b answer.lines
 
-pub shown : (command : Command) (content : List ℕ → Option (List ℕ)) (a b : Option (List ℕ)) (answer : Answer) (r : Result ℕ Stop) →
+pub shown : (command : Command) (content : List ℕ → Option (List ℕ)) (a b : Output) (answer : Answer) (r : Result ℕ Stop) →
     (IsTold command content → IsAnswer command content answer) → IsOwn command answer.status → Shows a b answer r → Comes command content a b r
 shown what content a b answer (Ok status) exact own p = (answer, exact, own, p.0, p.1)
 shown what content a b answer (Err e) exact own p = λ other h. front what content a b answer exact other h p
 
--- nothing was written
-pub nothing : (a : Option (List ℕ)) (text : List ℕ) → AppendsFront a a text
-nothing a text = ([], text, refl, Appends-nil a)
-
 -- ---- what is promised
 
-module _ (words : List (List ℕ)) (content : List ℕ → Option (List ℕ)) (a b : Option (List ℕ)) (r0 r1 w0 w1 : ℕ) (left : Option (List ℕ)) where
-  pub meets : (status : ℕ) → Comes (command_of words) content a b (Ok status) → (status ≡ 0 → IsSome (file_of (command_of words)) → IsAtEnd left) → Meets words content r0 r1 w0 w1 left a b status
+module _ (words : List (List ℕ)) (content : List ℕ → Option (List ℕ)) (a b : Output) (r0 r1 w0 w1 : ℕ) (left : Option (List ℕ)) where
+  pub meets : (status : ℕ) → Comes (command_of words) content a b (Ok status) → (status ≡ 0 → IsSome (file_of (command_of words)) → IsAtEnd left) → Meets words content r0 r1 w0 w1 left a.written b.written status
   meets status (answer, exact, own, is, p) end =
       let same : IsOwn (command_of words) status = subst (IsOwn (command_of words)) (sym is) own in
       let small = own_known (command_of words) status same in
       record {
         known = omega (arith, small);
-        whole = λ t _. (answer, exact t, is, p);
-        front = λ other h. front (command_of words) content a b answer exact other h (whole_front a b (text_of answer.lines) p);
+        whole = λ t _. (answer, exact t, is, p.text);
+        front = λ other h. (front (command_of words) content a b answer exact other h (writes_front a b answer.lines p)).text;
         usage = own_usage (command_of words) status same;
         refused = own_refused (command_of words) status same;
         read_fault = λ e. absurd (omega (arith, small, e));
@@ -83,11 +75,11 @@ module _ (words : List (List ℕ)) (content : List ℕ → Option (List ℕ)) (a
 
   -- it was given up, where a count rose or for want of memory
   pub gives_up : (status : ℕ) (stop : Stop) → 3 ≤ status → status ≤ 5 → (status ≡ 3 → IsSome (file_of (command_of words)) × Rose r0 r1) → (status ≡ 4 → Rose w0 w1) →
-      Comes (command_of words) content a b (Err stop) → Meets words content r0 r1 w0 w1 left a b status
+      Comes (command_of words) content a b (Err stop) → Meets words content r0 r1 w0 w1 left a.written b.written status
   gives_up status stop low high read write p = record {
     known = high;
     whole = λ t small. absurd (omega (arith, low, small));
-    front = p;
+    front = λ answer h. (p answer h).text;
     usage = λ e. absurd (omega (arith, low, e));
     refused = λ e. absurd (omega (arith, low, e));
     read_fault = read;
@@ -102,16 +94,17 @@ module _ (words : List (List ℕ)) (content : List ℕ → Option (List ℕ)) (a
           let no_write : status ≢ 4 = λ e. still (write e) in
           omega (arith, low, high, no_read, no_write)
 
--- ---- one line
+-- ---- the lines that are handed over
 
-pub one_text : (l : List ℕ) → text_of (l ∷ []) ≡ l
-one_text l = append-nil l
+module _ (words : List (List ℕ)) (content : List ℕ → Option (List ℕ)) (a b : Output) where
+  pub hands : (status : ℕ) → Comes (command_of words) content a b (Ok status) → HandsLines words content a.handed b.handed status
+  hands status (answer, exact, own, is, p) = record {
+    whole = λ t _. (answer, exact t, is, p.pieces);
+    front = λ other h. (front (command_of words) content a b answer exact other h (writes_front a b answer.lines p)).pieces;
+  }
 
-pub one_written : (a b : Option (List ℕ)) (l text : List ℕ) → l ≡ text → Appends a b l → Appends a b (text_of (text ∷ []))
-one_written a b l text e p = subst (Appends a b) (e ∙ sym (one_text text)) p
-
-pub one_begun : (a b : Option (List ℕ)) (l text : List ℕ) → l ≡ text → AppendsFront a b l → AppendsFront a b (text_of (text ∷ []))
-one_begun a b l text e p = subst (AppendsFront a b) (e ∙ sym (one_text text)) p
+  pub hands_front : (status : ℕ) (stop : Stop) → 3 ≤ status → Comes (command_of words) content a b (Err stop) → HandsLines words content a.handed b.handed status
+  hands_front status stop low p = record { whole = λ t small. absurd (omega (arith, low, small)); front = λ answer h. (p answer h).pieces }
 
 -- what holds, holds of each status
 pub whatever : (Q : Type 0) (r : Result ℕ Stop) → Q → IfOk r (λ status. status ≡ 0 → Q)

@@ -1,10 +1,7 @@
 -- Workloads that are replayed, and their groups counted.
 use Rattle.std.specs.Prelude.{◌≡◌, ◌<◌, ℕ, List, [], ◌∷◌, length, Bool, true, false, Result, Ok, Err, IfOk}
 use Rattle.std.specs.declared.option.Option.{Option}
-use Rattle.std.specs.Io.KnownBytes.{Appends}
-use Rattle.rules_text.specs.streams.Known.{AppendsFront}
 use Rattle.rules_files.specs.course.Course.{Course as PlainCourse}
-use Rattle.rules_files.specs.commands.Lines.{text_of}
 use Rattle.rules_files.specs.commands.Places.{IsEndAt}
 use Rattle.rules_world.specs.summary.Summary.{was_applied, has_failed, count_of, calls_in, summary_line}
 use Rattle.rules_world.specs.world.Receipts.{Receipt}
@@ -14,6 +11,7 @@ use Rattle.mich_ops.specs.Told.{ToldReceipt}
 use Rattle.mich_ops.specs.Told as told
 use Rattle.mich_reader.specs.Held.{Held}
 use Rattle.mich_replay.specs.Coming.{Came, Happens}
+use Rattle.mich_replay.specs.Output.{Output, Writes, WritesFront}
 use Rattle.mich_replay.specs.declared.generating.Counts.{Counts}
 use Rattle.mich_replay.specs.declared.generating.Counting.{Counting}
 use Rattle.mich_replay.specs.declared.generating.Counting.TheVariants as counting
@@ -58,11 +56,11 @@ CountsEvent counts e result =
     → Happens fed true receipts place r c (Ok e) → IfOk result (λ next. Counted fed place r c next)
 
 -- the line was written, with status 0; or a front of it was
-abbrev pub Summed : Option (List ℕ) → Option (List ℕ) → List ℕ → Result ℕ Stop → Type 0
-Summed before now line (Ok status) = (status ≡ 0) × Appends before now (text_of (line ∷ []))
-Summed before now line (Err e) = AppendsFront before now (text_of (line ∷ []))
+abbrev pub Summed : Output → Output → List ℕ → Result ℕ Stop → Type 0
+Summed before now line (Ok status) = (status ≡ 0) × Writes before now (line ∷ [])
+Summed before now line (Err e) = WritesFront before now (line ∷ [])
 
 -- so it is with the line that sums up these groups, where they were counted so
-abbrev pub SumsUp : List Receipt → Counts → ℕ → PlainCourse → (before now : Option (List ℕ)) → Result ℕ Stop → Type 0
+abbrev pub SumsUp : List Receipt → Counts → ℕ → PlainCourse → (before now : Output) → Result ℕ Stop → Type 0
 SumsUp receipts counts calls p before now result =
     AreCounts receipts counts → Summed before now (summary_line calls receipts p.world) result

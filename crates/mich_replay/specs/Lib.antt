@@ -10,6 +10,7 @@ pub use Rattle.rules_files.specs.commands.Packs
 pub mod Laws
 pub mod Steps
 pub mod View
+pub mod Output
 pub mod Coming
 pub mod Generating
 pub mod Fronts

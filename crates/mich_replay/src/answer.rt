@@ -9,6 +9,7 @@ ghost use Rattle.rules_files.specs.commands.Commands.{OnFile, NoCommand, IsVerbA
 ghost use Rattle.mich_answers.specs.View.{answer_seen, IsDoneOrRefused};
 ghost use Rattle.mich_replay.specs.Coming.{Comes, IsAnswerIfTold};
 ghost use Rattle.mich_replay.specs.Fronts.{IsRest};
+ghost use Rattle.mich_replay.specs.Output.{output};
 ghost use Rattle.mich_replay.specs.Taken.{HasTaken, TakesFile, read_limit};
 ghost use Rattle.mich_replay.specs.View.{status_in, whole_seen};
 
@@ -24,7 +25,7 @@ use std::alloc::Global;
 
 /// Writes the usage, for words that are no command.
 pub(crate) fn usage<K: Sink>(alloc: Global, out: &mut K) -> Result<u8, Stop>
-    ensures comes { (content : List ℕ → Option (List ℕ)) → Comes NoCommand content (K.written out.old) (K.written out.new) result }
+    ensures comes { (content : List ℕ → Option (List ℕ)) → Comes NoCommand content (output (K.written out.old) (K.handed out.old)) (output (K.written out.new) (K.handed out.new)) result }
     ensures status { IfOk result (λ status. status ≡ 1) }
     ensures no_read { IsErrOf result Stop.Read → ⊥ }
     ensures cause { HasCause Stop.Write (K.faults out.old) (K.faults out.new) result }
@@ -90,7 +91,7 @@ pub(crate) fn answer_whole<F: Files, K: Sink>(
     out: &mut K,
 ) -> Result<u8, Stop>
     requires { Contains (F.lent files.old) path.now }
-    ensures comes { Comes (OnFile (whole_seen verb) path.now) (F.content files.old) (K.written out.old) (K.written out.new) result }
+    ensures comes { Comes (OnFile (whole_seen verb) path.now) (F.content files.old) (output (K.written out.old) (K.handed out.old)) (output (K.written out.new) (K.handed out.new)) result }
     ensures taken { TakesFile (F.content files.old path.now) (F.left files.old) (F.left files.new)
         (K.written out.old) (K.written out.new) (status_in result) }
     ensures same { SameFiles (F.lent files.old) (F.lent files.new) (F.content files.old) (F.content files.new) }

@@ -8,6 +8,7 @@ ghost use Rattle.mich_group.specs.course.Following.{Follows};
 ghost use Rattle.mich_ops.specs.View.{receipt};
 ghost use Rattle.mich_replay.specs.Coming.{CameTo, Comes};
 ghost use Rattle.mich_replay.specs.Generating.{AllCounted, AreCounts, CountsEvent, SumsUp, told_applied, told_failed};
+ghost use Rattle.mich_replay.specs.Output.{output};
 ghost use Rattle.mich_replay.specs.Steps.{Tells};
 
 use crate::session::Session;
@@ -135,7 +136,7 @@ fn sum_up<K: Sink>(
 ) -> Result<u8, Stop>
     requires { (p : PlainCourse) × Follows course.now p }
     ensures summed { (receipts : List Receipt) (p : PlainCourse) → Follows course.now p
-        → SumsUp receipts counts calls p (K.written out.old) (K.written out.new) result }
+        → SumsUp receipts counts calls p (output (K.written out.old) (K.handed out.old)) (output (K.written out.new) (K.handed out.new)) result }
     ensures no_read { IsErrOf result Stop.Read → ⊥ }
     ensures cause { HasCause Stop.Write (K.faults out.old) (K.faults out.new) result }
 {
@@ -153,7 +154,7 @@ fn sum_up<K: Sink>(
 /// Makes a workload of so many calls, replays it, writes its summary, and answers the status.
 pub(crate) fn generate<K: Sink>(alloc: Global, calls: u32, out: &mut K) -> Result<u8, Stop>
     requires { (1 ≤ calls) × (calls ≤ 100000) }
-    ensures comes { (content : List ℕ → Option (List ℕ)) → Comes (Generating calls) content (K.written out.old) (K.written out.new) result }
+    ensures comes { (content : List ℕ → Option (List ℕ)) → Comes (Generating calls) content (output (K.written out.old) (K.handed out.old)) (output (K.written out.new) (K.handed out.new)) result }
     ensures no_read { IsErrOf result Stop.Read → ⊥ }
     ensures cause { HasCause Stop.Write (K.faults out.old) (K.faults out.new) result }
 {

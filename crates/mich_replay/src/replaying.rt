@@ -7,6 +7,7 @@ ghost use Rattle.rules_text.specs.streams.Known.{SameFiles};
 ghost use Rattle.rules_files.specs.commands.Commands.{OnFile, Replaying};
 ghost use Rattle.rules_files.specs.commands.Replay.{RefusedAt, ending_of};
 ghost use Rattle.mich_replay.specs.Coming.{Closes, Comes, Grows, TellsEvent, TellsGroups, Told};
+ghost use Rattle.mich_replay.specs.Output.{Output, output};
 ghost use Rattle.mich_replay.specs.Pace.{WritesAsItReads};
 ghost use Rattle.mich_replay.specs.Steps.{FollowsIf};
 ghost use Rattle.mich_replay.specs.View.{file_fault_seen, status_in};
@@ -41,7 +42,7 @@ fn tell<K: Sink>(
     event: Event,
     out: &mut K,
 ) -> Result<Option<Pause>, Stop>
-    ensures told { TellsEvent course.now event (K.written out.old) (K.written out.new) result }
+    ensures told { TellsEvent course.now event (output (K.written out.old) (K.handed out.old)) (output (K.written out.new) (K.handed out.new)) result }
     ensures grows { Grows (K.written out.old) (K.written out.new) }
     ensures no_read { IsErrOf result Stop.Read → ⊥ }
     ensures cause { HasCause Stop.Write (K.faults out.old) (K.faults out.new) result }
@@ -65,8 +66,8 @@ fn tell_groups<K: Sink>(
     last: bool,
     out: &mut K,
 ) -> Result<Pause, Stop>
-    requires { (fed : List ℕ) × (before : Option (List ℕ)) × Told fed last before (K.written out.old) session.old.reader session.old.course }
-    ensures told { TellsGroups last (K.written out.old) (K.written out.new) session.old session.new result }
+    requires { (fed : List ℕ) × (before : Output) × Told fed last before (output (K.written out.old) (K.handed out.old)) session.old.reader session.old.course }
+    ensures told { TellsGroups last (output (K.written out.old) (K.handed out.old)) (output (K.written out.new) (K.handed out.new)) session.old session.new result }
     ensures grows { Grows (K.written out.old) (K.written out.new) }
     ensures no_read { IsErrOf result Stop.Read → ⊥ }
     ensures cause { HasCause Stop.Write (K.faults out.old) (K.faults out.new) result }
@@ -83,7 +84,7 @@ fn tell_groups<K: Sink>(
 
 // Writes why a file is refused, and where.
 fn refuse<K: Sink>(alloc: Global, fault: FileFault, at: u64, out: &mut K) -> Result<u8, Stop>
-    ensures closes { Closes (K.written out.old) (K.written out.new) (RefusedAt (file_fault_seen fault) at) result }
+    ensures closes { Closes (output (K.written out.old) (K.handed out.old)) (output (K.written out.new) (K.handed out.new)) (RefusedAt (file_fault_seen fault) at) result }
     ensures status { IfOk result (λ status. status ≡ 2) }
     ensures no_read { IsErrOf result Stop.Read → ⊥ }
     ensures cause { HasCause Stop.Write (K.faults out.old) (K.faults out.new) result }
@@ -96,7 +97,7 @@ fn refuse<K: Sink>(alloc: Global, fault: FileFault, at: u64, out: &mut K) -> Res
 // Writes what stands behind all statements of a file of so many bytes.
 fn end<K: Sink>(alloc: Global, course: &Option<Course>, size: u64, out: &mut K) -> Result<u8, Stop>
     requires { (p : Option PlainCourse) × FollowsIf course.now p }
-    ensures closes { (p : Option PlainCourse) → FollowsIf course.now p → Closes (K.written out.old) (K.written out.new) (ending_of size p) result }
+    ensures closes { (p : Option PlainCourse) → FollowsIf course.now p → Closes (output (K.written out.old) (K.handed out.old)) (output (K.written out.new) (K.handed out.new)) (ending_of size p) result }
     ensures no_read { IsErrOf result Stop.Read → ⊥ }
     ensures cause { HasCause Stop.Write (K.faults out.old) (K.faults out.new) result }
 {
@@ -118,7 +119,7 @@ pub(crate) fn replay_file<F: Files, K: Sink>(
     out: &mut K,
 ) -> Result<u8, Stop>
     requires { Contains (F.lent files.old) path.now }
-    ensures comes { Comes (OnFile Replaying path.now) (F.content files.old) (K.written out.old) (K.written out.new) result }
+    ensures comes { Comes (OnFile Replaying path.now) (F.content files.old) (output (K.written out.old) (K.handed out.old)) (output (K.written out.new) (K.handed out.new)) result }
     ensures pace { WritesAsItReads (F.content files.old path.now) (F.left files.old) (F.left files.new)
         (K.written out.old) (K.written out.new) (status_in result) }
     ensures same { SameFiles (F.lent files.old) (F.lent files.new) (F.content files.old) (F.content files.new) }

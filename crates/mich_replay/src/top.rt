@@ -6,6 +6,7 @@ ghost use Rattle.rules_text.specs.streams.Known.{SameFiles};
 ghost use Rattle.rules_files.specs.commands.Commands.{OnFile, command_of, file_of};
 ghost use Rattle.rules_files.specs.commands.Promise.{Meets};
 ghost use Rattle.mich_replay.specs.Coming.{Comes};
+ghost use Rattle.mich_replay.specs.Output.{HandsLines, output};
 ghost use Rattle.mich_replay.specs.Pace.{PacesVerb, PacesWords};
 ghost use Rattle.mich_replay.specs.Taken.{NoneFalls, TakesFile, TakesWords};
 ghost use Rattle.mich_replay.specs.View.{status_in, verb_seen};
@@ -28,7 +29,7 @@ fn answer_on_file<F: Files, K: Sink>(
     out: &mut K,
 ) -> Result<u8, Stop>
     requires { Contains (F.lent files.old) path.now }
-    ensures comes { Comes (OnFile (verb_seen verb) path.now) (F.content files.old) (K.written out.old) (K.written out.new) result }
+    ensures comes { Comes (OnFile (verb_seen verb) path.now) (F.content files.old) (output (K.written out.old) (K.handed out.old)) (output (K.written out.new) (K.handed out.new)) result }
     ensures pace { PacesVerb (verb_seen verb) (F.content files.old path.now) (F.left files.old) (F.left files.new)
         (K.written out.old) (K.written out.new) (status_in result) }
     ensures taken { TakesFile (F.content files.old path.now) (F.left files.old) (F.left files.new)
@@ -52,7 +53,7 @@ fn answer_words<F: Files, K: Sink>(
     out: &mut K,
 ) -> Result<u8, Stop>
     requires { F.lent files.old ≡ drop 1 words.now }
-    ensures comes { Comes (command_of words.now) (F.content files.old) (K.written out.old) (K.written out.new) result }
+    ensures comes { Comes (command_of words.now) (F.content files.old) (output (K.written out.old) (K.handed out.old)) (output (K.written out.new) (K.handed out.new)) result }
     ensures pace { PacesWords words.now (F.content files.old) (F.left files.old) (F.left files.new)
         (K.written out.old) (K.written out.new) (status_in result) }
     ensures taken { TakesWords words.now (F.content files.old) (F.left files.old) (F.left files.new)
@@ -82,6 +83,7 @@ pub fn mich<F: Files, K: Sink>(alloc: Global, words: &Texts, files: &mut F, out:
     requires { F.lent files.old ≡ drop 1 words.now }
     ensures meets { Meets words.now (F.content files.old) (F.faults files.old) (F.faults files.new) (K.faults out.old) (K.faults out.new)
         (F.left files.new) (K.written out.old) (K.written out.new) result }
+    ensures lines { HandsLines words.now (F.content files.old) (K.handed out.old) (K.handed out.new) result }
     ensures pace { PacesWords words.now (F.content files.old) (F.left files.old) (F.left files.new) (K.written out.old) (K.written out.new) result }
     ensures taken { TakesWords words.now (F.content files.old) (F.left files.old) (F.left files.new) (K.written out.old) (K.written out.new) result }
     ensures files { SameFiles (F.lent files.old) (F.lent files.new) (F.content files.old) (F.content files.new) }

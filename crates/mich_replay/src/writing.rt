@@ -1,12 +1,10 @@
 // Lines that are written, each by one call of the sink's.
-ghost use Rattle.std.specs.Prelude.{◌≡◌, ◌≤◌, ◌<◌, ℕ, List, IfOk, OnOk, OnErr, IsErrOf};
-ghost use Rattle.std.specs.Io.KnownBytes.{Appends};
+ghost use Rattle.std.specs.Prelude.{◌≡◌, ◌≤◌, ◌<◌, ℕ, List, [], ◌∷◌, IfOk, OnOk, OnErr, IsErrOf};
 ghost use Rattle.rules_text.specs.streams.Causes.{HasCause};
-ghost use Rattle.rules_text.specs.streams.Known.{AppendsFront};
 ghost use Rattle.rules_world.specs.lines.Nodes.{line, group_node};
-ghost use Rattle.rules_files.specs.commands.Lines.{text_of};
 ghost use Rattle.rules_world.specs.world.Receipts.{Receipt};
 ghost use Rattle.mich_replay.specs.Coming.{Grows};
+ghost use Rattle.mich_replay.specs.Output.{Writes, WritesFront, output};
 ghost use Rattle.mich_replay.specs.Steps.{Tells, groups_of};
 
 use crate::steps::last_number;
@@ -20,8 +18,8 @@ use std::alloc::Global;
 
 /// Writes a line.
 pub(crate) fn write_line<K: Sink>(out: &mut K, line: &[u8]) -> Result<(), Stop>
-    ensures ok { OnOk result (Appends (K.written out.old) (K.written out.new) line.now) }
-    ensures err { OnErr result (AppendsFront (K.written out.old) (K.written out.new) line.now) }
+    ensures ok { OnOk result (Writes (output (K.written out.old) (K.handed out.old)) (output (K.written out.new) (K.handed out.new)) (line.now ∷ [])) }
+    ensures err { OnErr result (WritesFront (output (K.written out.old) (K.handed out.old)) (output (K.written out.new) (K.handed out.new)) (line.now ∷ [])) }
     ensures no_read { IsErrOf result Stop.Read → ⊥ }
     ensures cause { HasCause Stop.Write (K.faults out.old) (K.faults out.new) result }
 {
@@ -34,8 +32,8 @@ pub(crate) fn write_line<K: Sink>(out: &mut K, line: &[u8]) -> Result<(), Stop>
 
 /// Writes lines, one after another.
 pub(crate) fn write_lines<K: Sink>(out: &mut K, lines: &Texts) -> Result<(), Stop>
-    ensures ok { OnOk result (Appends (K.written out.old) (K.written out.new) (text_of lines.now)) }
-    ensures err { OnErr result (AppendsFront (K.written out.old) (K.written out.new) (text_of lines.now)) }
+    ensures ok { OnOk result (Writes (output (K.written out.old) (K.handed out.old)) (output (K.written out.new) (K.handed out.new)) lines.now) }
+    ensures err { OnErr result (WritesFront (output (K.written out.old) (K.handed out.old)) (output (K.written out.new) (K.handed out.new)) lines.now) }
     ensures no_read { IsErrOf result Stop.Read → ⊥ }
     ensures cause { HasCause Stop.Write (K.faults out.old) (K.faults out.new) result }
 {
@@ -52,8 +50,8 @@ pub(crate) fn write_group<K: Sink>(
     told: &GroupReceipt,
     out: &mut K,
 ) -> Result<(), Stop>
-    ensures ok { (found : Receipt) → Tells told.now found → OnOk result (Appends (K.written out.old) (K.written out.new) (line (group_node (groups_of course.now) found))) }
-    ensures err { (found : Receipt) → Tells told.now found → OnErr result (AppendsFront (K.written out.old) (K.written out.new) (line (group_node (groups_of course.now) found))) }
+    ensures ok { (found : Receipt) → Tells told.now found → OnOk result (Writes (output (K.written out.old) (K.handed out.old)) (output (K.written out.new) (K.handed out.new)) (line (group_node (groups_of course.now) found) ∷ [])) }
+    ensures err { (found : Receipt) → Tells told.now found → OnErr result (WritesFront (output (K.written out.old) (K.handed out.old)) (output (K.written out.new) (K.handed out.new)) (line (group_node (groups_of course.now) found) ∷ [])) }
     ensures grows { Grows (K.written out.old) (K.written out.new) }
     ensures no_read { IsErrOf result Stop.Read → ⊥ }
     ensures cause { HasCause Stop.Write (K.faults out.old) (K.faults out.new) result }

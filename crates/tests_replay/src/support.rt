@@ -1,5 +1,5 @@
 // Commands over files in memory: their words, runs of them, and what they are to answer.
-ghost use Rattle.std.specs.Prelude.{◌≡◌, IfOk, ◌∷◌, [], Some};
+ghost use Rattle.std.specs.Prelude.{◌≡◌, IfOk, ◌∷◌, [], None, Some};
 ghost use Rattle.rules_text.specs.streams.Known.{content_in};
 
 use mich_base::{Bytes, Memory, Rows, Text, Texts};
@@ -191,6 +191,8 @@ pub(crate) struct SlowSink {
 
 impl Sink for SlowSink {
     ghost written = { λ s. Some s.inner.bytes };
+
+    ghost handed = { λ _. None };
 
     ghost faults = { λ s. s.inner.faults };
 

@@ -1,12 +1,12 @@
 // The adapters of the system over a real file and the real output; the calls that fail; a sink that cuts pieces short.
-ghost use Rattle.std.specs.Prelude.{◌≡◌, ◌∷◌, ◌≤◌, [], take, length, Some, IfOk, OnErr};
+ghost use Rattle.std.specs.Prelude.{◌≡◌, ◌∷◌, ◌≤◌, [], take, length, None, Some, IfOk, OnErr};
 ghost use Rattle.std.specs.Io.{WritesAtMost};
 ghost use Rattle.rules_text.specs.streams.Known.{content_in};
 
 use mich_base::{Bytes, Memory, Rows, Text, Texts};
 use mich_io::{
-    Files, FilesFault, HonestFiles, HonestSink, HostFiles, HostSink, MemFiles, MemSink, Sink,
-    SinkFault, write_all,
+    Files, FilesFault, HonestFiles, HonestSink, HostFiles, HostSink, MemFiles, MemSink, PieceSink,
+    Sink, SinkFault, write_all,
 };
 use std::alloc::Global;
 use std::fs;
@@ -132,6 +132,21 @@ fn an_honest_output(rt: HostRuntime) {
     assert!(rt; is_honest(rt.alloc()));
 }
 
+// Whether a line comes to a sink of pieces in one piece.
+fn is_one_piece(alloc: Global) -> bool {
+    let mut out = PieceSink::new(alloc);
+    let written = write_all(&mut out, b"one line\n").is_ok();
+    match out.pieces() {
+        [piece] => written && piece.as_slice() == b"one line\n".as_slice(),
+        _ => false,
+    }
+}
+
+#[test]
+fn a_line_is_one_piece(rt: HostRuntime) {
+    assert!(rt; is_one_piece(rt.alloc()));
+}
+
 // Takes one byte a write.
 #[derive(Drop)]
 struct SlowSink {
@@ -140,6 +155,8 @@ struct SlowSink {
 
 impl Sink for SlowSink {
     ghost written = { λ s. Some s.inner.bytes };
+
+    ghost handed = { λ _. None };
 
     ghost faults = { λ s. s.inner.faults };
 

@@ -3,8 +3,9 @@ use Rattle.std.proofs.lemmas.Result.{err_from_is_err_and}
 use Rattle.rules_files.specs.commands.Commands.{OnFile}
 use Rattle.mich_answers.specs.View.{answer_seen}
 use Rattle.mich_replay.specs.View.{whole_seen}
-use Rattle.mich_replay.proofs.Promise.{shown, nothing}
+use Rattle.mich_replay.proofs.Promise.{shown}
 use Rattle.mich_replay.proofs.Taken.{given_up}
+use Rattle.mich_replay.proofs.Written.{nothing}
 use Rattle.mich_replay.proofs.answer.answer_whole.Goals as goal
 
 pub returns-in_err-answer-clause-comes : goal.returns-in_err-answer-clause-comes

@@ -3,7 +3,8 @@ use Rattle.std.proofs.lemmas.Result.{err_from_is_err_and}
 use Rattle.rules_files.specs.commands.Answers.{usage_answer}
 use Rattle.rules_files.specs.commands.Commands.{NoCommand}
 use Rattle.rules_files.specs.commands.Lines.{usage_line}
-use Rattle.mich_replay.proofs.Promise.{shown, nothing, one_written, one_begun}
+use Rattle.mich_replay.proofs.Promise.{shown}
+use Rattle.mich_replay.proofs.Written.{nothing, one_written, one_begun}
 use Rattle.mich_replay.proofs.answer.usage.Goals as goal
 
 pub returns-in_err-line-clause-comes : goal.returns-in_err-line-clause-comes

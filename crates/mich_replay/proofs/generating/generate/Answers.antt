@@ -5,7 +5,7 @@ use Rattle.mich_group.specs.declared.course.course.Course.{Course}
 use Rattle.mich_replay.specs.Steps.{FollowsIf}
 use Rattle.mich_replay.proofs.Generated.{followed, generated}
 use Rattle.mich_replay.proofs.Happening.{came_new}
-use Rattle.mich_replay.proofs.Promise.{nothing}
+use Rattle.mich_replay.proofs.Written.{nothing}
 use Rattle.mich_replay.proofs.generating.generate.Goals as goal
 
 pub returns-in_err-session-clause-comes : goal.returns-in_err-session-clause-comes
@@ -48,3 +48,8 @@ returns-in-Some-clause-comes g c = λ content.
 
 pub returns-clause-comes : goal.returns-clause-comes
 returns-clause-comes g c = λ content other h. nothing _ _
+
+pub returns-in_err-text-clause-comes : goal.returns-in_err-text-clause-comes
+returns-in_err-text-clause-comes g c = λ content.
+    let p = err_from_is_err_and c.from_residual.result c.from_residual.ensures.1 in
+    rw p.1 (λ other h. nothing _ _)

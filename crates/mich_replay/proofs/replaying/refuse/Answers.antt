@@ -3,7 +3,7 @@ use Rattle.std.proofs.lemmas.Result.{err_from_is_err_and}
 use Rattle.std.specs.Prelude.{ℕ, List}
 use Rattle.rules_files.specs.commands.Lines.{refusal_line, file_fault_name}
 use Rattle.mich_replay.specs.View.{file_fault_seen}
-use Rattle.mich_replay.proofs.Promise.{nothing, one_written, one_begun}
+use Rattle.mich_replay.proofs.Written.{nothing, one_written, one_begun}
 use Rattle.mich_replay.proofs.replaying.refuse.Goals as goal
 
 pub returns-in_err-line-clause-closes : goal.returns-in_err-line-clause-closes

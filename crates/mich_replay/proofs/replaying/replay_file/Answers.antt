@@ -9,15 +9,17 @@ use Rattle.rules_text.specs.nodes.Limits.{file_limit}
 use Rattle.mich_replay.specs.Coming.{Pauses}
 use Rattle.rules_files.specs.commands.Replay.{RefusedAt, ending_of}
 use Rattle.mich_reader.specs.Held.{Held, fresh}
+use Rattle.mich_replay.specs.Output.{output}
 use Rattle.mich_replay.specs.Pace.{NoneIsClosedAt}
 use Rattle.mich_replay.specs.View.{file_fault_seen}
 use Rattle.mich_replay.specs.declared.replaying.Pause.{Pause}
 use Rattle.mich_replay.proofs.Happening.{told_fresh, told_cut, told_fed, piece_read}
 use Rattle.mich_replay.proofs.Closed.{none_first}
 use Rattle.mich_replay.proofs.Pace.{all_told, grows_closed, grows_nothing, grows_trans, no_three, no_three_err, not_started, one_behind}
-use Rattle.mich_replay.proofs.Promise.{nothing, whatever}
+use Rattle.mich_replay.proofs.Promise.{whatever}
 use Rattle.mich_replay.proofs.Replayed.{cut_comes, refused_comes, ended_comes}
 use Rattle.mich_replay.proofs.Taken.{same_again}
+use Rattle.mich_replay.proofs.Written.{nothing}
 use Rattle.mich_replay.proofs.replaying.replay_file.Goals as goal
 
 never : false ≡ true → ⊥
@@ -79,8 +81,8 @@ tell_groups-requires g c =
     let piece = c.split_at.result.0.now in
     let last = nat_eq c.in_ok-count.count 0 in
     let s = c.feed.new.self in
-    let before = g.K.Sink.written c.args.out.now in
-    let t = told_fed u.fed piece last before (g.K.Sink.written c.pieces.out) c.pieces.session.reader s.reader c.pieces.session.course s.course u.told
+    let before = (output (g.K.Sink.written c.args.out.now) (g.K.Sink.handed c.args.out.now)) in
+    let t = told_fed u.fed piece last before (output (g.K.Sink.written c.pieces.out) (g.K.Sink.handed c.pieces.out)) c.pieces.session.reader s.reader c.pieces.session.course s.course u.told
     (c.in_ok-feed.ensures u.fed u.told.receipts last u.told.came) in
     (u.fed ++ piece, before, t)
 
@@ -90,8 +92,8 @@ returns-in_err-tell_groups-clause-comes g c =
     let piece = c.split_at.result.0.now in
     let last = nat_eq c.in_ok-count.count 0 in
     let s = c.feed.new.self in
-    let before = g.K.Sink.written c.args.out.now in
-    let t = told_fed u.fed piece last before (g.K.Sink.written c.pieces.out) c.pieces.session.reader s.reader c.pieces.session.course s.course u.told
+    let before = (output (g.K.Sink.written c.args.out.now) (g.K.Sink.handed c.args.out.now)) in
+    let t = told_fed u.fed piece last before (output (g.K.Sink.written c.pieces.out) (g.K.Sink.handed c.pieces.out)) c.pieces.session.reader s.reader c.pieces.session.course s.course u.told
     (c.in_ok-feed.ensures u.fed u.told.receipts last u.told.came) in
     let content = g.F.Files.content c.args.files.now in
     let left = g.F.Files.left c.read.new.files in
@@ -99,7 +101,7 @@ returns-in_err-tell_groups-clause-comes g c =
     let room : 0 < length c.read.new.buf = search rules in
     let at_end = λ (e : last ≡ true). c.in_ok-count.ensures.bytes.1 (zero_of c.in_ok-count.count e) room in
     let p = err_from_is_err_and c.from_residual-in_err-tell_groups.result c.from_residual-in_err-tell_groups.ensures.1 in
-    rw p.1 (cut_comes content c.args.path.now (u.fed ++ piece) left last bytes at_end before (g.K.Sink.written c.tell_groups.new.out) p.0
+    rw p.1 (cut_comes content c.args.path.now (u.fed ++ piece) left last bytes at_end before (output (g.K.Sink.written c.tell_groups.new.out) (g.K.Sink.handed c.tell_groups.new.out)) p.0
     (c.in_err-tell_groups.ensures.told (u.fed ++ piece) before t))
 
 pub pieces-preserved : goal.pieces-preserved
@@ -108,15 +110,15 @@ pieces-preserved g c =
     let piece = c.split_at.result.0.now in
     let last = nat_eq c.in_ok-count.count 0 in
     let s = c.feed.new.self in
-    let before = g.K.Sink.written c.args.out.now in
-    let t = told_fed u.fed piece last before (g.K.Sink.written c.pieces.out) c.pieces.session.reader s.reader c.pieces.session.course s.course u.told
+    let before = (output (g.K.Sink.written c.args.out.now) (g.K.Sink.handed c.args.out.now)) in
+    let t = told_fed u.fed piece last before (output (g.K.Sink.written c.pieces.out) (g.K.Sink.handed c.pieces.out)) c.pieces.session.reader s.reader c.pieces.session.course s.course u.told
     (c.in_ok-feed.ensures u.fed u.told.receipts last u.told.came) in
     let content = g.F.Files.content c.args.files.now in
     let left = g.F.Files.left c.read.new.files in
     let bytes = piece_read (content c.args.path.now) (g.F.Files.left c.pieces.files) left u.fed piece (take c.in_ok-count.count c.read.new.buf) c.split_at.ensures.front u.bytes c.in_ok-count.ensures.bytes.0 in
     let room : 0 < length c.read.new.buf = search rules in
     let at_end = λ (e : last ≡ true). c.in_ok-count.ensures.bytes.1 (zero_of c.in_ok-count.count e) room in
-    let now = g.K.Sink.written c.tell_groups.new.out in
+    let now = (output (g.K.Sink.written c.tell_groups.new.out) (g.K.Sink.handed c.tell_groups.new.out)) in
     let after = c.tell_groups.new.session in
     let x = subst (λ (y : Pause). Pauses (u.fed ++ piece) last before now after.reader after.course (Ok y)) c.in-More.is (c.in_ok-tell_groups.ensures.told (u.fed ++ piece) before t) in
     let size : c.pieces.size + c.in_ok-count.count ≡ length (u.fed ++ piece) = omega (arith, u.size_is, length-append u.fed piece, c.split_at.ensures.front_len) in
@@ -140,10 +142,10 @@ pieces-smaller g c =
     let piece = c.split_at.result.0.now in
     let last = nat_eq c.in_ok-count.count 0 in
     let s = c.feed.new.self in
-    let before = g.K.Sink.written c.args.out.now in
-    let t = told_fed u.fed piece last before (g.K.Sink.written c.pieces.out) c.pieces.session.reader s.reader c.pieces.session.course s.course u.told
+    let before = (output (g.K.Sink.written c.args.out.now) (g.K.Sink.handed c.args.out.now)) in
+    let t = told_fed u.fed piece last before (output (g.K.Sink.written c.pieces.out) (g.K.Sink.handed c.pieces.out)) c.pieces.session.reader s.reader c.pieces.session.course s.course u.told
     (c.in_ok-feed.ensures u.fed u.told.receipts last u.told.came) in
-    let now = g.K.Sink.written c.tell_groups.new.out in
+    let now = (output (g.K.Sink.written c.tell_groups.new.out) (g.K.Sink.handed c.tell_groups.new.out)) in
     let after = c.tell_groups.new.session in
     let x = subst (λ (y : Pause). Pauses (u.fed ++ piece) last before now after.reader after.course (Ok y)) c.in-More.is (c.in_ok-tell_groups.ensures.told (u.fed ++ piece) before t) in
     let size : c.pieces.size + c.in_ok-count.count ≡ length (u.fed ++ piece) = omega (arith, u.size_is, length-append u.fed piece, c.split_at.ensures.front_len) in
@@ -155,10 +157,10 @@ end-requires g c =
     let piece = c.split_at.result.0.now in
     let last = nat_eq c.in_ok-count.count 0 in
     let s = c.feed.new.self in
-    let before = g.K.Sink.written c.args.out.now in
-    let t = told_fed u.fed piece last before (g.K.Sink.written c.pieces.out) c.pieces.session.reader s.reader c.pieces.session.course s.course u.told
+    let before = (output (g.K.Sink.written c.args.out.now) (g.K.Sink.handed c.args.out.now)) in
+    let t = told_fed u.fed piece last before (output (g.K.Sink.written c.pieces.out) (g.K.Sink.handed c.pieces.out)) c.pieces.session.reader s.reader c.pieces.session.course s.course u.told
     (c.in_ok-feed.ensures u.fed u.told.receipts last u.told.came) in
-    let now = g.K.Sink.written c.tell_groups.new.out in
+    let now = (output (g.K.Sink.written c.tell_groups.new.out) (g.K.Sink.handed c.tell_groups.new.out)) in
     let after = c.tell_groups.new.session in
     let x = subst (λ (y : Pause). Pauses (u.fed ++ piece) last before now after.reader after.course (Ok y)) c.in-End.is (c.in_ok-tell_groups.ensures.told (u.fed ++ piece) before t) in
     (x.0.came.plain, x.0.came.stands.follows)
@@ -169,19 +171,19 @@ returns-in-End-clause-comes g c =
     let piece = c.split_at.result.0.now in
     let last = nat_eq c.in_ok-count.count 0 in
     let s = c.feed.new.self in
-    let before = g.K.Sink.written c.args.out.now in
-    let t = told_fed u.fed piece last before (g.K.Sink.written c.pieces.out) c.pieces.session.reader s.reader c.pieces.session.course s.course u.told
+    let before = (output (g.K.Sink.written c.args.out.now) (g.K.Sink.handed c.args.out.now)) in
+    let t = told_fed u.fed piece last before (output (g.K.Sink.written c.pieces.out) (g.K.Sink.handed c.pieces.out)) c.pieces.session.reader s.reader c.pieces.session.course s.course u.told
     (c.in_ok-feed.ensures u.fed u.told.receipts last u.told.came) in
     let content = g.F.Files.content c.args.files.now in
     let left = g.F.Files.left c.read.new.files in
     let bytes = piece_read (content c.args.path.now) (g.F.Files.left c.pieces.files) left u.fed piece (take c.in_ok-count.count c.read.new.buf) c.split_at.ensures.front u.bytes c.in_ok-count.ensures.bytes.0 in
     let room : 0 < length c.read.new.buf = search rules in
     let at_end = λ (e : last ≡ true). c.in_ok-count.ensures.bytes.1 (zero_of c.in_ok-count.count e) room in
-    let now = g.K.Sink.written c.tell_groups.new.out in
+    let now = (output (g.K.Sink.written c.tell_groups.new.out) (g.K.Sink.handed c.tell_groups.new.out)) in
     let after = c.tell_groups.new.session in
     let x = subst (λ (y : Pause). Pauses (u.fed ++ piece) last before now after.reader after.course (Ok y)) c.in-End.is (c.in_ok-tell_groups.ensures.told (u.fed ++ piece) before t) in
     let size : c.pieces.size + c.in_ok-count.count ≡ length (u.fed ++ piece) = omega (arith, u.size_is, length-append u.fed piece, c.split_at.ensures.front_len) in
-    ended_comes content c.args.path.now (u.fed ++ piece) left last bytes at_end before now (g.K.Sink.written c.end.new.out) after.reader after.course (c.pieces.size + c.in_ok-count.count) c.end.result
+    ended_comes content c.args.path.now (u.fed ++ piece) left last bytes at_end before now (output (g.K.Sink.written c.end.new.out) (g.K.Sink.handed c.end.new.out)) after.reader after.course (c.pieces.size + c.in_ok-count.count) c.end.result
     x.1 size x.0 x.2 (c.end.ensures.closes x.0.came.plain x.0.came.stands.follows)
 
 pub returns-in-End-clause-end : goal.returns-in-End-clause-end
@@ -190,15 +192,15 @@ returns-in-End-clause-end g c =
     let piece = c.split_at.result.0.now in
     let last = nat_eq c.in_ok-count.count 0 in
     let s = c.feed.new.self in
-    let before = g.K.Sink.written c.args.out.now in
-    let t = told_fed u.fed piece last before (g.K.Sink.written c.pieces.out) c.pieces.session.reader s.reader c.pieces.session.course s.course u.told
+    let before = (output (g.K.Sink.written c.args.out.now) (g.K.Sink.handed c.args.out.now)) in
+    let t = told_fed u.fed piece last before (output (g.K.Sink.written c.pieces.out) (g.K.Sink.handed c.pieces.out)) c.pieces.session.reader s.reader c.pieces.session.course s.course u.told
     (c.in_ok-feed.ensures u.fed u.told.receipts last u.told.came) in
     let content = g.F.Files.content c.args.files.now in
     let left = g.F.Files.left c.read.new.files in
     let bytes = piece_read (content c.args.path.now) (g.F.Files.left c.pieces.files) left u.fed piece (take c.in_ok-count.count c.read.new.buf) c.split_at.ensures.front u.bytes c.in_ok-count.ensures.bytes.0 in
     let room : 0 < length c.read.new.buf = search rules in
     let at_end = λ (e : last ≡ true). c.in_ok-count.ensures.bytes.1 (zero_of c.in_ok-count.count e) room in
-    let now = g.K.Sink.written c.tell_groups.new.out in
+    let now = (output (g.K.Sink.written c.tell_groups.new.out) (g.K.Sink.handed c.tell_groups.new.out)) in
     let after = c.tell_groups.new.session in
     let x = subst (λ (y : Pause). Pauses (u.fed ++ piece) last before now after.reader after.course (Ok y)) c.in-End.is (c.in_ok-tell_groups.ensures.told (u.fed ++ piece) before t) in
     whatever (IsAtEnd left) c.end.result (at_end x.1)
@@ -209,18 +211,18 @@ returns-in-Refused-clause-comes g c =
     let piece = c.split_at.result.0.now in
     let last = nat_eq c.in_ok-count.count 0 in
     let s = c.feed.new.self in
-    let before = g.K.Sink.written c.args.out.now in
-    let t = told_fed u.fed piece last before (g.K.Sink.written c.pieces.out) c.pieces.session.reader s.reader c.pieces.session.course s.course u.told
+    let before = (output (g.K.Sink.written c.args.out.now) (g.K.Sink.handed c.args.out.now)) in
+    let t = told_fed u.fed piece last before (output (g.K.Sink.written c.pieces.out) (g.K.Sink.handed c.pieces.out)) c.pieces.session.reader s.reader c.pieces.session.course s.course u.told
     (c.in_ok-feed.ensures u.fed u.told.receipts last u.told.came) in
     let content = g.F.Files.content c.args.files.now in
     let left = g.F.Files.left c.read.new.files in
     let bytes = piece_read (content c.args.path.now) (g.F.Files.left c.pieces.files) left u.fed piece (take c.in_ok-count.count c.read.new.buf) c.split_at.ensures.front u.bytes c.in_ok-count.ensures.bytes.0 in
     let room : 0 < length c.read.new.buf = search rules in
     let at_end = λ (e : last ≡ true). c.in_ok-count.ensures.bytes.1 (zero_of c.in_ok-count.count e) room in
-    let now = g.K.Sink.written c.tell_groups.new.out in
+    let now = (output (g.K.Sink.written c.tell_groups.new.out) (g.K.Sink.handed c.tell_groups.new.out)) in
     let after = c.tell_groups.new.session in
     let x = subst (λ (y : Pause). Pauses (u.fed ++ piece) last before now after.reader after.course (Ok y)) c.in-Refused.is (c.in_ok-tell_groups.ensures.told (u.fed ++ piece) before t) in
-    refused_comes content c.args.path.now (u.fed ++ piece) left last bytes at_end before now (g.K.Sink.written c.refuse.new.out) x.0 (file_fault_seen c.in-Refused.fault) c.in-Refused.at c.refuse.result
+    refused_comes content c.args.path.now (u.fed ++ piece) left last bytes at_end before now (output (g.K.Sink.written c.refuse.new.out) (g.K.Sink.handed c.refuse.new.out)) x.0 (file_fault_seen c.in-Refused.fault) c.in-Refused.at c.refuse.result
     x.1 x.2 c.refuse.ensures.closes
 
 -- ---- what was written keeps step
@@ -234,7 +236,7 @@ returns-in_err-start-clause-pace g c =
 pub returns-in_err-session-clause-pace : goal.returns-in_err-session-clause-pace
 returns-in_err-session-clause-pace g c =
     let content = g.F.Files.content c.args.files.now c.args.path.now in
-    let a = g.K.Sink.written c.args.out.now in
+    let a = (output (g.K.Sink.written c.args.out.now) (g.K.Sink.handed c.args.out.now)) in
     all_told [] a a fresh None (told_fresh a fresh None refl refl) none_first (omega arith) content (g.F.Files.left c.args.files.now) (g.F.Files.left c.start.new.files) _
     (subst (λ (o : Option (List ℕ)). Consumes content o []) (sym c.in_ok-start.ensures.started) (Consumes-nil content))
 
@@ -244,7 +246,7 @@ returns-in_err-count-clause-pace g c =
     let within : length u.fed ≤ file_limit = omega (arith, u.size_is, u.short) in
     let content = g.F.Files.content c.args.files.now c.args.path.now in
     let left = g.F.Files.left c.read.new.files in
-    all_told u.fed (g.K.Sink.written c.args.out.now) (g.K.Sink.written c.pieces.out) c.pieces.session.reader c.pieces.session.course u.told u.all within content (g.F.Files.left c.args.files.now) left _
+    all_told u.fed (output (g.K.Sink.written c.args.out.now) (g.K.Sink.handed c.args.out.now)) (output (g.K.Sink.written c.pieces.out) (g.K.Sink.handed c.pieces.out)) c.pieces.session.reader c.pieces.session.course u.told u.all within content (g.F.Files.left c.args.files.now) left _
     (Consumes-kept content (g.F.Files.left c.pieces.files) left u.fed u.bytes c.in_err-count.ensures.bytes)
 
 pub returns-in_err-feed-clause-pace : goal.returns-in_err-feed-clause-pace
@@ -258,8 +260,8 @@ returns-in_err-feed-clause-pace g c =
     let room : length c.read.new.buf ≡ 65536 = search rules in
     let short : length piece ≤ 65536 = omega (arith, c.split_at.ensures.front_len, c.in_ok-count.ensures.bound, room) in
     let p = err_from_is_err_and c.from_residual-in_err-feed.result c.from_residual-in_err-feed.ensures.1 in
-    rw (p.1, p.2) (one_behind u.fed (g.K.Sink.written c.args.out.now) (g.K.Sink.written c.pieces.out) c.pieces.session.reader c.pieces.session.course u.told u.all within content
-    (g.F.Files.left c.args.files.now) left (g.K.Sink.written c.pieces.out) piece 5 bytes short (grows_nothing _) (λ e. absurd (omega (arith, e))))
+    rw (p.1, p.2) (one_behind u.fed (output (g.K.Sink.written c.args.out.now) (g.K.Sink.handed c.args.out.now)) (output (g.K.Sink.written c.pieces.out) (g.K.Sink.handed c.pieces.out)) c.pieces.session.reader c.pieces.session.course u.told u.all within content
+    (g.F.Files.left c.args.files.now) left (output (g.K.Sink.written c.pieces.out) (g.K.Sink.handed c.pieces.out)) piece 5 bytes short (grows_nothing _) (λ e. absurd (omega (arith, e))))
 
 pub returns-in_err-tell_groups-clause-pace : goal.returns-in_err-tell_groups-clause-pace
 returns-in_err-tell_groups-clause-pace g c =
@@ -272,8 +274,8 @@ returns-in_err-tell_groups-clause-pace g c =
     let room : length c.read.new.buf ≡ 65536 = search rules in
     let short : length piece ≤ 65536 = omega (arith, c.split_at.ensures.front_len, c.in_ok-count.ensures.bound, room) in
     let p = err_from_is_err_and c.from_residual-in_err-tell_groups.result c.from_residual-in_err-tell_groups.ensures.1 in
-    rw (p.1, p.2) (one_behind u.fed (g.K.Sink.written c.args.out.now) (g.K.Sink.written c.pieces.out) c.pieces.session.reader c.pieces.session.course u.told u.all within content
-    (g.F.Files.left c.args.files.now) left (g.K.Sink.written c.tell_groups.new.out) piece _ bytes short c.tell_groups.ensures.grows
+    rw (p.1, p.2) (one_behind u.fed (output (g.K.Sink.written c.args.out.now) (g.K.Sink.handed c.args.out.now)) (output (g.K.Sink.written c.pieces.out) (g.K.Sink.handed c.pieces.out)) c.pieces.session.reader c.pieces.session.course u.told u.all within content
+    (g.F.Files.left c.args.files.now) left (output (g.K.Sink.written c.tell_groups.new.out) (g.K.Sink.handed c.tell_groups.new.out)) piece _ bytes short c.tell_groups.ensures.grows
     (no_three_err c.in_err-tell_groups.field-0.0 (λ e. c.in_err-tell_groups.ensures.no_read (ap Err e))))
 
 pub returns-in-End-clause-pace : goal.returns-in-End-clause-pace
@@ -288,16 +290,16 @@ returns-in-End-clause-pace g c =
     let short : length piece ≤ 65536 = omega (arith, c.split_at.ensures.front_len, c.in_ok-count.ensures.bound, room) in
     let last = nat_eq c.in_ok-count.count 0 in
     let s = c.feed.new.self in
-    let before = g.K.Sink.written c.args.out.now in
-    let t = told_fed u.fed piece last before (g.K.Sink.written c.pieces.out) c.pieces.session.reader s.reader c.pieces.session.course s.course u.told
+    let before = (output (g.K.Sink.written c.args.out.now) (g.K.Sink.handed c.args.out.now)) in
+    let t = told_fed u.fed piece last before (output (g.K.Sink.written c.pieces.out) (g.K.Sink.handed c.pieces.out)) c.pieces.session.reader s.reader c.pieces.session.course s.course u.told
     (c.in_ok-feed.ensures u.fed u.told.receipts last u.told.came) in
-    let now = g.K.Sink.written c.tell_groups.new.out in
+    let now = (output (g.K.Sink.written c.tell_groups.new.out) (g.K.Sink.handed c.tell_groups.new.out)) in
     let after = c.tell_groups.new.session in
     let x = subst (λ (y : Pause). Pauses (u.fed ++ piece) last before now after.reader after.course (Ok y)) c.in-End.is (c.in_ok-tell_groups.ensures.told (u.fed ++ piece) before t) in
     let ending = ending_of (c.pieces.size + c.in_ok-count.count) x.0.came.plain in
     let closes = c.end.ensures.closes x.0.came.plain x.0.came.stands.follows in
-    one_behind u.fed before (g.K.Sink.written c.pieces.out) c.pieces.session.reader c.pieces.session.course u.told u.all within content (g.F.Files.left c.args.files.now) left
-    (g.K.Sink.written c.end.new.out) piece _ bytes short (grows_trans _ _ _ c.tell_groups.ensures.grows (grows_closed _ _ ending c.end.result closes))
+    one_behind u.fed before (output (g.K.Sink.written c.pieces.out) (g.K.Sink.handed c.pieces.out)) c.pieces.session.reader c.pieces.session.course u.told u.all within content (g.F.Files.left c.args.files.now) left
+    (output (g.K.Sink.written c.end.new.out) (g.K.Sink.handed c.end.new.out)) piece _ bytes short (grows_trans _ _ _ c.tell_groups.ensures.grows (grows_closed _ _ ending c.end.result closes))
     (no_three _ _ ending c.end.result closes c.end.ensures.no_read)
 
 pub returns-in-Refused-clause-pace : goal.returns-in-Refused-clause-pace
@@ -311,7 +313,7 @@ returns-in-Refused-clause-pace g c =
     let room : length c.read.new.buf ≡ 65536 = search rules in
     let short : length piece ≤ 65536 = omega (arith, c.split_at.ensures.front_len, c.in_ok-count.ensures.bound, room) in
     let ending = RefusedAt (file_fault_seen c.in-Refused.fault) c.in-Refused.at in
-    one_behind u.fed (g.K.Sink.written c.args.out.now) (g.K.Sink.written c.pieces.out) c.pieces.session.reader c.pieces.session.course u.told u.all within content
-    (g.F.Files.left c.args.files.now) left (g.K.Sink.written c.refuse.new.out) piece _ bytes short
+    one_behind u.fed (output (g.K.Sink.written c.args.out.now) (g.K.Sink.handed c.args.out.now)) (output (g.K.Sink.written c.pieces.out) (g.K.Sink.handed c.pieces.out)) c.pieces.session.reader c.pieces.session.course u.told u.all within content
+    (g.F.Files.left c.args.files.now) left (output (g.K.Sink.written c.refuse.new.out) (g.K.Sink.handed c.refuse.new.out)) piece _ bytes short
     (grows_trans _ _ _ c.tell_groups.ensures.grows (grows_closed _ _ ending c.refuse.result c.refuse.ensures.closes))
     (no_three _ _ ending c.refuse.result c.refuse.ensures.closes c.refuse.ensures.no_read)

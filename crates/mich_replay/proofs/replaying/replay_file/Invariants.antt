@@ -2,6 +2,7 @@ use Rattle.std.proofs.Common.{◌≤◌, ◌-◌}
 use Rattle.rules_text.specs.nodes.Limits.{file_limit}
 use Rattle.rules_text.specs.streams.Known.{SameFiles}
 use Rattle.mich_replay.specs.Coming.{IsUnderway}
+use Rattle.mich_replay.specs.Output.{output}
 use Rattle.mich_replay.proofs.replaying.replay_file.Given as goal
 
 abbrev pub invariant-pieces : goal.invariant-pieces
@@ -12,7 +13,7 @@ invariant-pieces g l =
       reads : files.faults l.fn.files ≤ files.faults l.files;
       writes : sink.faults l.fn.out ≤ sink.faults l.out;
       same : SameFiles (files.lent l.fn.files) (files.lent l.files) (files.content l.fn.files) (files.content l.files);
-      underway : IsUnderway (files.content l.fn.files l.path) (files.left l.files) (sink.written l.fn.out) (sink.written l.out) l.session.reader l.session.course l.size;
+      underway : IsUnderway (files.content l.fn.files l.path) (files.left l.files) (output (sink.written l.fn.out) (sink.handed l.fn.out)) (output (sink.written l.out) (sink.handed l.out)) l.session.reader l.session.course l.size;
     }
 
 abbrev pub decreases-pieces : goal.decreases-pieces

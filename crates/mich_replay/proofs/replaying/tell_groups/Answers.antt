@@ -2,6 +2,7 @@ use Rattle.std.proofs.Common.{Ok, subst, arith}
 use Rattle.std.specs.declared.option.Option.{Option}
 use Rattle.std.proofs.lemmas.Result.{err_from_is_err_and}
 use Rattle.mich_replay.specs.Coming.{Turns}
+use Rattle.mich_replay.specs.Output.{output}
 use Rattle.mich_replay.specs.declared.replaying.Pause.{Pause}
 use Rattle.mich_replay.proofs.Happening.{told_cut}
 use Rattle.mich_replay.proofs.Pace.{grows_nothing, grows_trans}
@@ -40,7 +41,7 @@ pub returns-in-Some-clause-told : goal.returns-in-Some-clause-told
 returns-in-Some-clause-told g c = λ fed before h.
     let t = c.told.invariant.told fed before h in
     let s = c.next.new.self in
-    subst (λ (o : Option Pause). Turns fed c.args.last before (g.K.Sink.written c.tell.new.out) c.told.session.reader.place s.reader s.course (Ok o)) c.in-Some.is
+    subst (λ (o : Option Pause). Turns fed c.args.last before (output (g.K.Sink.written c.tell.new.out) (g.K.Sink.handed c.tell.new.out)) c.told.session.reader.place s.reader s.course (Ok o)) c.in-Some.is
     (c.in_ok-turn.ensures.told fed c.args.last t.receipts c.told.session.reader.place s.reader before (c.in_ok-event.ensures fed t.receipts t.came) t.lines)
 
 pub told-preserved : goal.told-preserved
@@ -49,7 +50,7 @@ told-preserved g c = record {
   told = λ fed before h.
       let t = c.told.invariant.told fed before h in
       let s = c.next.new.self in
-      (subst (λ (o : Option Pause). Turns fed c.args.last before (g.K.Sink.written c.tell.new.out) c.told.session.reader.place s.reader s.course (Ok o)) c.in-None.is
+      (subst (λ (o : Option Pause). Turns fed c.args.last before (output (g.K.Sink.written c.tell.new.out) (g.K.Sink.handed c.tell.new.out)) c.told.session.reader.place s.reader s.course (Ok o)) c.in-None.is
       (c.in_ok-turn.ensures.told fed c.args.last t.receipts c.told.session.reader.place s.reader before (c.in_ok-event.ensures fed t.receipts t.came) t.lines)).0;
   grows = grows_trans _ _ _ c.told.invariant.grows c.tell.ensures.grows;
 }
@@ -59,6 +60,6 @@ told-smaller g c =
     let q = c.requires in
     let t = c.told.invariant.told q.0 q.1 q.2 in
     let s = c.next.new.self in
-    let x = subst (λ (o : Option Pause). Turns q.0 c.args.last q.1 (g.K.Sink.written c.tell.new.out) c.told.session.reader.place s.reader s.course (Ok o)) c.in-None.is
+    let x = subst (λ (o : Option Pause). Turns q.0 c.args.last q.1 (output (g.K.Sink.written c.tell.new.out) (g.K.Sink.handed c.tell.new.out)) c.told.session.reader.place s.reader s.course (Ok o)) c.in-None.is
     (c.in_ok-turn.ensures.told q.0 c.args.last t.receipts c.told.session.reader.place s.reader q.1 (c.in_ok-event.ensures q.0 t.receipts t.came) t.lines) in
     omega (arith, x.1, x.0.came.reads.short)

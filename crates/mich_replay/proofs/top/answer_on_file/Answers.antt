@@ -1,4 +1,7 @@
-use Rattle.std.proofs.Common.{sym, ap, ◌∙◌}
+use Rattle.std.proofs.Common.{sym, ap, ◌∙◌, subst}
+use Rattle.rules_files.specs.commands.Commands.{OnFile}
+use Rattle.mich_replay.specs.Coming.{Comes}
+use Rattle.mich_replay.specs.Output.{output}
 use Rattle.mich_replay.specs.View.{verb_seen}
 use Rattle.mich_replay.proofs.Pace.{whole_reads}
 use Rattle.mich_replay.proofs.Taken.{paced_taken}
@@ -9,3 +12,13 @@ returns-in-Whole-clause-pace g c = λ e. absurd (whole_reads c.in-Whole.verb (sy
 
 pub returns-in-Replay-clause-taken : goal.returns-in-Replay-clause-taken
 returns-in-Replay-clause-taken g c = paced_taken _ _ _ _ _ _ c.replay_file.ensures.pace
+
+pub returns-in-Replay-clause-comes : goal.returns-in-Replay-clause-comes
+returns-in-Replay-clause-comes g c =
+    subst (λ v. Comes (OnFile (verb_seen v) c.args.path.now) (g.F.Files.content c.args.files.now) (output (g.K.Sink.written c.args.out.now) (g.K.Sink.handed c.args.out.now))
+    (output (g.K.Sink.written c.replay_file.new.out) (g.K.Sink.handed c.replay_file.new.out)) c.replay_file.result) (sym c.in-Replay.is) c.replay_file.ensures.comes
+
+pub returns-in-Whole-clause-comes : goal.returns-in-Whole-clause-comes
+returns-in-Whole-clause-comes g c =
+    subst (λ v. Comes (OnFile (verb_seen v) c.args.path.now) (g.F.Files.content c.args.files.now) (output (g.K.Sink.written c.args.out.now) (g.K.Sink.handed c.args.out.now))
+    (output (g.K.Sink.written c.answer_whole.new.out) (g.K.Sink.handed c.answer_whole.new.out)) c.answer_whole.result) (sym c.in-Whole.is) c.answer_whole.ensures.comes

@@ -1,6 +1,7 @@
 use Rattle.std.proofs.Common.{ℕ, List, Contains, refl, sym, ap, ◌∙◌, subst, arith}
 use Rattle.rules_files.specs.commands.Commands.{Command, command_of}
 use Rattle.mich_replay.specs.Coming.{Comes}
+use Rattle.mich_replay.specs.Output.{output}
 use Rattle.mich_replay.specs.Pace.{WritesAsItReads}
 use Rattle.mich_replay.specs.Taken.{TakesFile}
 use Rattle.mich_replay.specs.View.{status_in, verb_seen}
@@ -16,7 +17,7 @@ answer_on_file-requires g c =
 
 pub returns-in-OnFile-clause-comes : goal.returns-in-OnFile-clause-comes
 returns-in-OnFile-clause-comes g c =
-    subst (λ (x : Command). Comes x (g.F.Files.content c.args.files.now) (g.K.Sink.written c.args.out.now) (g.K.Sink.written c.answer_on_file.new.out) c.answer_on_file.result)
+    subst (λ (x : Command). Comes x (g.F.Files.content c.args.files.now) (output (g.K.Sink.written c.args.out.now) (g.K.Sink.handed c.args.out.now)) (output (g.K.Sink.written c.answer_on_file.new.out) (g.K.Sink.handed c.answer_on_file.new.out)) c.answer_on_file.result)
     (c.in-OnFile.ensures.seen ∙ ap command_of c.as_slice.ensures) c.answer_on_file.ensures.comes
 
 pub returns-in-OnFile-clause-pace : goal.returns-in-OnFile-clause-pace
@@ -33,12 +34,12 @@ returns-in-Generate-clause-pace g c = λ path e. absurd (no_workload c.in-Genera
 
 pub returns-in-NoCommand-clause-comes : goal.returns-in-NoCommand-clause-comes
 returns-in-NoCommand-clause-comes g c =
-    subst (λ (x : Command). Comes x (g.F.Files.content c.args.files.now) (g.K.Sink.written c.args.out.now) (g.K.Sink.written c.usage.new.out) c.usage.result)
+    subst (λ (x : Command). Comes x (g.F.Files.content c.args.files.now) (output (g.K.Sink.written c.args.out.now) (g.K.Sink.handed c.args.out.now)) (output (g.K.Sink.written c.usage.new.out) (g.K.Sink.handed c.usage.new.out)) c.usage.result)
     (c.in-NoCommand.ensures.seen ∙ ap command_of c.as_slice.ensures) (c.usage.ensures.comes (g.F.Files.content c.args.files.now))
 
 pub returns-in-Generate-clause-comes : goal.returns-in-Generate-clause-comes
 returns-in-Generate-clause-comes g c =
-    subst (λ (x : Command). Comes x (g.F.Files.content c.args.files.now) (g.K.Sink.written c.args.out.now) (g.K.Sink.written c.generate.new.out) c.generate.result)
+    subst (λ (x : Command). Comes x (g.F.Files.content c.args.files.now) (output (g.K.Sink.written c.args.out.now) (g.K.Sink.handed c.args.out.now)) (output (g.K.Sink.written c.generate.new.out) (g.K.Sink.handed c.generate.new.out)) c.generate.result)
     (c.in-Generate.ensures.seen ∙ ap command_of c.as_slice.ensures) (c.generate.ensures.comes (g.F.Files.content c.args.files.now))
 
 -- ---- what was taken

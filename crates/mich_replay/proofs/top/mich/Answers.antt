@@ -1,6 +1,6 @@
 use Rattle.std.proofs.Common.{Err, ap, arith}
 use Rattle.mich_replay.specs.declared.stop.Stop.TheVariants as stop
-use Rattle.mich_replay.proofs.Promise.{meets, gives_up}
+use Rattle.mich_replay.proofs.Promise.{meets, gives_up, hands, hands_front}
 use Rattle.mich_replay.proofs.top.mich.Goals as goal
 
 pub returns-in-Ok-clause-meets : goal.returns-in-Ok-clause-meets
@@ -48,3 +48,17 @@ returns-in-Err-Write-clause-taken g c = rw c.in-Err-Write.field-0-is at c.in-Err
 
 pub returns-in-Err-Memory-clause-taken : goal.returns-in-Err-Memory-clause-taken
 returns-in-Err-Memory-clause-taken g c = rw c.in-Err-Memory.field-0-is at c.in-Err-Memory.ensures.taken
+
+-- ---- each line is handed over whole
+
+pub returns-in-Ok-clause-lines : goal.returns-in-Ok-clause-lines
+returns-in-Ok-clause-lines g c = hands c.args.words.now _ _ _ c.in-Ok.status c.in-Ok.ensures.comes
+
+pub returns-in-Err-Read-clause-lines : goal.returns-in-Err-Read-clause-lines
+returns-in-Err-Read-clause-lines g c = hands_front c.args.words.now _ _ _ 3 stop.Read (omega arith) c.in-Err-Read.ensures.comes
+
+pub returns-in-Err-Write-clause-lines : goal.returns-in-Err-Write-clause-lines
+returns-in-Err-Write-clause-lines g c = hands_front c.args.words.now _ _ _ 4 stop.Write (omega arith) c.in-Err-Write.ensures.comes
+
+pub returns-in-Err-Memory-clause-lines : goal.returns-in-Err-Memory-clause-lines
+returns-in-Err-Memory-clause-lines g c = hands_front c.args.words.now _ _ _ 5 stop.Memory (omega arith) c.in-Err-Memory.ensures.comes

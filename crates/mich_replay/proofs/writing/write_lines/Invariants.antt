@@ -1,6 +1,5 @@
 use Rattle.std.proofs.Common.{◌≤◌, take}
-use Rattle.std.specs.Io.KnownBytes.{Appends}
-use Rattle.rules_files.specs.commands.Lines.{text_of}
+use Rattle.mich_replay.specs.Output.{Writes, output}
 use Rattle.mich_replay.proofs.writing.write_lines.Given as goal
 
 abbrev pub invariant-lines : goal.invariant-lines
@@ -8,5 +7,5 @@ invariant-lines g l =
     let sink = g.K.Sink in
     record {
       later : sink.faults l.fn.out ≤ sink.faults l.out;
-      bytes : Appends (sink.written l.fn.out) (sink.written l.out) (text_of (take l.line-index l.lines));
+      written : Writes (output (sink.written l.fn.out) (sink.handed l.fn.out)) (output (sink.written l.out) (sink.handed l.out)) (take l.line-index l.lines);
     }
