@@ -136,16 +136,16 @@ changes_next cs ds c a b d e p q =
     subst (λ (x : List ℕ). Notes x a d) (sym n) (notes_append (changes_name (map named_change cs)) (named_there (option_map names c.1)) a b d p q)
 
 -- what a big map names
-pub opened_names : (shares : Bool) (base : Option ℕ) (cs : Changes)
-    → big_names_step (map-BigMap Value BigMap (List ℕ) (List ℕ) names big_names (opened shares base cs)) ≡ with_over base [] ++ changes_name (map named_change cs)
-opened_names shares base cs = ap (λ t. with_over base [] ++ t) (go cs)
+pub opened_names : (base : Option ℕ) (cs : Changes)
+    → big_names_step (map-BigMap Value BigMap (List ℕ) (List ℕ) names big_names (opened base cs)) ≡ with_over base [] ++ changes_name (map named_change cs)
+opened_names base cs = ap (λ t. with_over base [] ++ t) (go cs)
   where
-    go : (es : Changes) → changes_name (map-BigMap Value BigMap (List ℕ) (List ℕ) names big_names (opened shares base es)).overlay ≡ changes_name (map named_change es)
+    go : (es : Changes) → changes_name (map-BigMap Value BigMap (List ℕ) (List ℕ) names big_names (opened base es)).overlay ≡ changes_name (map named_change es)
     go [] = refl
     go (e ∷ es) = by_case e.1 (go es)
       where
-        by_case : (o : Option Value) → changes_name (map-BigMap Value BigMap (List ℕ) (List ℕ) names big_names (opened shares base es)).overlay ≡ changes_name (map named_change es)
-            → changes_name (map-BigMap Value BigMap (List ℕ) (List ℕ) names big_names (opened shares base ((e.0, o) ∷ es))).overlay ≡ changes_name (map named_change ((e.0, o) ∷ es))
+        by_case : (o : Option Value) → changes_name (map-BigMap Value BigMap (List ℕ) (List ℕ) names big_names (opened base es)).overlay ≡ changes_name (map named_change es)
+            → changes_name (map-BigMap Value BigMap (List ℕ) (List ℕ) names big_names (opened base ((e.0, o) ∷ es))).overlay ≡ changes_name (map named_change ((e.0, o) ∷ es))
         by_case None later = later
         by_case (Some v) later = ap (λ t. names v ++ t) later
 

@@ -2,7 +2,7 @@ pub mod Below
 pub mod BigMaps
 pub mod Distinct
 pub mod Extending
-pub mod Holding
+pub mod FlatParts
 pub mod Journal
 pub mod Kept
 pub mod Keys
@@ -16,6 +16,7 @@ pub mod Putting
 pub mod Reaching
 pub mod Remaining
 pub mod Settled
+pub mod Sharing
 pub mod Standing
 pub mod Staying
 pub mod Weaving

@@ -106,12 +106,12 @@ module _ (G : Option ℕ → Type 0) (none : G None) where
   abbrev low_change : Datum × Option With → Datum × Option Value
   low_change c = (c.0, option_map (λ p. p.0) c.1)
 
-  low_is : (shares : Bool) (base : Option ℕ) (zs : List (Datum × Option With)) → (low_big (record { shares = shares; base = base; overlay = zs })).overlay ≡ map low_change zs
-  low_is shares base [] = refl
-  low_is shares base (z ∷ zs) = by_case z.1 (low_is shares base zs)
+  low_is : (base : Option ℕ) (zs : List (Datum × Option With)) → (low_big (record { base = base; overlay = zs })).overlay ≡ map low_change zs
+  low_is base [] = refl
+  low_is base (z ∷ zs) = by_case z.1 (low_is base zs)
     where
-      by_case : (o : Option With) → (low_big (record { shares = shares; base = base; overlay = zs })).overlay ≡ map low_change zs →
-          (low_big (record { shares = shares; base = base; overlay = (z.0, o) ∷ zs })).overlay ≡ low_change (z.0, o) ∷ map low_change zs
+      by_case : (o : Option With) → (low_big (record { base = base; overlay = zs })).overlay ≡ map low_change zs →
+          (low_big (record { base = base; overlay = (z.0, o) ∷ zs })).overlay ≡ low_change (z.0, o) ∷ map low_change zs
       by_case None later = ap (λ t. (z.0, None) ∷ t) later
       by_case (Some x) later = ap (λ t. (z.0, Some x.0) ∷ t) later
 
@@ -130,10 +130,10 @@ module _ (G : Option ℕ → Type 0) (none : G None) where
   level_big z h =
       let l = low_big z in
       let b = roll-BigMap l in
-      let is : l.overlay ≡ map low_change z.overlay = low_is z.shares z.base z.overlay in
+      let is : l.overlay ≡ map low_change z.overlay = low_is z.base z.overlay in
       let out : (out-BigMap b).overlay ≡ map low_change z.overlay = ap (λ t. t.overlay) (out-roll-BigMap l) ∙ is in
       let all : EachNamed (with_over l.base [] ++ changes_name (map named_change l.overlay)) =
-      subst EachNamed (fold-roll-BigMap (List ℕ) (List ℕ) names_step big_names_step l ∙ opened_names l.shares l.base l.overlay) h in
+      subst EachNamed (fold-roll-BigMap (List ℕ) (List ℕ) names_step big_names_step l ∙ opened_names l.base l.overlay) h in
       let changes : EachNamed (changes_name (map named_change (map low_change z.overlay))) =
       subst (λ (cs : List (Datum × Option Value)). EachNamed (changes_name (map named_change cs))) is (second_of (with_over l.base []) (changes_name (map named_change l.overlay)) all) in
       let base : G l.base = base_of l.base (first_of (with_over l.base []) (changes_name (map named_change l.overlay)) all) in

@@ -1,5 +1,5 @@
 -- Big maps whose values hold no big map, and the tickets in values over a store that holds none.
-use Rattle.std.proofs.Common.{◌≡◌, ℕ, Bool, true, false, List, [], ◌∷◌, ◌++◌, Some, None, refl, sym, ap, ◌∙◌, subst}
+use Rattle.std.proofs.Common.{◌≡◌, ℕ, true, false, List, [], ◌∷◌, ◌++◌, Some, None, refl, sym, ap, ◌∙◌, subst}
 use Rattle.std.specs.Prelude.{option_map, is_some, if◌then◌else◌, ◌==◌}
 use Rattle.std.specs.declared.option.Option.{Option}
 use Rattle.std.specs.declared.cmp.Ordering.TheVariants.{Less, Equal, Greater}
@@ -112,20 +112,19 @@ none_in_store (b ∷ bs) (Some k) h =
       | false ↦ none_in_store bs (Some k) h.1
     ])
 
-big_tickets_by : (bs : Bases) (b : BigMap) (s : Bool) → HoldNoTickets bs → FormedLayer (out-BigMap b) → (out-BigMap b).shares ≡ s →
+big_tickets_by : (bs : Bases) (b : BigMap) (o : Option ℕ) → HoldNoTickets bs → FormedLayer (out-BigMap b) → (out-BigMap b).base ≡ o →
     pair_tickets (big_in bs b) ≡ pair_tickets (put_pairs (out-BigMap b).overlay)
-big_tickets_by bs b true h f s =
-    let none = f.ticketless s in
+big_tickets_by bs b (Some k) h f s =
+    let none = f.ticketless (ap is_some s) in
     none_changed (out-BigMap b).overlay (entries_in bs (out-BigMap b).base) none (none_in_store bs (out-BigMap b).base h) ∙ sym none
-big_tickets_by bs b false h f s =
-    let base = f.alone s in
-    ap (λ ps. pair_tickets (changed (seen (out-BigMap b).overlay) ps)) (ap (entries_in bs) base ∙ none_in bs)
-    ∙ ap pair_tickets (alone_is (out-BigMap b).overlay (f.puts base) f.keys)
+big_tickets_by bs b None h f s =
+    ap (λ ps. pair_tickets (changed (seen (out-BigMap b).overlay) ps)) (ap (entries_in bs) s ∙ none_in bs)
+    ∙ ap pair_tickets (alone_is (out-BigMap b).overlay (f.puts s) f.keys)
 
 -- the tickets of a big map are those that its overlay puts
 pub big_tickets : (bs : Bases) (b : BigMap) → HoldNoTickets bs → FormedLayer (out-BigMap b) → pair_tickets (big_val_in bs b) ≡ pair_tickets (big_pairs b)
 big_tickets bs b h f =
-    ap pair_tickets (big_val_is bs b f) ∙ big_tickets_by bs b (out-BigMap b).shares h f refl ∙ ap pair_tickets (sym (big_is b))
+    ap pair_tickets (big_val_is bs b f) ∙ big_tickets_by bs b (out-BigMap b).base h f refl ∙ ap pair_tickets (sym (big_is b))
 
 same_tickets : AreAlike (λ v w. tickets v ≡ tickets w) (λ v w. all_tickets v ≡ all_tickets w) (λ v w. pair_tickets v ≡ pair_tickets w)
 same_tickets = record {

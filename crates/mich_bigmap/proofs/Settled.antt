@@ -10,7 +10,8 @@ use Rattle.mich_term.specs.View.{vals_of, pairs_of}
 use Rattle.mich_base.specs.declared.node.Node.{Node}
 use Rattle.mich_term.specs.declared.datum.Datum.{Datum}
 use Rattle.mich_term.specs.declared.ticket.Ticket.{Ticket}
-use Rattle.mich_term.specs.ValueView.{value_step, put_pairs}
+use Rattle.mich_term.specs.Holding.{any_entry_carries}
+use Rattle.mich_term.specs.ValueView.{value_step, big_pairs, put_pairs}
 use Rattle.mich_term.specs.declared.value.Value.{Value, roll-Value, fold-roll-Value, map-Value}
 use Rattle.mich_term.specs.declared.value.Value.TheVariants.{rolls-Some, rolls-Left, rolls-Right, rolls-Pair, rolls-List, rolls-Map, rolls-BigMap}
 use Rattle.mich_term.specs.declared.value.Value.TheOpen.{Value-F, BigMap-F}
@@ -21,13 +22,13 @@ use Rattle.mich_bigmap.specs.Extended.{Extends}
 use Rattle.mich_bigmap.specs.Formed.{IsFormed, HasBase}
 use Rattle.mich_bigmap.specs.Settled.{IsSettled}
 use Rattle.rules_data.specs.values.Tickets.{pair_tickets}
-use mathlib.Core.Bool.{true≢false}
 use Rattle.mich_term.specs.Layers.{AreFormed, NoBigMap, PutsNoBigMap, FormedLayer}
-use Rattle.mich_bigmap.specs.Layers.{AreSettled, HasBases, SettledLayer, BasedLayer}
+use Rattle.mich_bigmap.specs.Layers.{HasBases, BasedLayer}
 use Rattle.mich_bigmap.specs.Standing.{val_in, entry_in, big_val_in, big_step_in}
 use Rattle.mich_bigmap.specs.Stored.{Stored}
+use Rattle.mich_bigmap.specs.Ticketless.{PutNoTickets}
 use Rattle.mich_bigmap.specs.Settling.{Settles, SettlesAll, SettlesEntries, SettlesBig, Lays}
-use Rattle.mich_term.proofs.ForCallers.{with_last, by_lawful}
+use Rattle.mich_term.proofs.ForCallers.{big_is, by_lawful, none_in_entries, with_last}
 use Rattle.mich_term.proofs.ForCallers.Each as e
 use Rattle.mich_bigmap.proofs.Extending.{extends_same}
 use Rattle.mich_bigmap.proofs.Plain.{big_val_is}
@@ -56,10 +57,10 @@ lays_trans r s t p q = record {
 }
 
 pub settles_later : (a b c : Bases) (x y : Value) → Settles a b x y → Extends b c → Settles a c x y
-settles_later a b c x y s p = record { same = val_later b c y p s.based ∙ s.same; settled = s.settled; based = based_later b c y p s.based }
+settles_later a b c x y s p = record { same = val_later b c y p s.based ∙ s.same; formed = s.formed; based = based_later b c y p s.based }
 
 pub settles_before : (a b c : Bases) (x y : Value) → HasBases a x → Extends a b → Settles b c x y → Settles a c x y
-settles_before a b c x y h p s = record { same = s.same ∙ val_later a b x p h; settled = s.settled; based = s.based }
+settles_before a b c x y h p s = record { same = s.same ∙ val_later a b x p h; formed = s.formed; based = s.based }
 
 pub settles_from : (a b : Bases) (x y z : Value) → x ≡ y → Settles a b y z → Settles a b x z
 settles_from a b x y z h s = subst (λ t. Settles a b t z) (sym h) s
@@ -95,13 +96,13 @@ module _ (bs : Bases) where
   in_big b = ap (val_in bs) (sym (rolls-BigMap b)) ∙ rolled (Value-F.BigMap b)
 
 pub settles_some : (a b : Bases) (x y : Value) → Settles a b x y → Settles a b (v.Some x) (v.Some y)
-settles_some a b x y s = record { same = in_some b y ∙ ap some s.same ∙ sym (in_some a x); settled = e.of_some SettledLayer y s.settled; based = e.of_some (BasedLayer b) y s.based }
+settles_some a b x y s = record { same = in_some b y ∙ ap some s.same ∙ sym (in_some a x); formed = e.of_some FormedLayer y s.formed; based = e.of_some (BasedLayer b) y s.based }
 
 pub settles_left : (a b : Bases) (x y : Value) → Settles a b x y → Settles a b (v.Left x) (v.Left y)
-settles_left a b x y s = record { same = in_left b y ∙ ap left s.same ∙ sym (in_left a x); settled = e.of_left SettledLayer y s.settled; based = e.of_left (BasedLayer b) y s.based }
+settles_left a b x y s = record { same = in_left b y ∙ ap left s.same ∙ sym (in_left a x); formed = e.of_left FormedLayer y s.formed; based = e.of_left (BasedLayer b) y s.based }
 
 pub settles_right : (a b : Bases) (x y : Value) → Settles a b x y → Settles a b (v.Right x) (v.Right y)
-settles_right a b x y s = record { same = in_right b y ∙ ap right s.same ∙ sym (in_right a x); settled = e.of_right SettledLayer y s.settled; based = e.of_right (BasedLayer b) y s.based }
+settles_right a b x y s = record { same = in_right b y ∙ ap right s.same ∙ sym (in_right a x); formed = e.of_right FormedLayer y s.formed; based = e.of_right (BasedLayer b) y s.based }
 
 pub settles_pair : (a b c : Bases) (x y x' y' : Value) → HasBases a y → Extends a b → Extends b c → Settles a b x x' → Settles b c y y' → Settles a c (v.Pair x y) (v.Pair x' y')
 settles_pair a b c x y x' y' h p q s t =
@@ -109,50 +110,50 @@ settles_pair a b c x y x' y' h p q s t =
     let second = settles_before a b c y y' h p t in
     record {
       same = in_pair c x' y' ∙ (λ i. both (first.same i) (second.same i)) ∙ sym (in_pair a x y);
-      settled = e.of_pair SettledLayer x' y' first.settled second.settled;
+      formed = e.of_pair FormedLayer x' y' first.formed second.formed;
       based = e.of_pair (BasedLayer c) x' y' first.based second.based;
     }
 
 pub settles_list : (a b : Bases) (xs ys : List Value) → SettlesAll a b xs ys → Settles a b (v.List xs) (v.List ys)
-settles_list a b xs ys s = record { same = in_list b ys ∙ ap (λ vs. list (vals_of vs)) s.same ∙ sym (in_list a xs); settled = e.of_list SettledLayer ys s.settled; based = e.of_list (BasedLayer b) ys s.based }
+settles_list a b xs ys s = record { same = in_list b ys ∙ ap (λ vs. list (vals_of vs)) s.same ∙ sym (in_list a xs); formed = e.of_list FormedLayer ys s.formed; based = e.of_list (BasedLayer b) ys s.based }
 
 pub settles_map : (a b : Bases) (xs ys : List (Datum × Value)) → SettlesEntries a b xs ys → Settles a b (v.Map xs) (v.Map ys)
-settles_map a b xs ys s = record { same = in_map b ys ∙ ap (λ es. table (pairs_of es)) s.same ∙ sym (in_map a xs); settled = e.of_map SettledLayer ys s.settled; based = e.of_map (BasedLayer b) ys s.based }
+settles_map a b xs ys s = record { same = in_map b ys ∙ ap (λ es. table (pairs_of es)) s.same ∙ sym (in_map a xs); formed = e.of_map FormedLayer ys s.formed; based = e.of_map (BasedLayer b) ys s.based }
 
 pub settles_big : (a b : Bases) (x y : BigMap) → SettlesBig a b x y → Settles a b (v.BigMap x) (v.BigMap y)
-settles_big a b x y s = record { same = in_big b y ∙ ap big_table s.same ∙ sym (in_big a x); settled = e.of_big SettledLayer y s.settled; based = e.of_big (BasedLayer b) y s.based }
+settles_big a b x y s = record { same = in_big b y ∙ ap big_table s.same ∙ sym (in_big a x); formed = e.of_big FormedLayer y s.formed; based = e.of_big (BasedLayer b) y s.based }
 
 -- ---- values without parts
 
 pub settles_unit : (c : Bases) → Settles c c v.Unit v.Unit
-settles_unit c = record { same = refl; settled = e.of_unit SettledLayer; based = e.of_unit (BasedLayer c) }
+settles_unit c = record { same = refl; formed = e.of_unit FormedLayer; based = e.of_unit (BasedLayer c) }
 
 pub settles_bool : (c : Bases) (b : Bool) → Settles c c (v.Bool b) (v.Bool b)
-settles_bool c b = record { same = refl; settled = e.of_bool SettledLayer b; based = e.of_bool (BasedLayer c) b }
+settles_bool c b = record { same = refl; formed = e.of_bool FormedLayer b; based = e.of_bool (BasedLayer c) b }
 
 pub settles_number : (c : Bases) (n : ℤ) → Settles c c (v.Number n) (v.Number n)
-settles_number c n = record { same = refl; settled = e.of_number SettledLayer n; based = e.of_number (BasedLayer c) n }
+settles_number c n = record { same = refl; formed = e.of_number FormedLayer n; based = e.of_number (BasedLayer c) n }
 
 pub settles_text : (c : Bases) (s : List ℕ) → Settles c c (v.Text s) (v.Text s)
-settles_text c s = record { same = refl; settled = e.of_text SettledLayer s; based = e.of_text (BasedLayer c) s }
+settles_text c s = record { same = refl; formed = e.of_text FormedLayer s; based = e.of_text (BasedLayer c) s }
 
 pub settles_bytes : (c : Bases) (s : List ℕ) → Settles c c (v.Bytes s) (v.Bytes s)
-settles_bytes c s = record { same = refl; settled = e.of_bytes SettledLayer s; based = e.of_bytes (BasedLayer c) s }
+settles_bytes c s = record { same = refl; formed = e.of_bytes FormedLayer s; based = e.of_bytes (BasedLayer c) s }
 
 pub settles_none : (c : Bases) → Settles c c v.None v.None
-settles_none c = record { same = refl; settled = e.of_none SettledLayer; based = e.of_none (BasedLayer c) }
+settles_none c = record { same = refl; formed = e.of_none FormedLayer; based = e.of_none (BasedLayer c) }
 
 pub settles_set : (c : Bases) (ds : List Datum) → Settles c c (v.Set ds) (v.Set ds)
-settles_set c ds = record { same = refl; settled = e.of_set SettledLayer ds; based = e.of_set (BasedLayer c) ds }
+settles_set c ds = record { same = refl; formed = e.of_set FormedLayer ds; based = e.of_set (BasedLayer c) ds }
 
 pub settles_lambda : (c : Bases) (n : Node) (r : Bool) → Settles c c (v.Lambda n r) (v.Lambda n r)
-settles_lambda c n r = record { same = refl; settled = e.of_lambda SettledLayer n r; based = e.of_lambda (BasedLayer c) n r }
+settles_lambda c n r = record { same = refl; formed = e.of_lambda FormedLayer n r; based = e.of_lambda (BasedLayer c) n r }
 
 pub settles_operation : (c : Bases) (n : ℕ) → Settles c c (v.Operation n) (v.Operation n)
-settles_operation c n = record { same = refl; settled = e.of_operation SettledLayer n; based = e.of_operation (BasedLayer c) n }
+settles_operation c n = record { same = refl; formed = e.of_operation FormedLayer n; based = e.of_operation (BasedLayer c) n }
 
 pub settles_ticket : (c : Bases) (t : Ticket) → Settles c c (v.Ticket t) (v.Ticket t)
-settles_ticket c t = record { same = refl; settled = e.of_ticket SettledLayer t; based = e.of_ticket (BasedLayer c) t }
+settles_ticket c t = record { same = refl; formed = e.of_ticket FormedLayer t; based = e.of_ticket (BasedLayer c) t }
 
 -- ---- lists
 
@@ -173,7 +174,7 @@ map_last f [] x = refl
 map_last f (y ∷ xs) x = ap (λ t. f y ∷ t) (map_last f xs x)
 
 pub settles_empty : (a : Bases) → SettlesAll a a [] []
-settles_empty a = record { same = refl; settled = tt; based = tt }
+settles_empty a = record { same = refl; formed = tt; based = tt }
 
 -- one more
 pub settles_more : (a b c : Bases) (xs ys : List Value) (x y : Value) → SettlesAll a b xs ys → HasBases a x → Extends a b → Extends b c → Settles b c x y →
@@ -182,7 +183,7 @@ settles_more a b c xs ys x y s h p q t =
     let one = settles_before a b c x y h p t in
     record {
       same = map_last (val_in c) ys y ∙ (λ i. (map_later b c ys q s.based ∙ s.same) i ++ one.same i ∷ []) ∙ sym (map_last (val_in a) xs x);
-      settled = all_last AreSettled ys y s.settled one.settled;
+      formed = all_last AreFormed ys y s.formed one.formed;
       based = all_last (HasBases c) ys y (all_later b c ys q s.based) one.based;
     }
 
@@ -197,31 +198,35 @@ entries_based a b [] p h = tt
 entries_based a b (x ∷ xs) p h = (based_later a b x.1 p h.0, entries_based a b xs p h.1)
 
 pub settles_nothing : (a : Bases) → SettlesEntries a a [] []
-settles_nothing a = record { same = refl; settled = tt; based = tt }
+settles_nothing a = record { same = refl; formed = tt; based = tt }
 
 entry_keys : (a : Bases) (es : List (Datum × Value)) → keys_of (map (entry_in a) es) ≡ keys_of es
 entry_keys a [] = refl
 entry_keys a (x ∷ xs) = ap (λ ks. x.0 ∷ ks) (entry_keys a xs)
 
--- one more, at its key
-pub settles_entry : (a b c : Bases) (xs ys zs rest all : List (Datum × Value)) (k : Datum) (x y : Value) → SettlesEntries a b xs ys → HasBases a x →
-    Extends a b → Extends b c → Settles b c x y → IsIncreasing (keys_of all) → xs ++ (k, x) ∷ rest ≡ all → zs ≡ with k y ys →
-    SettlesEntries a c (xs ++ (k, x) ∷ []) zs
-settles_entry a b c xs ys zs rest all k x y s h p q t increasing place put =
-    let one = settles_before a b c x y h p t in
+keys_append : {X : Type 0} (us vs : List (Datum × X)) → keys_of (us ++ vs) ≡ keys_of us ++ keys_of vs
+keys_append [] vs = refl
+keys_append (u ∷ us) vs = ap (λ ks. u.0 ∷ ks) (keys_append us vs)
+
+-- one more is put last
+pub entries_last : (a b : Bases) (xs ys zs rest all : List (Datum × Value)) (k : Datum) (x y : Value) → SettlesEntries a b xs ys →
+    IsIncreasing (keys_of all) → xs ++ (k, x) ∷ rest ≡ all → zs ≡ with k y ys → zs ≡ ys ++ (k, y) ∷ []
+entries_last a b xs ys zs rest all k x y s increasing place put =
     let keys : keys_of ys ≡ keys_of xs = sym (entry_keys b ys) ∙ ap keys_of s.same ∙ entry_keys a xs in
     let sorted : IsIncreasing (keys_of (ys ++ (k, y) ∷ rest)) = subst IsIncreasing (ap keys_of (sym place) ∙ keys_append xs ((k, x) ∷ rest) ∙ ap (λ ks. ks ++ k ∷ keys_of rest) (sym keys) ∙ sym (keys_append ys ((k, y) ∷ rest))) increasing in
-    let is : zs ≡ ys ++ (k, y) ∷ [] = put ∙ with_last by_lawful ys rest k y sorted in
+    put ∙ with_last by_lawful ys rest k y sorted
+
+-- one more, at its key
+pub settles_entry : (a b c : Bases) (xs ys zs : List (Datum × Value)) (k : Datum) (x y : Value) → SettlesEntries a b xs ys → HasBases a x →
+    Extends a b → Extends b c → Settles b c x y → zs ≡ ys ++ (k, y) ∷ [] → SettlesEntries a c (xs ++ (k, x) ∷ []) zs
+settles_entry a b c xs ys zs k x y s h p q t is =
+    let one = settles_before a b c x y h p t in
     let olds = entries_based b c ys q s.based in
     record {
       same = ap (map (entry_in c)) is ∙ map_last (entry_in c) ys (k, y) ∙ (λ i. (entries_later b c ys q s.based ∙ s.same) i ++ (k, one.same i) ∷ []) ∙ sym (map_last (entry_in a) xs (k, x));
-      settled = subst (AllByRecursion (λ z. AreSettled z.1)) (sym is) (all_last (λ z. AreSettled z.1) ys (k, y) s.settled one.settled);
+      formed = subst (AllByRecursion (λ z. AreFormed z.1)) (sym is) (all_last (λ z. AreFormed z.1) ys (k, y) s.formed one.formed);
       based = subst (AllByRecursion (λ z. HasBases c z.1)) (sym is) (all_last (λ z. HasBases c z.1) ys (k, y) olds one.based);
     }
-  where
-    keys_append : {X : Type 0} (us vs : List (Datum × X)) → keys_of (us ++ vs) ≡ keys_of us ++ keys_of vs
-    keys_append [] vs = refl
-    keys_append (u ∷ us) vs = ap (λ ks. u.0 ∷ ks) (keys_append us vs)
 
 -- ---- what parts need
 
@@ -245,38 +250,34 @@ each_plain Q m f q = e.of_changes Q m (plain_changes Q (out-BigMap m).overlay f.
 formed_empty : (m : BigMap) → IsFormed m → (out-BigMap m).overlay ≡ [] → FormedLayer (out-BigMap m)
 formed_empty m f h = record {
   keys = f.keys;
-  alone = f.alone;
   puts = f.puts;
   plain = subst (AllByRecursion (λ c. PutsNoBigMap c.1)) (sym h) tt;
   ticketless = λ s. ap (λ cs. pair_tickets (put_pairs cs)) h;
 }
 
-settled_layer : (m n : BigMap) (s : Bool) → FormedLayer (out-BigMap m) → IsSettled n → IsFormed n → (out-BigMap n).shares ≡ (out-BigMap m).shares →
-    ((out-BigMap m).shares ≡ false → n ≡ m) → (out-BigMap m).shares ≡ s → SettledLayer (out-BigMap n)
-settled_layer m n true f i g h alone s =
-    let is = i (h ∙ s) in
-    record { formed = formed_empty n g is.1; based = λ t. is.0; empty = λ t. is.1 }
-settled_layer m n false f i g h alone s =
-    let e : n ≡ m = alone s in
+-- it puts a ticket and stays, or it is settled
+formed_by : (m n : BigMap) (t : Bool) → FormedLayer (out-BigMap m) → IsFormed n → (t ≡ false → IsSettled n) → (t ≡ true → n ≡ m) → FormedLayer (out-BigMap n)
+formed_by m n true f g i same = subst (λ x. FormedLayer (out-BigMap x)) (sym (same refl)) f
+formed_by m n false f g i same = formed_empty n g (i refl).1
+
+pub settles_of : (a b : Bases) (m n : BigMap) → e.EachBig FormedLayer m → e.EachBig (BasedLayer a) m → IsFormed n →
+    (any_entry_carries (big_pairs m) ≡ false → IsSettled n) → (any_entry_carries (big_pairs m) ≡ true → n ≡ m) → (HasBase a m → HasBase b n) → big_in b n ≡ big_in a m → SettlesBig a b m n
+settles_of a b m n f d g i stays based same =
+    let formed = e.here FormedLayer m f in
+    let layer = formed_by m n (any_entry_carries (big_pairs m)) formed g i stays in
     record {
-      formed = subst (λ x. FormedLayer (out-BigMap x)) (sym e) f;
-      based = λ t. absurd (true≢false (sym t ∙ h ∙ s));
-      empty = λ t. absurd (true≢false (sym t ∙ h ∙ s));
+      same = big_val_is b n layer ∙ same ∙ sym (big_val_is a m formed);
+      formed = each_plain FormedLayer n layer layer;
+      based = each_plain (BasedLayer b) n layer (based (e.here (BasedLayer a) m d));
     }
 
-pub settles_of : (a b : Bases) (m n : BigMap) → e.EachBig FormedLayer m → e.EachBig (BasedLayer a) m → IsSettled n → IsFormed n →
-    (out-BigMap n).shares ≡ (out-BigMap m).shares → ((out-BigMap m).shares ≡ false → n ≡ m) → (HasBase a m → HasBase b n) → big_in b n ≡ big_in a m → SettlesBig a b m n
-settles_of a b m n f d i g h alone based same =
-    let formed = e.here FormedLayer m f in
-    let layer = settled_layer m n (out-BigMap m).shares formed i g h alone refl in
-    record {
-      same = big_val_is b n layer.formed ∙ same ∙ sym (big_val_is a m formed);
-      settled = each_plain SettledLayer n layer.formed layer;
-      based = each_plain (BasedLayer b) n layer.formed (based (e.here (BasedLayer a) m d));
-    }
+-- one that isn't touched
+pub settles_as_it_is : (bs : Bases) (m : BigMap) → e.EachBig FormedLayer m → e.EachBig (BasedLayer bs) m → SettlesBig bs bs m m
+settles_as_it_is bs m f d = record { same = refl; formed = f; based = d }
 
 pub formed_is : (m : BigMap) → e.EachBig FormedLayer m → IsFormed m
-formed_is m h = let f = e.here FormedLayer m h in record { keys = f.keys; alone = f.alone; puts = f.puts }
+formed_is m h = let f = e.here FormedLayer m h in record { keys = f.keys; puts = f.puts }
 
-pub ticketless_is : (m : BigMap) → e.EachBig FormedLayer m → (out-BigMap m).shares ≡ true → pair_tickets (put_pairs (out-BigMap m).overlay) ≡ []
-ticketless_is m h = (e.here FormedLayer m h).ticketless
+-- what puts no ticket
+pub bare_is : (m : BigMap) → any_entry_carries (big_pairs m) ≡ false → PutNoTickets (out-BigMap m).overlay
+bare_is m h = sym (ap pair_tickets (big_is m)) ∙ none_in_entries (big_pairs m) h

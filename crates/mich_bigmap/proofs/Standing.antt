@@ -1,5 +1,5 @@
 -- What the parts of a value stand for in a store.
-use Rattle.std.proofs.Common.{◌≡◌, ◌≤◌, ℕ, zero, suc, length, take, arith, Bool, List, [], ◌∷◌, ◌++◌, map, Some, None, refl, sym, ap, ◌∙◌, subst}
+use Rattle.std.proofs.Common.{◌≡◌, ◌≤◌, ℕ, zero, suc, length, take, arith, List, [], ◌∷◌, ◌++◌, map, Some, None, refl, sym, ap, ◌∙◌, subst}
 use Rattle.std.specs.declared.option.Option.{Option}
 use Rattle.std.specs.declared.cmp.Ordering.{Ordering}
 use Rattle.std.specs.declared.cmp.Ordering.TheVariants.{Less, Equal, Greater}
@@ -33,8 +33,8 @@ with_entry k v (e ∷ es) = entry_placed (by k e.0) ((k, v) ∷ e ∷ es) ((e.0,
     ∙ ap (λ t. match_ordering (by k e.0) ((k, val v) ∷ map entry (e ∷ es)) ((e.0, val v) ∷ map entry es) (entry e ∷ t)) (with_entry k v es)
 
 -- one level of a big map with this overlay
-abbrev pub opened : Bool → Option ℕ → Changes → BigMap-F Value BigMap
-opened shares base cs = record { shares = shares; base = base; overlay = cs }
+abbrev pub opened : Option ℕ → Changes → BigMap-F Value BigMap
+opened base cs = record { base = base; overlay = cs }
 
 module _ (bs : Bases) where
   keys_in : (es : Entries) → keys_of (map (entry_in bs) es) ≡ keys_of es
@@ -49,18 +49,18 @@ module _ (bs : Bases) where
       (ap (map (entry_in bs)) step) so_far (subst IsIncreasing (sym (keys_in all)) s) e f (ap (map entry) n ∙ with_entry d w copies)
 
   -- a big map is seen as the entries of its base, changed by its overlay
-  pub opened_is : (shares : Bool) (base : Option ℕ) (cs : Changes)
-      → big_step_in bs (map-BigMap Value BigMap Val Pairs (val_in bs) (big_val_in bs) (opened shares base cs)) ≡ changed (changes_in bs cs) (entries_in bs base)
-  opened_is shares base [] = refl
-  opened_is shares base (e ∷ es) = by_case e.1 (opened_is shares base es)
+  pub opened_is : (base : Option ℕ) (cs : Changes)
+      → big_step_in bs (map-BigMap Value BigMap Val Pairs (val_in bs) (big_val_in bs) (opened base cs)) ≡ changed (changes_in bs cs) (entries_in bs base)
+  opened_is base [] = refl
+  opened_is base (e ∷ es) = by_case e.1 (opened_is base es)
     where
-      by_case : (o : Option Value) → big_step_in bs (map-BigMap Value BigMap Val Pairs (val_in bs) (big_val_in bs) (opened shares base es)) ≡ changed (changes_in bs es) (entries_in bs base)
-          → big_step_in bs (map-BigMap Value BigMap Val Pairs (val_in bs) (big_val_in bs) (opened shares base ((e.0, o) ∷ es))) ≡ changed (changes_in bs ((e.0, o) ∷ es)) (entries_in bs base)
+      by_case : (o : Option Value) → big_step_in bs (map-BigMap Value BigMap Val Pairs (val_in bs) (big_val_in bs) (opened base es)) ≡ changed (changes_in bs es) (entries_in bs base)
+          → big_step_in bs (map-BigMap Value BigMap Val Pairs (val_in bs) (big_val_in bs) (opened base ((e.0, o) ∷ es))) ≡ changed (changes_in bs ((e.0, o) ∷ es)) (entries_in bs base)
       by_case None later = ap (written (datum e.0) None) later
       by_case (Some v) later = ap (written (datum e.0) (Some (val_in bs v))) later
 
   pub big_val_is : (m : BigMap) → big_val_in bs m ≡ changed (changes_in bs (out-BigMap m).overlay) (entries_in bs (out-BigMap m).base)
-  big_val_is m = fold_out-BigMap Val Pairs value_step (big_step_in bs) m ∙ opened_is (out-BigMap m).shares (out-BigMap m).base (out-BigMap m).overlay
+  big_val_is m = fold_out-BigMap Val Pairs value_step (big_step_in bs) m ∙ opened_is (out-BigMap m).base (out-BigMap m).overlay
 
 pub taken_all : {A : Type 0} (i : ℕ) (xs : List A) → length xs ≤ i → take i xs ≡ xs
 taken_all zero [] le = refl

@@ -1,5 +1,5 @@
 -- What values stand for where bases are added or given up, and where they hold no big map.
-use Rattle.std.proofs.Common.{◌≡◌, ℕ, Bool, List, [], ◌∷◌, map, Some, None, refl, sym, ap, ◌∙◌, subst}
+use Rattle.std.proofs.Common.{◌≡◌, ℕ, List, [], ◌∷◌, map, Some, None, refl, sym, ap, ◌∙◌, subst}
 use Rattle.std.specs.Prelude.{option_map}
 use Rattle.std.specs.declared.option.Option.{Option}
 use Rattle.std.specs.List.{AllByRecursion}
@@ -20,7 +20,7 @@ use Rattle.mich_term.proofs.ForCallers.Each as e
 
 -- what a big map stands for, by its overlay
 pub big_opens : (bs : Bases) (l : BigMap-F Value BigMap) → big_val_in bs (roll-BigMap l) ≡ changed (changes_in bs l.overlay) (entries_in bs l.base)
-big_opens bs l = fold-roll-BigMap Val Pairs value_step (big_step_in bs) l ∙ opened_is bs l.shares l.base l.overlay
+big_opens bs l = fold-roll-BigMap Val Pairs value_step (big_step_in bs) l ∙ opened_is bs l.base l.overlay
 
 -- ---- what follows of each big map
 
@@ -79,13 +79,13 @@ module _ (Q Q' R : BigMap-F Value BigMap → Type 0) (follows : (b : BigMap-F Va
   abbrev low_change : Datum × Option With → Datum × Option Value
   low_change c = (c.0, option_map (λ p. p.0) c.1)
 
-  low_is : (shares : Bool) (base : Option ℕ) (zs : List (Datum × Option With)) →
-      (low_big (record { shares = shares; base = base; overlay = zs })).overlay ≡ map low_change zs
-  low_is shares base [] = refl
-  low_is shares base (z ∷ zs) = by_case z.1 (low_is shares base zs)
+  low_is : (base : Option ℕ) (zs : List (Datum × Option With)) →
+      (low_big (record { base = base; overlay = zs })).overlay ≡ map low_change zs
+  low_is base [] = refl
+  low_is base (z ∷ zs) = by_case z.1 (low_is base zs)
     where
-      by_case : (o : Option With) → (low_big (record { shares = shares; base = base; overlay = zs })).overlay ≡ map low_change zs →
-          (low_big (record { shares = shares; base = base; overlay = (z.0, o) ∷ zs })).overlay ≡ low_change (z.0, o) ∷ map low_change zs
+      by_case : (o : Option With) → (low_big (record { base = base; overlay = zs })).overlay ≡ map low_change zs →
+          (low_big (record { base = base; overlay = (z.0, o) ∷ zs })).overlay ≡ low_change (z.0, o) ∷ map low_change zs
       by_case None later = ap (λ t. (z.0, None) ∷ t) later
       by_case (Some x) later = ap (λ t. (z.0, Some x.0) ∷ t) later
 
@@ -100,7 +100,7 @@ module _ (Q Q' R : BigMap-F Value BigMap → Type 0) (follows : (b : BigMap-F Va
   level_big : (z : BigMap-F With WithBig) → MoreBig (roll-BigMap (low_big z))
   level_big z h k =
       let b = roll-BigMap (low_big z) in
-      let is : (out-BigMap b).overlay ≡ map low_change z.overlay = ap (λ l. l.overlay) (out-roll-BigMap (low_big z)) ∙ low_is z.shares z.base z.overlay in
+      let is : (out-BigMap b).overlay ≡ map low_change z.overlay = ap (λ l. l.overlay) (out-roll-BigMap (low_big z)) ∙ low_is z.base z.overlay in
       let xs : AllByRecursion (e.EachChange Q) (map low_change z.overlay) = subst (AllByRecursion (e.EachChange Q)) is (e.in_changes Q b h) in
       let ys : AllByRecursion (e.EachChange Q') (map low_change z.overlay) = subst (AllByRecursion (e.EachChange Q')) is (e.in_changes Q' b k) in
       e.of_changes R b (subst (AllByRecursion (e.EachChange R)) (sym is) (more_changes z.overlay xs ys)) (follows (out-BigMap b) (e.here Q b h) (e.here Q' b k))
@@ -240,12 +240,12 @@ module _ (old new : Bases) where
   abbrev stay_change : Datum × Option Stay → Datum × Option Value
   stay_change c = (c.0, option_map (λ p. p.0) c.1)
 
-  stay_is : (shares : Bool) (base : Option ℕ) (zs : List (Datum × Option Stay)) → (low_of (record { shares = shares; base = base; overlay = zs })).overlay ≡ map stay_change zs
-  stay_is shares base [] = refl
-  stay_is shares base (z ∷ zs) = by_case z.1 (stay_is shares base zs)
+  stay_is : (base : Option ℕ) (zs : List (Datum × Option Stay)) → (low_of (record { base = base; overlay = zs })).overlay ≡ map stay_change zs
+  stay_is base [] = refl
+  stay_is base (z ∷ zs) = by_case z.1 (stay_is base zs)
     where
-      by_case : (o : Option Stay) → (low_of (record { shares = shares; base = base; overlay = zs })).overlay ≡ map stay_change zs →
-          (low_of (record { shares = shares; base = base; overlay = (z.0, o) ∷ zs })).overlay ≡ stay_change (z.0, o) ∷ map stay_change zs
+      by_case : (o : Option Stay) → (low_of (record { base = base; overlay = zs })).overlay ≡ map stay_change zs →
+          (low_of (record { base = base; overlay = (z.0, o) ∷ zs })).overlay ≡ stay_change (z.0, o) ∷ map stay_change zs
       by_case None later = ap (λ t. (z.0, None) ∷ t) later
       by_case (Some x) later = ap (λ t. (z.0, Some x.0) ∷ t) later
 
@@ -263,7 +263,7 @@ module _ (old new : Bases) where
   stay_big z h =
       let l = low_of z in
       let b = roll-BigMap l in
-      let is : l.overlay ≡ map stay_change z.overlay = stay_is z.shares z.base z.overlay in
+      let is : l.overlay ≡ map stay_change z.overlay = stay_is z.base z.overlay in
       let out : (out-BigMap b).overlay ≡ map stay_change z.overlay = ap (λ t. t.overlay) (out-roll-BigMap l) ∙ is in
       let all : AllByRecursion (e.EachChange SameEntries) (map stay_change z.overlay) = subst (AllByRecursion (e.EachChange SameEntries)) out (e.in_changes SameEntries b h) in
       let base : entries_in new l.base ≡ entries_in old l.base = subst SameEntries (out-roll-BigMap l) (e.here SameEntries b h) in

@@ -1,5 +1,6 @@
 pub mod Bases
 pub mod Extended
+pub mod Flat
 pub mod Formed
 pub mod Kept
 pub mod Laws
@@ -11,6 +12,7 @@ pub mod Puts
 pub mod Reached
 pub mod Settled
 pub mod Settling
+pub mod Shared
 pub mod Layers
 pub mod Stacked
 pub mod Standing

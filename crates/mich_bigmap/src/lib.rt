@@ -13,6 +13,7 @@ mod printed;
 mod settling;
 mod settling_all;
 mod store;
+mod types;
 mod unsharing;
 
 pub use entries::{erase, get, put, take, write};

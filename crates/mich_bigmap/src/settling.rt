@@ -3,7 +3,9 @@ ghost use Rattle.std.specs.Prelude.{◌≡◌, true, false, Some, IfOk};
 ghost use Rattle.std.specs.Map.{keys_of};
 ghost use Rattle.rules_data.specs.big_maps.Changes.{changed};
 ghost use Rattle.mich_base.specs.undo.History.{Keeps};
+ghost use Rattle.mich_term.specs.Holding.{any_entry_carries};
 ghost use Rattle.mich_term.specs.Keyed.{IsIncreasing};
+ghost use Rattle.mich_term.specs.ValueView.{big_pairs};
 ghost use Rattle.mich_term.specs.declared.value.BigMap.{out-BigMap};
 ghost use Rattle.mich_bigmap.specs.Bases.{big_in, entries_in, seen};
 ghost use Rattle.mich_bigmap.specs.Extended.{Extends};
@@ -15,7 +17,7 @@ use crate::merging::merged;
 use crate::overlay::Change;
 use crate::store::Store;
 use mich_base::{Memory, Rows};
-use mich_term::BigMap;
+use mich_term::{BigMap, puts_ticket};
 use std::alloc::Global;
 
 // Puts changes into the store as a base over another, merged with those that it would be over and that don't hold at least four times as many.
@@ -38,48 +40,45 @@ fn lay(
     store.extend(under, all)
 }
 
-/// A big map of the same entries. Where it shares, they are all kept in the store: it has a base and an empty overlay. After Memory
-/// the store is given up with its world (Octez "big_map").
-#[tactic(auto, using(mich_base::proofs::undo_lemmas::ForCallers::keeps_same, crate::proofs::Extending::extends_same))]
+/// A big map of the same entries, all kept in the store: it has a base and an empty overlay. One that puts a ticket stays as it is,
+/// since the values of a base are copied. After Memory the store is given up with its world (Octez "big_map").
+#[tactic(auto, using(mich_base::proofs::undo_lemmas::ForCallers::keeps_same, crate::proofs::Extending::extends_same, crate::proofs::Settled::bare_is))]
 pub fn settle(alloc: Global, store: &mut Store, m: BigMap) -> Result<BigMap, Memory>
     requires { IsFormed m }
     ensures same { IfOk result (λ n. big_in store.new.bases.present n ≡ big_in store.old.bases.present m) }
-    ensures settled { IfOk result (λ n. IsSettled n) }
+    ensures settled { any_entry_carries (big_pairs m) ≡ false → IfOk result (λ n. IsSettled n) }
+    ensures stays { any_entry_carries (big_pairs m) ≡ true → IfOk result (λ n. n ≡ m) }
     ensures formed { IfOk result (λ n. IsFormed n) }
-    ensures shares { IfOk result (λ n. (out-BigMap n).shares ≡ (out-BigMap m).shares) }
-    ensures alone { (out-BigMap m).shares ≡ false → IfOk result (λ n. n ≡ m) }
     ensures there { HasBase store.old.bases.present m → IfOk result (λ n. HasBase store.new.bases.present n) }
     ensures others { Extends store.old.bases.present store.new.bases.present }
     ensures keeps { Keeps store.old.bases store.new.bases }
-    ensures ticketless { HoldNoTickets store.old.bases.present → ((out-BigMap m).shares ≡ true → PutNoTickets (out-BigMap m).overlay) → HoldNoTickets store.new.bases.present }
+    ensures ticketless { HoldNoTickets store.old.bases.present → HoldNoTickets store.new.bases.present }
     ensures noted { store.new.noted ≡ store.old.noted }
 {
-    if !m.shares {
-        return Ok(m);
-    }
     if m.overlay.is_empty() && m.base.is_some() {
         return Ok(m);
     }
-    settle_shared(alloc, store, m)
+    if puts_ticket(&m) {
+        return Ok(m);
+    }
+    settle_anew(alloc, store, m)
 }
 
-// The same of a big map that shares and whose overlay is put into the store.
-fn settle_shared(alloc: Global, store: &mut Store, m: BigMap) -> Result<BigMap, Memory>
+// The same of a big map that puts no ticket: its overlay is put into the store.
+fn settle_anew(alloc: Global, store: &mut Store, m: BigMap) -> Result<BigMap, Memory>
     requires formed { IsFormed m }
-    requires shares { (out-BigMap m).shares ≡ true }
+    requires bare { PutNoTickets (out-BigMap m).overlay }
     ensures same { IfOk result (λ n. big_in store.new.bases.present n ≡ big_in store.old.bases.present m) }
     ensures settled { IfOk result (λ n. IsSettled n) }
     ensures formed { IfOk result (λ n. IsFormed n) }
-    ensures shares { IfOk result (λ n. (out-BigMap n).shares ≡ true) }
     ensures there { IfOk result (λ n. HasBase store.new.bases.present n) }
     ensures others { Extends store.old.bases.present store.new.bases.present }
     ensures keeps { Keeps store.old.bases store.new.bases }
-    ensures ticketless { HoldNoTickets store.old.bases.present → PutNoTickets (out-BigMap m).overlay → HoldNoTickets store.new.bases.present }
+    ensures ticketless { HoldNoTickets store.old.bases.present → HoldNoTickets store.new.bases.present }
     ensures noted { store.new.noted ≡ store.old.noted }
 {
     let number = lay(alloc, store, m.base, m.overlay)?;
     Ok(BigMap {
-        shares: true,
         base: Some(number),
         overlay: Rows::new(alloc),
     })

@@ -5,7 +5,7 @@ use Rattle.std.specs.List.{AllByRecursion}
 use Rattle.std.proofs.lemmas.Bool.{and_parts}
 use Rattle.rules_data.specs.types.Kind.{Kind}
 use Rattle.rules_data.specs.types.Kind as k
-use Rattle.rules_data.specs.types.Attributes.{big_value, duplicable}
+use Rattle.rules_data.specs.types.Attributes.{big_value}
 use Rattle.rules_data.specs.values.Val.{Val, Pairs}
 use Rattle.rules_data.specs.values.Tickets.{Held, tickets, all_tickets, pair_tickets}
 use Rattle.laws_data.specs.types.Laws.{IsWellFormed}
@@ -103,7 +103,7 @@ module _ (T : Value → Type 0) (c : IsClosed T) where
   back x h = subst T (roll-out-Value x) h
 
   module _ (W : Kind → Type 0) (i : IsInherited W)
-      (big : (a b : Kind) → W (k.big_map a b) → ((x : Value) → IsWhole b x → T x) → (m : BigMap) → LiesWhole (duplicable b) (IsWhole b) m → T (roll-Value (Value-F.BigMap m))) where
+      (big : (a b : Kind) → W (k.big_map a b) → ((x : Value) → IsWhole b x → T x) → (m : BigMap) → LiesWhole (IsWhole b) m → T (roll-Value (Value-F.BigMap m))) where
     whole_has : (a : Kind) (x : Value) → W a → IsWhole a x → T x
     whole_has (k.simple s) x w h = back x (simple_has (out-Value x) h)
     whole_has k.operation x w h = absurd h
@@ -114,7 +114,7 @@ module _ (T : Value → Type 0) (c : IsClosed T) where
     whole_has (k.set a) x w h = back x (set_has (out-Value x) h)
     whole_has (k.map a b) x w h = back x (map_has (out-Value x) (IsWhole b) (λ y p. whole_has b y (i.value a b w) p) h)
     whole_has (k.big_map a b) x w h =
-        back x (big_has (out-Value x) (LiesWhole (duplicable b) (IsWhole b)) (λ m p. big a b w (λ y q. whole_has b y (i.big_value a b w) q) m p) h)
+        back x (big_has (out-Value x) (LiesWhole (IsWhole b)) (λ m p. big a b w (λ y q. whole_has b y (i.big_value a b w) q) m p) h)
     whole_has (k.lambda a b) x w h = back x (lambda_has (out-Value x) h)
     whole_has (k.contract a) x w h = back x (simple_has (out-Value x) h)
     whole_has (k.ticket a) x w h = absurd h
@@ -257,11 +257,10 @@ module _ (P : Value → Type 0) where
       by None p = absurd p
       by (Some x) p = f x p
 
-formed_big : (a b : Kind) → IsWellFormed (k.big_map a b) → ((x : Value) → IsWhole b x → AreFormed x) → (m : BigMap) → LiesWhole (duplicable b) (IsWhole b) m → AreFormed (roll-Value (Value-F.BigMap m))
+formed_big : (a b : Kind) → IsWellFormed (k.big_map a b) → ((x : Value) → IsWhole b x → AreFormed x) → (m : BigMap) → LiesWhole (IsWhole b) m → AreFormed (roll-Value (Value-F.BigMap m))
 formed_big a b w f m h =
     e.up_big FormedLayer m (e.of_changes FormedLayer m (put_each (IsWhole b) f (out-BigMap m).overlay h.puts) (record {
       keys = h.keys;
-      alone = λ s. h.alone;
       puts = λ s. all_put (IsWhole b) (out-BigMap m).overlay h.puts;
       plain = put_plain (IsWhole b) (λ x p. plain b x w.1 p) (out-BigMap m).overlay h.puts;
       ticketless = λ s. no_put_tickets (IsWhole b) (ticketless b) (out-BigMap m).overlay h.puts;

@@ -10,7 +10,6 @@ use Rattle.rules_data.specs.values.Val.{Val, Pairs, no_pair, more_pairs}
 use Rattle.rules_data.specs.values.Literals.{Pending, Literal, good, bad, with_pending, mapped, Reader, is_behind, Entry, read_binding, read_entry, read_entries}
 use Rattle.mich_term.specs.View.{datum}
 use Rattle.rules_data.specs.types.Kind.{Kind}
-use Rattle.rules_data.specs.types.Attributes.{duplicable}
 use Rattle.mich_term.specs.ValueView.{val, pairs, put_pairs, big_pairs}
 use Rattle.mich_term.proofs.ForCallers.{big_is, with_last, by_lawful}
 use Rattle.mich_term.specs.declared.value.BigMap.{BigMap, out-BigMap, roll-BigMap, out-roll-BigMap}
@@ -199,11 +198,10 @@ big_opened b l e = ap out-BigMap e ∙ out-roll-BigMap l
 pub big_pairs_put : (b : BigMap) (es : List (Datum × Value)) → (out-BigMap b).overlay ≡ map put_of es → big_pairs b ≡ pairs es
 big_pairs_put b es h = big_is b ∙ ap put_pairs h ∙ puts_are es
 
-pub big_lies_whole : (a : Kind) (b : BigMap) (s : Bool) (es : List (Datum × Value)) → (out-BigMap b).base ≡ None → (out-BigMap b).shares ≡ s → s ≡ duplicable a →
-    (out-BigMap b).overlay ≡ map put_of es → IsIncreasing (keys_of es) → AreWholeEntries a es → LiesWhole (duplicable a) (IsWhole a) b
-big_lies_whole a b s es alone shares same puts increasing h = record {
+pub big_lies_whole : (a : Kind) (b : BigMap) (es : List (Datum × Value)) → (out-BigMap b).base ≡ None →
+    (out-BigMap b).overlay ≡ map put_of es → IsIncreasing (keys_of es) → AreWholeEntries a es → LiesWhole (IsWhole a) b
+big_lies_whole a b es alone puts increasing h = record {
   alone = alone;
-  shares = shares ∙ same;
   keys = subst IsIncreasing (sym (ap keys_of puts ∙ put_keys es)) increasing;
   puts = subst (AllByRecursion (λ c. IsPut (IsWhole a) c.1)) (sym puts) (put_whole a es h);
 }

@@ -7,7 +7,6 @@ use Rattle.std.specs.declared.cmp.Ordering.TheVariants.{Less, Equal, Greater}
 use Rattle.std.specs.Ordering.{match_ordering}
 use Rattle.rules_data.specs.types.Kind.{Kind}
 use Rattle.rules_data.specs.types.Kind as k
-use Rattle.rules_data.specs.types.Attributes.{duplicable}
 use Rattle.mich_term.specs.Keyed.{by, with}
 use Rattle.mich_term.specs.declared.datum.Datum.{Datum}
 use Rattle.mich_term.specs.declared.value.Value.{Value, out-Value, out-roll-Value}
@@ -38,8 +37,8 @@ bytes_simple s = subst IsSimple (sym (ap out-Value (sym (rolls-Bytes s)) ∙ out
 pub list_whole : (a : Kind) (xs : List Value) → AllByRecursion (IsWhole a) xs → IsWhole (k.list a) (v.List xs)
 list_whole a xs h = subst (λ l. IsListOf l (IsWhole a)) (sym (ap out-Value (sym (rolls-List xs)) ∙ out-roll-Value (Value-F.List xs))) h
 
-pub big_map_whole : (a b : Kind) (m : BigMap) → LiesWhole (duplicable b) (IsWhole b) m → IsWhole (k.big_map a b) (v.BigMap m)
-big_map_whole a b m h = subst (λ l. IsBig l (LiesWhole (duplicable b) (IsWhole b))) (sym (ap out-Value (sym (rolls-BigMap m)) ∙ out-roll-Value (Value-F.BigMap m))) h
+pub big_map_whole : (a b : Kind) (m : BigMap) → LiesWhole (IsWhole b) m → IsWhole (k.big_map a b) (v.BigMap m)
+big_map_whole a b m h = subst (λ l. IsBig l (LiesWhole (IsWhole b))) (sym (ap out-Value (sym (rolls-BigMap m)) ∙ out-roll-Value (Value-F.BigMap m))) h
 
 -- ---- elements and entries
 

@@ -1,11 +1,10 @@
--- The parts of a value that a literal of a type spells. Its big maps have all their entries in themselves, and may share them exactly
--- where values of their value type can be copied (Michelson reference, "big_map" and "Duplicable types").
-use Rattle.std.specs.Prelude.{◌≡◌, Bool, Option, Some, None, List}
+-- The parts of a value that a literal of a type spells. Its big maps have all their entries in themselves (Michelson reference,
+-- "big_map").
+use Rattle.std.specs.Prelude.{◌≡◌, Option, Some, None, List}
 use Rattle.std.specs.Map.{keys_of}
 use Rattle.std.specs.List.{AllByRecursion}
 use Rattle.rules_data.specs.types.Kind.{Kind}
 use Rattle.rules_data.specs.types.Kind as k
-use Rattle.rules_data.specs.types.Attributes.{duplicable}
 use Rattle.mich_term.specs.Keyed.{IsIncreasing}
 use Rattle.mich_term.specs.declared.datum.Datum.{Datum}
 use Rattle.mich_term.specs.declared.value.Value.{Value, out-Value}
@@ -65,10 +64,9 @@ abbrev pub IsPut : (Value → Type 0) → Option Value → Type 0
 IsPut P None = ⊥
 IsPut P (Some v) = P v
 
--- a big map without a base, which only puts values of which this is so, at increasing keys, and shares as told
-pub record LiesWhole (shared : Bool) (P : Value → Type 0) (b : BigMap) : Type 0 where
+-- a big map without a base, which only puts values of which this is so, at increasing keys
+pub record LiesWhole (P : Value → Type 0) (b : BigMap) : Type 0 where
   pub alone : (out-BigMap b).base ≡ None
-  pub shares : (out-BigMap b).shares ≡ shared
   pub keys : IsIncreasing (keys_of (out-BigMap b).overlay)
   pub puts : AllByRecursion (λ c. IsPut P c.1) (out-BigMap b).overlay
 
@@ -82,7 +80,7 @@ IsWhole (k.pair a b) v = IsPair (out-Value v) (IsWhole a) (IsWhole b)
 IsWhole (k.list a) v = IsListOf (out-Value v) (IsWhole a)
 IsWhole (k.set a) v = IsSet (out-Value v)
 IsWhole (k.map a b) v = IsMapTo (out-Value v) (IsWhole b)
-IsWhole (k.big_map a b) v = IsBig (out-Value v) (LiesWhole (duplicable b) (IsWhole b))
+IsWhole (k.big_map a b) v = IsBig (out-Value v) (LiesWhole (IsWhole b))
 IsWhole (k.lambda a b) v = IsLambda (out-Value v)
 IsWhole (k.contract a) v = IsSimple (out-Value v)
 IsWhole (k.ticket a) v = ⊥

@@ -17,7 +17,6 @@ use crate::reading::Reading;
 use crate::words::{Word, word_of_name};
 use mich_base::{Link, Node, Nodes, Rows, Ty};
 use mich_term::{Chain, Datum, Elements, Table, Value, compare};
-use mich_types::duplicable;
 use std::alloc::Global;
 use std::cmp::Ordering;
 
@@ -120,7 +119,7 @@ impl Reading {
     }
 
     // A map of the entries.
-    #[tactic(auto, using(crate::proofs::Steps::mapped_good, crate::proofs::Steps::fault_mapped, mich_term::proofs::Overlays::table_is))]
+    #[tactic(auto, using(crate::proofs::Steps::mapped_good, crate::proofs::Steps::fault_mapped, mich_term::proofs::ForCallers::table_is))]
     #[cycle(read)]
     fn read_small(&mut self, key: &Ty, value: &Ty, nodes: &Nodes) -> Result<Value, ValueError>
         requires { self.old.next + sizes (trees nodes.now) < 2 ^ 32 }
@@ -142,7 +141,7 @@ impl Reading {
         ensures whole { IfOk result (λ v. IsWhole (k.big_map (kind key.now) (kind value.now)) v) }
     {
         let entries = self.read_entries(key, value, nodes)?;
-        Ok(big_value(self.alloc, duplicable(value), entries)?)
+        Ok(big_value(self.alloc, entries)?)
     }
 
     #[tactic(auto, using(crate::proofs::Tables::entries_start))]

@@ -3,7 +3,6 @@ ghost use Rattle.std.specs.Prelude.{◌≡◌, IfOk, map};
 ghost use Rattle.std.specs.Map.{keys_of};
 ghost use Rattle.rules_data.specs.types.Kind.{Kind};
 ghost use Rattle.rules_data.specs.types.Kind as k;
-ghost use Rattle.rules_data.specs.types.Attributes.{duplicable};
 ghost use Rattle.rules_data.specs.values.Val.{big_table, both};
 ghost use Rattle.mich_term.specs.Keyed.{IsIncreasing};
 ghost use Rattle.mich_term.specs.ValueView.{pairs, val};
@@ -69,15 +68,13 @@ pub(crate) fn pair_value(alloc: Global, first: Value, second: Value) -> Result<V
     Ok(Value::Pair(head, last))
 }
 
-// A big map whose entries lie in the value itself, and which may have a base later where it shares.
-pub(crate) fn big_value(alloc: Global, shares: bool, table: Table<Value>) -> Result<Value, Memory>
+// A big map whose entries lie in the value itself.
+pub(crate) fn big_value(alloc: Global, table: Table<Value>) -> Result<Value, Memory>
     ensures value { IfOk result (λ v. val v ≡ big_table (pairs table)) }
-    ensures whole { IfOk result (λ v. (a b : Kind) → shares ≡ duplicable b → AreWholeEntries b table
-        → IsWhole (k.big_map a b) v) }
+    ensures whole { IfOk result (λ v. (a b : Kind) → AreWholeEntries b table → IsWhole (k.big_map a b) v) }
 {
     let overlay = overlay_of(alloc, table)?;
     let big = BigMap {
-        shares,
         base: None,
         overlay,
     };

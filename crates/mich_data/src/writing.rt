@@ -17,7 +17,7 @@ use std::alloc::Global;
 /// The canonical literal of a value: pairs have two parts, there are no annotations, and a lambda keeps its node. A ticket
 /// is `Ticket issuer type content amount`; an operation, which has no literal, is `{}`. A big map is the entries that lie
 /// in the value itself (Michelson reference, "PACK"). Memory where there is no room for the node.
-#[tactic(auto, using(mich_term::proofs::Overlays::table_is))]
+#[tactic(auto, using(mich_term::proofs::ForCallers::table_is))]
 #[cycle(write)]
 pub fn value_node(alloc: Global, value: &Value) -> Result<Node, Memory>
     ensures { IfOk result (λ n. tree n ≡ canonical (val value.now)) }

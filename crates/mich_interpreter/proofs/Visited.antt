@@ -19,9 +19,7 @@ use Rattle.laws_code.proofs.stacks.ForCallers.{place_back}
 use Rattle.mich_literals.proofs.arguments_lemmas.ForCallers.{account_place, contract_place_is}
 use Rattle.mich_base.specs.TypeView.{kind}
 use Rattle.mich_bigmap.specs.Bases.{Bases}
-use Rattle.mich_bigmap.specs.Layers.{AreSettled, SettledLayer}
 use Rattle.mich_bigmap.specs.Standing.{val_in}
-use Rattle.mich_bigmap.proofs.ForCallers.{each_more}
 use Rattle.mich_frames.specs.Views.{ViewedAs, view_code}
 use Rattle.mich_frames.proofs.ForCallers.{views_agree}
 use Rattle.mich_instr.specs.Code as made
@@ -33,7 +31,6 @@ use Rattle.mich_instr.specs.declared.instr.Script.{Script, out-Script}
 use Rattle.mich_instr.specs.declared.instr.Script as scripts
 use Rattle.mich_stack.specs.Views.{seen}
 use Rattle.mich_world.proofs.simulation_lemmas.ForCallers.{hash_of}
-use Rattle.mich_term.specs.Layers.{AreFormed, FormedLayer}
 use Rattle.mich_term.specs.declared.value.Value.{Value}
 use Rattle.mich_types.specs.Entered.{entry_of}
 use Rattle.mich_world.specs.Holders.{by_bytes, contract_at}
@@ -59,9 +56,6 @@ at_one P test (d ∷ cs) c h e = by (test d.0) e (λ g. at_one P test cs c h.1 g
     by : (b : Bool) → cond b (Some d.1) (lookup test cs) ≡ Some c → (lookup test cs ≡ Some c → P c) → P c
     by true g later = let one : d.1 ≡ c = cc in subst P one h.0
     by false g later = later g
-
-settled_formed : (y : Value) → AreSettled y → AreFormed y
-settled_formed y h = each_more SettledLayer FormedLayer (λ b s. s.formed) y h
 
 some_same : {A : Type 0} (a b : A) → Some a ≡ Some b → a ≡ b
 some_same a b e = cc
@@ -114,7 +108,7 @@ module _ (v : World) (x : Beyond) (s : Sees v x) (hash entry name : List ℕ) (a
     stored = at_one (IsStored bs) (is_at (by_bytes hash)) v.funds.present.contracts c s.stored there
 
     storage_seen : seen x.sight c.storage ≡ val_in bs c.storage
-    storage_seen = ap (λ big. seen big c.storage) s.sight ∙ sound_seen bs c.storage (sound_of bs c.storage (settled_formed c.storage stored.settled) stored.based)
+    storage_seen = ap (λ big. seen big c.storage) s.sight ∙ sound_seen bs c.storage (sound_of bs c.storage stored.formed stored.based)
 
     viewed_is : viewed x.contract_at name a b address ≡ viewed_of hash (plain bs c) name a b
     viewed_is = at_hash ∙ ap (option_and_then (λ c. viewed_of hash c name a b)) (s.contracts hash ∙ ap (option_map (plain bs)) there)

@@ -34,9 +34,8 @@ use Rattle.mich_store_steps.specs.seen.Sights.{sight}
 use Rattle.mich_store_steps.proofs.seen.ForCallers.{sound_of, sound_seen, sight_shows}
 use Rattle.mich_base.specs.TypeView.{kind}
 use Rattle.mich_bigmap.specs.Bases.{Bases}
-use Rattle.mich_bigmap.specs.Layers.{HasBases, SettledLayer, AreSettled}
+use Rattle.mich_bigmap.specs.Layers.{HasBases}
 use Rattle.mich_bigmap.specs.Standing.{val_in}
-use Rattle.mich_bigmap.proofs.ForCallers.{each_more}
 use Rattle.mich_frames.specs.Around.{Around}
 use Rattle.mich_frames.specs.Around as frames
 use Rattle.mich_frames.specs.Stands.{OpensAt}
@@ -59,7 +58,7 @@ use Rattle.mich_interpreter.specs.declared.state.State.{State}
 use Rattle.mich_stack.specs.Views.{Sight, seen}
 use Rattle.mich_step.specs.Views.{environment}
 use Rattle.mich_step.specs.declared.environment.Env.{Env}
-use Rattle.mich_term.specs.Layers.{AreFormed, FormedLayer}
+use Rattle.mich_term.specs.Layers.{AreFormed}
 use Rattle.mich_term.specs.declared.value.Value.{Value}
 use Rattle.mich_tickets.specs.Books.{State as Ledger}
 use Rattle.mich_tickets.specs.Effects.{change, Adds}
@@ -115,9 +114,6 @@ at_one P test (c ∷ cs) k h e = by (test c.0) e (λ g. at_one P test cs k h.1 g
 
 one_of : (x y : PlainContract) → Some x ≡ Some y → x ≡ y
 one_of x y e = cc
-
-settled_formed : (x : Value) → AreSettled x → AreFormed x
-settled_formed x h = each_more SettledLayer FormedLayer (λ b s. s.formed) x h
 
 none_burnt : (a b : ℤ) → a ≡ b → (a -ℤ (pos 0 +ℤ pos 0)) ≡ b
 none_burnt a b e = omega (arith, ints, e)
@@ -258,7 +254,7 @@ module _ (q : Asked) where
       value_is =
           seen_so (sight bs) q.t.entry entry_is
           ∙ (λ i. both (wrapped q.t.entry.path (sound_seen bs q.argument (sound_of bs q.argument q.formed q.based) i))
-          (sound_seen bs k.storage (sound_of bs k.storage (settled_formed k.storage stored.settled) stored.based) i))
+          (sound_seen bs k.storage (sound_of bs k.storage stored.formed stored.based) i))
 
       around_is : around x q.costs begun ≡ frames.around (surroundings_of e s q.w q.t) (burnt_ever q.w)
       around_is = (λ i. record {

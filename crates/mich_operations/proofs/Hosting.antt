@@ -38,7 +38,7 @@ hosts_balance : (bs : Bases) (h : Holders) (p : Place) (n : ℕ) → AreHosts bs
 hosts_balance bs h (place.Implicit who) n a = a
 hosts_balance bs h (place.Contract hash) n a = (
   all_rebalanced (λ c. IsTypedScript c.script) (λ n c t. t) (is_at (by_bytes hash)) n h.contracts a.0,
-  all_rebalanced (IsStored bs) (λ n c s. record { settled = s.settled; based = s.based }) (is_at (by_bytes hash)) n h.contracts a.1,
+  all_rebalanced (IsStored bs) (λ n c s. record { formed = s.formed; based = s.based; shared = s.shared }) (is_at (by_bytes hash)) n h.contracts a.1,
 )
 
 hosts_moved : (bs : Bases) (h : Holders) (from to : Place) (n : ℕ) → AreHosts bs h → AreHosts bs (moved h from to n)

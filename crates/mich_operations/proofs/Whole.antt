@@ -4,7 +4,6 @@ use Rattle.std.specs.declared.option.Option.{Option}
 use Rattle.std.specs.List.{AllByRecursion}
 use Rattle.rules_data.specs.types.Kind.{Kind}
 use Rattle.rules_data.specs.types.Kind as k
-use Rattle.rules_data.specs.types.Attributes.{duplicable}
 use Rattle.rules_data.specs.big_maps.Changes.{changed}
 use Rattle.mich_bigmap.specs.Bases.{Bases, entries_in, seen}
 use Rattle.mich_bigmap.specs.Formed.{is_there}
@@ -84,9 +83,9 @@ put_each P f (c ∷ cs) h = (by c.1 h.0, put_each P f cs h.1)
     by None p = absurd p
     by (Some x) p = f x p
 
-big_has : (l : Layer) (shared : Bool) (P : Value → Type 0) → ((x : Value) → P x → T x) → IsBig l (LiesWhole shared P) → T (roll-Value l)
-big_has (Value-F.BigMap m) shared P f h = e.up_big NoBase m (e.of_changes NoBase m (put_each P f (out-BigMap m).overlay h.puts) h.alone)
-big_has l shared P f h = absurd h
+big_has : (l : Layer) (P : Value → Type 0) → ((x : Value) → P x → T x) → IsBig l (LiesWhole P) → T (roll-Value l)
+big_has (Value-F.BigMap m) P f h = e.up_big NoBase m (e.of_changes NoBase m (put_each P f (out-BigMap m).overlay h.puts) h.alone)
+big_has l P f h = absurd h
 
 back : (x : Value) → T (roll-Value (out-Value x)) → T x
 back x h = subst T (roll-out-Value x) h
@@ -100,7 +99,7 @@ whole_baseless (k.pair a b) x h = back x (pair_has (out-Value x) (IsWhole a) (Is
 whole_baseless (k.list a) x h = back x (list_has (out-Value x) (IsWhole a) (whole_baseless a) h)
 whole_baseless (k.set a) x h = back x (set_has (out-Value x) h)
 whole_baseless (k.map a b) x h = back x (map_has (out-Value x) (IsWhole b) (whole_baseless b) h)
-whole_baseless (k.big_map a b) x h = back x (big_has (out-Value x) (duplicable b) (IsWhole b) (whole_baseless b) h)
+whole_baseless (k.big_map a b) x h = back x (big_has (out-Value x) (IsWhole b) (whole_baseless b) h)
 whole_baseless (k.lambda a b) x h = back x (lambda_has (out-Value x) h)
 whole_baseless (k.contract a) x h = back x (simple_has (out-Value x) h)
 whole_baseless (k.ticket a) x h = absurd h

@@ -45,7 +45,7 @@ fn pair_len(ticket: &Ticket) -> u64
         .saturating_add(10)
 }
 
-#[tactic(auto, using(mich_term::proofs::Overlays::table_is))]
+#[tactic(auto, using(mich_term::proofs::ForCallers::table_is))]
 #[cycle(kept)]
 fn kept_len(value: &Value) -> u64
     ensures { result ≡ capped (value_length (as_pairs (val value.now))) }

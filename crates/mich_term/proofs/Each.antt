@@ -206,13 +206,13 @@ module _ (Q : BigMap-F Value BigMap → Type 0) where
   lower_change c = (c.0, option_map (λ e. e.0) c.1)
 
   -- the changes of one level
-  lower_is : (shares : Bool) (base : Option ℕ) (zs : List (Datum × Option Held)) →
-      (lowered_big (record { shares = shares; base = base; overlay = zs })).overlay ≡ map lower_change zs
-  lower_is shares base [] = refl
-  lower_is shares base (z ∷ zs) = by_case z.1 (lower_is shares base zs)
+  lower_is : (base : Option ℕ) (zs : List (Datum × Option Held)) →
+      (lowered_big (record { base = base; overlay = zs })).overlay ≡ map lower_change zs
+  lower_is base [] = refl
+  lower_is base (z ∷ zs) = by_case z.1 (lower_is base zs)
     where
-      by_case : (o : Option Held) → (lowered_big (record { shares = shares; base = base; overlay = zs })).overlay ≡ map lower_change zs →
-          (lowered_big (record { shares = shares; base = base; overlay = (z.0, o) ∷ zs })).overlay ≡ lower_change (z.0, o) ∷ map lower_change zs
+      by_case : (o : Option Held) → (lowered_big (record { base = base; overlay = zs })).overlay ≡ map lower_change zs →
+          (lowered_big (record { base = base; overlay = (z.0, o) ∷ zs })).overlay ≡ lower_change (z.0, o) ∷ map lower_change zs
       by_case None later = ap (λ t. (z.0, None) ∷ t) later
       by_case (Some x) later = ap (λ t. (z.0, Some x.0) ∷ t) later
 
@@ -227,7 +227,7 @@ module _ (Q : BigMap-F Value BigMap → Type 0) where
   pub in_changes : (b : BigMap) → EachBig b → AllByRecursion EachChange (out-BigMap b).overlay
   in_changes b h =
       let z = every_held-BigMap AnyLayer Q b h in
-      subst (AllByRecursion EachChange) (sym (lower_is z.0.shares z.0.base z.0.overlay) ∙ ap (λ l. l.overlay) z.1) (back_changes z.0.overlay)
+      subst (AllByRecursion EachChange) (sym (lower_is z.0.base z.0.overlay) ∙ ap (λ l. l.overlay) z.1) (back_changes z.0.overlay)
 
   up_put : (o : Option Value) → EachPut o → Option Held
   up_put None h = None
@@ -250,8 +250,8 @@ module _ (Q : BigMap-F Value BigMap → Type 0) where
   pub of_changes : (b : BigMap) → AllByRecursion EachChange (out-BigMap b).overlay → Q (out-BigMap b) → EachBig b
   of_changes b h q =
       let l = out-BigMap b in
-      let e : lowered_big (record { shares = l.shares; base = l.base; overlay = up_changes l.overlay h }) ≡ l = ap (λ (cs : List (Datum × Option Value)). record { shares = l.shares; base = l.base; overlay = cs }) (lower_is l.shares l.base (up_changes l.overlay h) ∙ up_changes_is l.overlay h) in
-      big_to (roll-BigMap l) b (roll-out-BigMap b) (every_made-BigMap AnyLayer Q l (record { shares = l.shares; base = l.base; overlay = up_changes l.overlay h }) e q)
+      let e : lowered_big (record { base = l.base; overlay = up_changes l.overlay h }) ≡ l = ap (λ (cs : List (Datum × Option Value)). record { base = l.base; overlay = cs }) (lower_is l.base (up_changes l.overlay h) ∙ up_changes_is l.overlay h) in
+      big_to (roll-BigMap l) b (roll-out-BigMap b) (every_made-BigMap AnyLayer Q l (record { base = l.base; overlay = up_changes l.overlay h }) e q)
 
   -- ---- values without parts
 

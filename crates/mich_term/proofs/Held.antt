@@ -52,6 +52,6 @@ mutual
   none_in_list no_val h = refl
   none_in_list (more_vals x xs) h = let q = or_parts (carries x) (any_carries xs) h in both_nothing (tickets x) (all_tickets xs) (carries_none x q.0) (none_in_list xs q.1)
 
-  none_in_entries : (ps : Pairs) → any_entry_carries ps ≡ false → pair_tickets ps ≡ []
+  pub none_in_entries : (ps : Pairs) → any_entry_carries ps ≡ false → pair_tickets ps ≡ []
   none_in_entries no_pair h = refl
   none_in_entries (more_pairs k x ps) h = let q = or_parts (carries x) (any_entry_carries ps) h in both_nothing (tickets x) (pair_tickets ps) (carries_none x q.0) (none_in_entries ps q.1)

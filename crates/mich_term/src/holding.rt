@@ -60,7 +60,7 @@ pub fn carries(value: &Value) -> bool
         Value::Pair(x, y) => carries(x.get()) || carries(y.get()),
         Value::List(xs) => list_carries(xs.get()),
         Value::Map(entries) => table_carries(entries.get()),
-        Value::BigMap(big) => big_carries(big.get()),
+        Value::BigMap(big) => puts_ticket(big.get()),
         Value::Ticket(_) => true,
         _ => false,
     }
@@ -92,10 +92,10 @@ fn table_carries(table: &Table<Value>) -> bool
     found
 }
 
-// What is put in a big map.
+/// Whether a ticket is in what a big map puts. Takes no memory.
 #[tactic(auto, using(crate::proofs::Held::or_next, crate::proofs::Overlays::big_is))]
 #[cycle(carrying)]
-fn big_carries(big: &BigMap) -> bool
+pub fn puts_ticket(big: &BigMap) -> bool
     ensures { result ≡ any_entry_carries (big_pairs big.now) }
 {
     let mut found = false;

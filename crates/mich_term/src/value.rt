@@ -43,8 +43,6 @@ pub enum Value {
 #[derive(Debug, Drop)]
 #[cycle(value)]
 pub struct BigMap {
-    /// Whether it may have a base, which it may where values of its value type can be duplicated.
-    pub shares: bool,
     /// The number of its base. None where it has none.
     pub base: Option<u64>,
     /// What was put at a key, or None where the base's entry was taken away.
@@ -134,7 +132,6 @@ fn shadow_big(alloc: Global, big: &BigMap) -> Result<BigMap, Memory>
         overlay.push((new_key, new_change))?;
     }
     Ok(BigMap {
-        shares: big.shares,
         base: big.base,
         overlay,
     })

@@ -52,7 +52,7 @@ all_stand cs old mid new notes e =
 -- settled storages stay so
 pub stored_standing : (old new : Bases) (cs : List (List ℕ × Contract)) → AllByRecursion (Stands old new) cs → AllByRecursion (λ c. IsStored old c.1) cs → AllByRecursion (λ c. IsStored new c.1) cs
 stored_standing old new [] s h = tt
-stored_standing old new (c ∷ cs) s h = (record { settled = h.0.settled; based = (s.0 h.0.based).0 }, stored_standing old new cs s.1 h.1)
+stored_standing old new (c ∷ cs) s h = (record { formed = h.0.formed; based = (s.0 h.0.based).0; shared = h.0.shared }, stored_standing old new cs s.1 h.1)
 
 ticketless : (ns : List ℕ) (bs : Bases) → HoldNoTickets bs → HoldNoTickets (kept_of ns bs)
 ticketless ns [] h = tt

@@ -3,10 +3,13 @@ use Rattle.std.specs.Prelude.{◌≡◌, ◌+ℤ◌, ◌≤ℤ◌, neg_ℤ, ℕ,
 use Rattle.std.specs.List.{AllByRecursion}
 use Rattle.rules_data.specs.values.Tickets.{Identity, Held, tickets}
 use Rattle.rules_code.specs.steps.Changes.{amount_among}
+use Rattle.rules_data.specs.types.Kind.{Kind}
+use Rattle.mich_base.specs.TypeView.{kind}
 use Rattle.mich_forms.specs.Spelled.{place_bytes}
 use Rattle.mich_forms.specs.declared.places.Place.{Place}
 use Rattle.mich_forms.specs.declared.places.Place.TheVariants as place
-use Rattle.mich_instr.specs.declared.instr.Script.{Script}
+use Rattle.mich_instr.specs.declared.instr.Script.{Script, out-Script}
+use Rattle.mich_term.specs.Layers.{AreFormed}
 use Rattle.mich_term.specs.ValueView.{val}
 use Rattle.mich_term.specs.declared.value.Value.{Value}
 use Rattle.mich_tickets.specs.Books.{Books}
@@ -16,8 +19,9 @@ use Rattle.mich_tickets.specs.Most.{most}
 use Rattle.mich_tickets.specs.Sums.{held_of}
 use Rattle.mich_bigmap.specs.Bases.{Bases}
 use Rattle.mich_bigmap.specs.Kept.{names}
-use Rattle.mich_bigmap.specs.Layers.{AreSettled, HasBases}
+use Rattle.mich_bigmap.specs.Layers.{HasBases}
 use Rattle.mich_bigmap.specs.Settling.{Settles, Lays}
+use Rattle.mich_bigmap.specs.Shared.{SettledBy, SharesBy}
 use Rattle.mich_bigmap.specs.Standing.{val_in}
 use Rattle.mich_world.specs.Holders.{founded, committed, contract_at}
 use Rattle.mich_world.specs.World.{World}
@@ -25,10 +29,15 @@ use Rattle.mich_world.specs.declared.contract.Contract.{Contract}
 
 -- ---- all storages
 
--- each big map of a storage is settled in the store
+-- the type of the storages of a script
+abbrev pub storage_kind : Script → Kind
+storage_kind s = kind (out-Script s).storage
+
+-- the big maps of a storage have their form, with bases in the store; and those whose values can be duplicated are settled
 pub record IsStored (bs : Bases) (c : Contract) : Type 0 where
-  pub settled : AreSettled c.storage
+  pub formed : AreFormed c.storage
   pub based : HasBases bs c.storage
+  pub shared : SettledBy (storage_kind c.script) c.storage
 
 abbrev pub AreStored : World → Type 0
 AreStored w = AllByRecursion (λ c. IsStored w.store.bases.present c.1) w.funds.present.contracts
@@ -76,6 +85,7 @@ pub record SamePlace (old new : World) : Type 0 where
 -- a contract is made: a place pays its balance, its storage is settled in the store, and it holds the tickets of the storage
 pub record Installs (from : Place) (hash : List ℕ) (mutez : ℕ) (script : Script) (given : Value) (old new : World) : Type 0 where
   pub storage : Value
+  pub shares : SharesBy (storage_kind script) given storage
   pub funds : new.funds.present ≡ founded old.funds.present from hash (record { balance = mutez; paid = 0; script = script; storage = storage })
   pub settles : Settles old.store.bases.present new.store.bases.present given storage
   pub lays : Lays old.store new.store
@@ -85,6 +95,7 @@ pub record Installs (from : Place) (hash : List ℕ) (mutez : ℕ) (script : Scr
 -- a contract has a new storage, which is settled in the store; it holds its tickets in the place of those of the one before
 pub record Commits (hash : List ℕ) (given : Value) (old new : World) : Type 0 where
   pub storage : Value
+  pub shares : (c : Contract) → contract_at old.funds.present hash ≡ Some c → SharesBy (storage_kind c.script) given storage
   pub funds : new.funds.present ≡ committed old.funds.present hash storage
   pub settles : Settles old.store.bases.present new.store.bases.present given storage
   pub lays : Lays old.store new.store

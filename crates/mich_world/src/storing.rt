@@ -43,7 +43,7 @@ impl World {
         ensures keeps { KeepsWorld self.old self.new }
     {
         self.ledger.enter(alloc, Place::Contract(hash), &storage)?;
-        let storage = settle_all(alloc, &mut self.store, storage)?;
+        let storage = settle_all(alloc, &mut self.store, storage, &script.get().storage)?;
         let contract = Contract {
             balance: amount,
             paid: 0,
@@ -56,7 +56,7 @@ impl World {
 
     #[tactic(auto, using(crate::proofs::Marks::undone_is, crate::proofs::Marks::undone_good, crate::proofs::Marks::same_keeps, crate::proofs::Marks::same_total, crate::proofs::Stored::stored_same, crate::proofs::Stored::stored_installed, crate::proofs::Marks::world_same))]
     /// Makes a contract with a balance, which a place pays, a script and a storage. The big maps of the storage are settled in the
-    /// store, and the contract holds the tickets in it. BalanceTooLow exactly where the balance at the place is less. After an error
+    /// store by its type, and the contract holds the tickets in it. BalanceTooLow exactly where the balance at the place is less. After an error
     /// the world is unchanged, but for the ledger's list of changes after Memory; the storage is abandoned (Octez "Operations",
     /// originations).
     pub fn install(
@@ -109,13 +109,18 @@ impl World {
         self.ledger
             .leave(alloc, Place::Contract(*hash), &contract.storage)?;
         self.ledger.enter(alloc, Place::Contract(*hash), &storage)?;
-        let storage = settle_all(alloc, &mut self.store, storage)?;
+        let storage = settle_all(
+            alloc,
+            &mut self.store,
+            storage,
+            &contract.script.get().storage,
+        )?;
         self.funds.commit(hash, storage)?;
         Ok(())
     }
 
     #[tactic(auto, using(crate::proofs::Marks::undone_is, crate::proofs::Marks::undone_good, crate::proofs::Marks::same_keeps, crate::proofs::Marks::same_total, crate::proofs::Stored::stored_same, crate::proofs::Stored::stored_committed))]
-    /// Gives a contract that is there a new storage. Its big maps are settled in the store, and the contract holds the tickets in it in
+    /// Gives a contract that is there a new storage. Its big maps are settled in the store by its type, and the contract holds the tickets in it in
     /// the place of those in the storage before. After Memory the world is unchanged, but for the ledger's list of changes (Octez
     /// "Operations", transactions).
     pub fn commit(&mut self, alloc: Global, hash: &[u8; 20], storage: Value) -> Result<(), Memory>

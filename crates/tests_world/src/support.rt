@@ -30,7 +30,6 @@ pub(crate) fn empty(alloc: Global) -> BigMap
     ensures { IsFormed result }
 {
     BigMap {
-        shares: true,
         base: None,
         overlay: Rows::new(alloc),
     }

@@ -83,7 +83,6 @@ module _ (bs : Bases) where
       seen_here m (record {
         formed = record {
           keys = subst (λ cs. IsIncreasing (keys_of cs)) (sym o) none_sorted;
-          alone = λ s. b;
           puts = λ e. subst (λ cs. AllByRecursion (λ c. is_some c.1 ≡ true) cs) (sym o) tt;
           plain = subst (λ cs. AllByRecursion (λ c. PutsNoBigMap c.1) cs) (sym o) tt;
           ticketless = λ s. ap (λ cs. pair_tickets (put_pairs cs)) o;
@@ -93,7 +92,7 @@ module _ (bs : Bases) where
       ∙ (λ i. changed (seen_changes (o i)) (entries_in bs (b i))) ∙ none_in bs
 
   pub formed_of : (m : BigMap) → AreIncreasingKeys (entries_seen bs m) → IsFormed m
-  formed_of m h = let f = (sound_here m h).formed in record { keys = f.keys; alone = f.alone; puts = f.puts }
+  formed_of m h = let f = (sound_here m h).formed in record { keys = f.keys; puts = f.puts }
 
 -- ---- after a write
 
@@ -121,24 +120,23 @@ module _ (bs : Bases) where
   put_ticketless ps k None h e = tt
   put_ticketless ps k (Some x) h e = all_at Ticketless k ps (val x) h e
 
-  -- what is formed, with entries that hold no big map, and where it shares no ticket
-  formed_again : (n : BigMap) → IsFormed n → AllValues Plain (big_in bs n) → ((out-BigMap n).shares ≡ true → AllValues Ticketless (big_in bs n)) → FormedLayer (out-BigMap n)
+  -- what is formed, with entries that hold no big map, and where it has a base no ticket
+  formed_again : (n : BigMap) → IsFormed n → AllValues Plain (big_in bs n) → (is_some (out-BigMap n).base ≡ true → AllValues Ticketless (big_in bs n)) → FormedLayer (out-BigMap n)
   formed_again n f plain ticketless =
       let l = out-BigMap n in
       record {
         keys = f.keys;
-        alone = f.alone;
         puts = f.puts;
         plain = all_found PutsNoBigMap l.overlay f.keys (λ k o e. put_plain (big_in bs n) (datum k) o plain (found_over bs l.base k l.overlay o e));
         ticketless = λ s. none_put l.overlay (all_found PutsNoTicket l.overlay f.keys (λ k o e. put_ticketless (big_in bs n) (datum k) o (ticketless s) (found_over bs l.base k l.overlay o e)));
       }
 
   -- one that keeps all entries of another in itself is seen with the same
-  pub alone_seen : (m n : BigMap) → AreEntries (entries_seen bs m) → IsFormed n → (out-BigMap n).shares ≡ false → (out-BigMap n).base ≡ None → big_in bs n ≡ big_in bs m → entries_seen bs n ≡ entries_seen bs m
-  alone_seen m n h formed shares base e =
+  pub alone_seen : (m n : BigMap) → AreEntries (entries_seen bs m) → IsFormed n → (out-BigMap n).base ≡ None → big_in bs n ≡ big_in bs m → entries_seen bs n ≡ entries_seen bs m
+  alone_seen m n h formed base e =
       let same : big_in bs n ≡ entries_seen bs m = e ∙ sym (seen_here bs m (sound_here bs m h.0)) in
       let plain : AllValues Plain (big_in bs n) = subst (AllValues Plain) (sym same) (plain_all (entries_seen bs m) h.1) in
-      seen_here bs n (record { formed = formed_again n formed plain (λ s. let no : false ≡ true = sym shares ∙ s in absurd cc); based = ap (is_there bs) base }) ∙ same
+      seen_here bs n (record { formed = formed_again n formed plain (λ s. let no : false ≡ true = sym (ap is_some base) ∙ s in absurd cc); based = ap (is_there bs) base }) ∙ same
 
   -- the tickets that it is seen with are those that lie in it
   first_tickets : (ps qs : Pairs) → map shown (big_table ps ∷ []) ≡ map shown (big_table qs ∷ []) → pair_tickets ps ≡ pair_tickets qs
@@ -152,7 +150,7 @@ module _ (bs : Bases) where
         first_tickets (entries_seen bs m) (big_pairs m)
         ((λ i. map shown (sym (big_seen (sight bs) m) i ∷ [])) ∙ shows (v.BigMap m ∷ []) ∙ (λ i. map shown (big_seen big_step m i ∷ [])))
 
-    module _ (m n : BigMap) (h : AreEntries (entries_seen bs m)) (formed : IsFormed n) (shares : (out-BigMap n).shares ≡ (out-BigMap m).shares) (base : (out-BigMap n).base ≡ (out-BigMap m).base) where
+    module _ (m n : BigMap) (h : AreEntries (entries_seen bs m)) (formed : IsFormed n) (base : (out-BigMap n).base ≡ (out-BigMap m).base) where
       sound : SoundLayer bs (out-BigMap m)
       sound = sound_here bs m h.0
 
@@ -162,15 +160,15 @@ module _ (bs : Bases) where
       old_plain : AllValues Plain (big_in bs m)
       old_plain = subst (AllValues Plain) old_is (plain_all (entries_seen bs m) h.1)
 
-      old_ticketless : (out-BigMap m).shares ≡ true → AllValues Ticketless (big_in bs m)
+      old_ticketless : is_some (out-BigMap m).base ≡ true → AllValues Ticketless (big_in bs m)
       old_ticketless s =
           subst (AllValues Ticketless) old_is (ticketless_all (entries_seen bs m) (tickets_here m ∙ ap pair_tickets (big_is m) ∙ sound.formed.ticketless s))
 
-      new_is : AllValues Plain (big_in bs n) → ((out-BigMap m).shares ≡ true → AllValues Ticketless (big_in bs n)) → entries_seen bs n ≡ big_in bs n
+      new_is : AllValues Plain (big_in bs n) → (is_some (out-BigMap m).base ≡ true → AllValues Ticketless (big_in bs n)) → entries_seen bs n ≡ big_in bs n
       new_is plain ticketless =
-          seen_here bs n (record { formed = formed_again n formed plain (λ s. ticketless (sym shares ∙ s)); based = ap (is_there bs) base ∙ sound.based })
+          seen_here bs n (record { formed = formed_again n formed plain (λ s. ticketless (sym (ap is_some base) ∙ s)); based = ap (is_there bs) base ∙ sound.based })
 
-      pub put_seen : (k : Val) (x : Value) → is_plain (seen_in bs x) ≡ true → ((out-BigMap m).shares ≡ true → tickets (val x) ≡ []) → big_in bs n ≡ with_value k (val x) (big_in bs m) →
+      pub put_seen : (k : Val) (x : Value) → is_plain (seen_in bs x) ≡ true → (is_some (out-BigMap m).base ≡ true → tickets (val x) ≡ []) → big_in bs n ≡ with_value k (val x) (big_in bs m) →
           entries_seen bs n ≡ with_value k (seen_in bs x) (entries_seen bs m)
       put_seen k x p t e =
           let same = plain_val bs x p in

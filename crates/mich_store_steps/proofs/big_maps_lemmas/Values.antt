@@ -1,22 +1,22 @@
 -- What is so of each value of a big map stays so of them after a write.
 use Rattle.std.proofs.Common.{◌≡◌, Bool, true, false, List, [], ◌∷◌, ◌++◌, Some, None, refl, sym, ap, ◌∙◌, subst}
-use Rattle.std.specs.Prelude.{◌||◌, if◌then◌else◌, is_some, option_map}
+use Rattle.std.specs.Prelude.{if◌then◌else◌, is_some, option_map}
 use Rattle.std.specs.declared.option.Option.{Option}
 use Rattle.std.specs.declared.cmp.Ordering.TheVariants.{Less, Equal, Greater}
 use Rattle.std.specs.Ordering.{match_ordering, is_eq}
 use Rattle.std.specs.List.{AllByRecursion}
 use Rattle.std.specs.List.Sorted.{IsStrictlySortedBy}
-use Rattle.std.specs.Map.{keys_of, lookup}
+use Rattle.std.specs.Map.{keys_of}
 use Rattle.std.specs.BTreeMap.{is_at}
 use Rattle.std.proofs.lemmas.Bool.{and_parts, and_from}
 use Rattle.std.proofs.lemmas.Cmp.{eq_by_cmp_equiv, tied_itself}
 use Rattle.std.proofs.lemmas.Map.{lookup-none}
 use Rattle.std.proofs.lemmas.Map.Keys.{IsDistinct-from_sorted}
 use Rattle.std.proofs.lemmas.Map.Entries.{lookup_head, lookup_tail, none_past_head}
-use Rattle.rules_data.specs.values.Val.{Val, Vals, Pairs, some, left, right, both, list, table, big_table, ticket, no_val, more_vals, no_pair, more_pairs}
+use Rattle.rules_data.specs.values.Val.{Val, Pairs, no_pair, more_pairs}
 use Rattle.rules_data.specs.values.Order.{order}
 use Rattle.rules_data.specs.values.Tables.{value_at, with_value, without_key}
-use Rattle.rules_data.specs.values.Tickets.{Held, tickets, all_tickets, pair_tickets}
+use Rattle.rules_data.specs.values.Tickets.{Held, tickets, pair_tickets}
 use Rattle.mich_term.specs.Keyed.{by, found, IsIncreasing}
 use Rattle.mich_term.specs.declared.datum.Datum.{Datum}
 use Rattle.mich_term.specs.declared.value.Value.{Value}

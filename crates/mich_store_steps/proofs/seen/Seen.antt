@@ -28,7 +28,7 @@ use Rattle.mich_bigmap.specs.Layers.{BasedLayer, HasBases}
 use Rattle.mich_bigmap.specs.Standing.{val_in, big_step_in}
 use Rattle.mich_bigmap.proofs.ForCallers.{equals, agree, each_more, each_both}
 use Rattle.mich_stack.specs.Views.{Sight, seen}
-use Rattle.mich_store_steps.specs.seen.Sights.{Seen, is_less, are_above, are_increasing, put_plain, all_plain, all_put, is_none, has_no_base, shares_well, puts_well, is_layer, odd, seen_where, sight, IsSane, AreSane, EntriesSane}
+use Rattle.mich_store_steps.specs.seen.Sights.{Seen, is_less, are_above, are_increasing, put_plain, all_plain, all_put, is_none, bare_well, puts_well, is_layer, odd, seen_where, sight, IsSane, AreSane, EntriesSane}
 use Rattle.mich_store_steps.proofs.seen.Parts.{big_seen, HasParts, tells, plain_tells, plain_seen, plain_is}
 use Rattle.mich_store_steps.proofs.seen.Fitting.{fits_sane}
 
@@ -62,25 +62,17 @@ unfolding IsStrictlySortedBy
 increasing_is [] h = refl
 increasing_is (k ∷ ks) h = and_from _ _ (above_is k ks h.0) (increasing_is ks h.1)
 
-no_base_of : (base : Option ℕ) → has_no_base base ≡ true → base ≡ None
-no_base_of None h = refl
-no_base_of (Some k) h = cc
-
-alone_of : (shares : Bool) (base : Option ℕ) (ts : List Held) → shares_well shares base ts ≡ true → shares ≡ false → base ≡ None
-alone_of true base ts h s = cc
-alone_of false base ts h s = no_base_of base h
-
 none_of : (ts : List Held) → is_none ts ≡ true → ts ≡ []
 none_of [] h = refl
 none_of (t ∷ ts) h = cc
 
-ticketless_of : (shares : Bool) (base : Option ℕ) (ts : List Held) → shares_well shares base ts ≡ true → shares ≡ true → ts ≡ []
-ticketless_of true base ts h s = none_of ts h
-ticketless_of false base ts h s = cc
+ticketless_of : (base : Option ℕ) (ts : List Held) → bare_well base ts ≡ true → is_some base ≡ true → ts ≡ []
+ticketless_of None ts h s = cc
+ticketless_of (Some k) ts h s = none_of ts h
 
-shares_is : (shares : Bool) (base : Option ℕ) (ts : List Held) → (shares ≡ false → base ≡ None) → (shares ≡ true → ts ≡ []) → shares_well shares base ts ≡ true
-shares_is true base ts a t = ap is_none (t refl)
-shares_is false base ts a t = ap has_no_base (a refl)
+bare_is : (base : Option ℕ) (ts : List Held) → (is_some base ≡ true → ts ≡ []) → bare_well base ts ≡ true
+bare_is None ts t = refl
+bare_is (Some k) ts t = ap is_none (t refl)
 
 -- ---- one level
 
@@ -91,12 +83,12 @@ module _ (big : Sight) where
   abbrev pub layer : BigMap-F Value BigMap → BigMap-F Val Pairs
   layer l = map-BigMap Value BigMap Val Pairs (seen big) (big_seen big) l
 
-  overlay_is : (shares : Bool) (base : Option ℕ) (cs : Changes) → (layer (record { shares = shares; base = base; overlay = cs })).overlay ≡ map seen_change cs
-  overlay_is shares base [] = refl
-  overlay_is shares base (c ∷ cs) = by_case c.1 (overlay_is shares base cs)
+  overlay_is : (base : Option ℕ) (cs : Changes) → (layer (record { base = base; overlay = cs })).overlay ≡ map seen_change cs
+  overlay_is base [] = refl
+  overlay_is base (c ∷ cs) = by_case c.1 (overlay_is base cs)
     where
-      by_case : (o : Option Value) → (layer (record { shares = shares; base = base; overlay = cs })).overlay ≡ map seen_change cs →
-          (layer (record { shares = shares; base = base; overlay = (c.0, o) ∷ cs })).overlay ≡ seen_change (c.0, o) ∷ map seen_change cs
+      by_case : (o : Option Value) → (layer (record { base = base; overlay = cs })).overlay ≡ map seen_change cs →
+          (layer (record { base = base; overlay = (c.0, o) ∷ cs })).overlay ≡ seen_change (c.0, o) ∷ map seen_change cs
       by_case None later = ap (λ t. (c.0, None) ∷ t) later
       by_case (Some x) later = ap (λ t. (c.0, Some (seen big x)) ∷ t) later
 
@@ -151,10 +143,10 @@ module _ (big : Sight) where
 
   module _ (bs : Bases) (l : BigMap-F Value BigMap) where
     abbrev over : Seen → BigMap-F Val Pairs
-    over cs = record { shares = l.shares; base = l.base; overlay = cs }
+    over cs = record { base = l.base; overlay = cs }
 
     whole_is : layer l ≡ over (map seen_change l.overlay)
-    whole_is = ap over (overlay_is l.shares l.base l.overlay)
+    whole_is = ap over (overlay_is l.base l.overlay)
 
     -- what passes the test has its form
     pub layer_of : is_layer bs (layer l) ≡ true → SoundLayer bs l
@@ -168,10 +160,9 @@ module _ (big : Sight) where
         record {
           formed = record {
             keys = increasing_of (keys_of l.overlay) (ap are_increasing (sym (keys_are l.overlay)) ∙ second.0);
-            alone = alone_of l.shares l.base _ third.0;
             puts = puts_of l.base l.overlay fourth.0;
             plain = plain;
-            ticketless = λ s. ap (λ cs. pair_tickets (puts cs)) (sym (changes_seen l.overlay plain)) ∙ ticketless_of l.shares l.base _ third.0 s;
+            ticketless = λ s. ap (λ cs. pair_tickets (puts cs)) (sym (changes_seen l.overlay plain)) ∙ ticketless_of l.base _ third.0 s;
           };
           based = first.0;
         }
@@ -181,7 +172,7 @@ module _ (big : Sight) where
     layer_is h =
         ap (is_layer bs) whole_is
         ∙ and_from _ _ h.based (and_from _ _ (ap are_increasing (keys_are l.overlay) ∙ increasing_is (keys_of l.overlay) h.formed.keys)
-        (and_from _ _ (shares_is l.shares l.base _ h.formed.alone (λ s. ap (λ cs. pair_tickets (puts cs)) (changes_seen l.overlay h.formed.plain) ∙ h.formed.ticketless s))
+        (and_from _ _ (bare_is l.base _ (λ s. ap (λ cs. pair_tickets (puts cs)) (changes_seen l.overlay h.formed.plain) ∙ h.formed.ticketless s))
         (and_from _ _ (puts_is l.base l.overlay h.formed.puts) (all_is l.overlay h.formed.plain))))
 
     -- where nothing that is put holds a big map, all see it alike

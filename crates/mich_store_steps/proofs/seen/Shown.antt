@@ -26,7 +26,7 @@ use Rattle.mich_bigmap.specs.Ticketless.{HoldNoTickets}
 use Rattle.mich_bigmap.proofs.ForCallers.{none_in, none_in_store}
 use Rattle.mich_stack.specs.Views.{Sight, seen}
 use Rattle.mich_step.specs.Shown.{as_entries, shown, all_shown, entries_shown, ShowsTickets}
-use Rattle.mich_store_steps.specs.seen.Sights.{Seen, is_less, are_above, are_increasing, all_put, is_none, shares_well, puts_well, is_layer, seen_where, sight}
+use Rattle.mich_store_steps.specs.seen.Sights.{Seen, is_less, are_above, are_increasing, all_put, is_none, bare_well, puts_well, is_layer, seen_where, sight}
 use Rattle.mich_store_steps.proofs.seen.Parts.{big_seen}
 
 -- ---- tickets as entries
@@ -134,12 +134,11 @@ none_of [] h = refl
 none_of (t ∷ ts) h = cc
 
 module _ (bs : Bases) (ticketless : HoldNoTickets bs) where
-  made_tickets : (shares : Bool) (base : Option ℕ) (cs : Seen) → are_increasing (keys_of cs) ≡ true → shares_well shares base (pair_tickets (puts cs)) ≡ true →
+  made_tickets : (base : Option ℕ) (cs : Seen) → are_increasing (keys_of cs) ≡ true → bare_well base (pair_tickets (puts cs)) ≡ true →
       puts_well base cs ≡ true → pair_tickets (changed (map change_step cs) (entries_in bs base)) ≡ pair_tickets (puts cs)
-  made_tickets true base cs s w p =
-      let none = none_of (pair_tickets (puts cs)) w in none_changed cs (entries_in bs base) none (none_in_store bs base ticketless) ∙ sym none
-  made_tickets false None cs s w p = ap (λ ps. pair_tickets (changed (map change_step cs) ps)) (none_in bs) ∙ ap pair_tickets (alone_made cs p s)
-  made_tickets false (Some k) cs s w p = absurd cc
+  made_tickets (Some k) cs s w p =
+      let none = none_of (pair_tickets (puts cs)) w in none_changed cs (entries_in bs (Some k)) none (none_in_store bs (Some k) ticketless) ∙ sym none
+  made_tickets None cs s w p = ap (λ ps. pair_tickets (changed (map change_step cs) ps)) (none_in bs) ∙ ap pair_tickets (alone_made cs p s)
 
   -- what a big map is seen as has the tickets that are put in it
   sight_tickets : (b : BigMap-F Val Pairs) → pair_tickets (sight bs b) ≡ pair_tickets (puts b.overlay)
@@ -151,7 +150,7 @@ module _ (bs : Bases) (ticketless : HoldNoTickets bs) where
           let second = and_parts _ _ first.1 in
           let third = and_parts _ _ second.1 in
           let fourth = and_parts _ _ third.1 in
-          made_tickets b.shares b.base b.overlay second.0 third.0 fourth.0
+          made_tickets b.base b.overlay second.0 third.0 fourth.0
       by false h = entries_tickets (pair_tickets (puts b.overlay))
 
   -- ---- all levels
@@ -215,22 +214,22 @@ module _ (bs : Bases) (ticketless : HoldNoTickets bs) where
   abbrev layer : Sight → BigMap-F With WithBig → BigMap-F Val Pairs
   layer big z = map-BigMap Value BigMap Val Pairs (seen big) (big_seen big) (low_big z)
 
-  puts_alike : (shares : Bool) (base : Option ℕ) (zs : List (Datum × Option With)) →
-      pair_tickets (puts (layer (sight bs) (record { shares = shares; base = base; overlay = zs })).overlay) ≡ pair_tickets (puts (layer big_step (record { shares = shares; base = base; overlay = zs })).overlay)
-  puts_alike shares base [] = refl
-  puts_alike shares base (z ∷ zs) = by_case z.1 (puts_alike shares base zs)
+  puts_alike : (base : Option ℕ) (zs : List (Datum × Option With)) →
+      pair_tickets (puts (layer (sight bs) (record { base = base; overlay = zs })).overlay) ≡ pair_tickets (puts (layer big_step (record { base = base; overlay = zs })).overlay)
+  puts_alike base [] = refl
+  puts_alike base (z ∷ zs) = by_case z.1 (puts_alike base zs)
     where
       by_case : (o : Option With) →
-          pair_tickets (puts (layer (sight bs) (record { shares = shares; base = base; overlay = zs })).overlay) ≡ pair_tickets (puts (layer big_step (record { shares = shares; base = base; overlay = zs })).overlay) →
-          pair_tickets (puts (layer (sight bs) (record { shares = shares; base = base; overlay = (z.0, o) ∷ zs })).overlay)
-          ≡ pair_tickets (puts (layer big_step (record { shares = shares; base = base; overlay = (z.0, o) ∷ zs })).overlay)
+          pair_tickets (puts (layer (sight bs) (record { base = base; overlay = zs })).overlay) ≡ pair_tickets (puts (layer big_step (record { base = base; overlay = zs })).overlay) →
+          pair_tickets (puts (layer (sight bs) (record { base = base; overlay = (z.0, o) ∷ zs })).overlay)
+          ≡ pair_tickets (puts (layer big_step (record { base = base; overlay = (z.0, o) ∷ zs })).overlay)
       by_case None later = later
       by_case (Some x) later = (λ i. alike_tickets (seen (sight bs) x.0) (val x.0) x.1 i ++ later i)
 
   big_level : (z : BigMap-F With WithBig) → AlikeBig (roll-BigMap (low_big z))
   big_level z =
       ap pair_tickets (fold-roll-BigMap Val Pairs value_step (sight bs) (low_big z))
-      ∙ sight_tickets (layer (sight bs) z) ∙ puts_alike z.shares z.base z.overlay
+      ∙ sight_tickets (layer (sight bs) z) ∙ puts_alike z.base z.overlay
       ∙ sym (ap pair_tickets (fold-roll-BigMap Val Pairs value_step big_step (low_big z)))
 
   pub alike : (x : Value) → Alike x

@@ -1,6 +1,6 @@
 -- What instructions on big maps take.
-use Rattle.std.specs.Prelude.{◌≡◌, Bool, true, false, ◌||◌, List, ◌∷◌}
-use Rattle.rules_data.specs.values.Val.{Val, nothing, some, left, right, both, list, table, big_table, ticket, Vals, no_val, more_vals, Pairs, no_pair, more_pairs}
+use Rattle.std.specs.Prelude.{◌≡◌, true, List, ◌∷◌}
+use Rattle.rules_data.specs.values.Val.{Val, nothing, some, big_table, Pairs}
 use Rattle.rules_data.specs.values.Tables.{AreIncreasingKeys}
 use Rattle.rules_code.specs.instructions.Straight.{CollectionRow}
 use Rattle.rules_code.specs.instructions.Straight as i

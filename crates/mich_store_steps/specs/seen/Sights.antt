@@ -72,14 +72,10 @@ abbrev pub is_none : List Held → Bool
 is_none [] = true
 is_none (t ∷ ts) = false
 
-abbrev pub has_no_base : Option ℕ → Bool
-has_no_base None = true
-has_no_base (Some k) = false
-
--- one that shares puts no ticket, and one that doesn't has no base
-abbrev pub shares_well : Bool → Option ℕ → List Held → Bool
-shares_well true base ts = is_none ts
-shares_well false base ts = has_no_base base
+-- what has a base puts no ticket
+abbrev pub bare_well : Option ℕ → List Held → Bool
+bare_well None ts = true
+bare_well (Some k) ts = is_none ts
 
 -- what has no base takes nothing away
 abbrev pub puts_well : Option ℕ → Seen → Bool
@@ -89,7 +85,7 @@ puts_well (Some k) cs = true
 -- whether one level of a big map, with the values that it puts already seen, has its form, and its base is in the store
 abbrev pub is_layer : Bases → BigMap-F Val Pairs → Bool
 is_layer bs b =
-    is_there bs b.base && (are_increasing (keys_of b.overlay) && (shares_well b.shares b.base (pair_tickets (puts b.overlay))
+    is_there bs b.base && (are_increasing (keys_of b.overlay) && (bare_well b.base (pair_tickets (puts b.overlay))
     && (puts_well b.base b.overlay && all_plain b.overlay)))
 
 -- ---- the sight

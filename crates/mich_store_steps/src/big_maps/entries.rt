@@ -1,11 +1,12 @@
 // Entries of big maps, as they are seen in a store.
-ghost use Rattle.std.specs.Prelude.{◌≡◌, true, false, [], List, option_map, is_some, OnOk, IfOk, IfSome};
+ghost use Rattle.std.specs.Prelude.{◌≡◌, ◌&&◌, true, false, [], List, option_map, is_some, OnOk, IfOk, IfSome};
 ghost use Rattle.rules_data.specs.values.Val.{no_pair};
 ghost use Rattle.rules_data.specs.values.Tickets.{tickets};
 ghost use Rattle.rules_data.specs.values.Tables.{value_at, without_key};
 ghost use Rattle.mich_bigmap.specs.Bases.{Bases};
 ghost use Rattle.mich_step.specs.Shown.{ShowsTickets};
 ghost use Rattle.mich_term.specs.View.{datum};
+ghost use Rattle.mich_term.specs.Holding.{carries};
 ghost use Rattle.mich_term.specs.ValueView.{val};
 ghost use Rattle.mich_term.specs.declared.value.Value.{Value};
 ghost use Rattle.mich_term.specs.declared.value.BigMap.{out-BigMap};
@@ -13,18 +14,16 @@ ghost use Rattle.mich_store_steps.specs.seen.Sights.{is_plain, sight};
 ghost use Rattle.mich_store_steps.specs.big_maps.Given.{entries_changed, entries_seen, entries_with, seen_in};
 ghost use Rattle.mich_store_steps.specs.big_maps.Operands.{AreEntries};
 
-use mich_base::{Memory, Rows, Ty};
+use mich_base::{Memory, Rows};
 use mich_bigmap::{Store, erase, get, unshared, write};
-use mich_term::{BigMap, Datum, Value, holds};
-use mich_types::duplicable;
+use mich_term::{BigMap, Datum, Value, carries};
 use std::alloc::Global;
 
-// A big map without entries. It may share where its values can be copied.
-pub(crate) fn no_entries(alloc: Global, value: &Ty) -> BigMap
+// A big map without entries.
+pub(crate) fn no_entries(alloc: Global) -> BigMap
     ensures { (bs : Bases) → entries_seen bs result ≡ no_pair }
 {
     BigMap {
-        shares: duplicable(value),
         base: None,
         overlay: Rows::new(alloc),
     }
@@ -48,19 +47,21 @@ pub(crate) fn is_there(store: &Store, big: &BigMap, key: &Datum) -> bool
     found(store, big, key).is_some()
 }
 
-// Whether a value may not be put into a big map that shares.
+// Whether a value may not be put into a big map: the values of a base are copied, so no ticket lies over one.
 fn is_barred(big: &BigMap, value: &Value) -> bool
-    ensures { result ≡ false → (out-BigMap big.now).shares ≡ true → tickets (val value.now) ≡ [] }
+    ensures exact { result ≡ (is_some (out-BigMap big.now).base && carries (val value.now)) }
+    ensures permitted { result ≡ false → is_some (out-BigMap big.now).base ≡ true → tickets (val value.now) ≡ [] }
 {
-    big.shares && holds(value)
+    big.base.is_some() && carries(value)
 }
 
-// Values of a big map that shares can be copied, so what typed code puts there holds no ticket; where a value does, the big map first
-// takes its entries out of the store, and shares no more.
+// Where a ticket is put, the big map first takes its entries out of the store. Only values that can be duplicated lie in a base, so
+// typed code never comes to this.
 fn unbar(alloc: Global, store: &Store, big: &mut BigMap, value: &Value) -> Result<(), Memory>
     requires { AreEntries (entries_seen store.now.bases.present big.old) }
     ensures entries { OnOk result (entries_seen store.now.bases.present big.new ≡ entries_seen store.now.bases.present big.old) }
-    ensures permitted { OnOk result ((out-BigMap big.new).shares ≡ true → tickets (val value.now) ≡ []) }
+    ensures permitted { OnOk result (is_some (out-BigMap big.new).base ≡ true → tickets (val value.now) ≡ []) }
+    ensures stays { carries (val value.now) ≡ false → big.new ≡ big.old }
 {
     if is_barred(big, value) {
         *big = unshared(alloc, store, big)?;
@@ -81,6 +82,7 @@ fn put(
     requires shows { (vs : List Value) → ShowsTickets (sight store.now.bases.present) vs }
     ensures old { IfOk result (λ old. option_map (seen_in store.now.bases.present) old ≡ value_at (datum key) (entries_seen store.now.bases.present big.old)) }
     ensures new { OnOk result (entries_seen store.now.bases.present big.new ≡ entries_with store.now.bases.present key value big.old) }
+    ensures base { carries (val value) ≡ false → (out-BigMap big.new).base ≡ (out-BigMap big.old).base }
 {
     unbar(alloc, store, big, &value)?;
     let old = write(alloc, store, big, key, value)?;

@@ -32,7 +32,7 @@ fn empty_big_map(
     ensures { (bs : Bases) → HandsOut bs (i.empty_big_map (kind key.now) (kind value.now)) stack.old stack.new result }
 {
     let _key = key;
-    let empty = big_value(alloc, no_entries(alloc, value))?;
+    let empty = big_value(alloc, no_entries(alloc))?;
     push(stack, empty)?;
     Ok(Value::Unit)
 }

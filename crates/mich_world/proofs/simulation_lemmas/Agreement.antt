@@ -318,7 +318,7 @@ runs_agree u v w changes s stored r =
 -- the storages stay settled
 stored_later : (old new : Bases) (cs : List (List ℕ × Contract)) → Extends old new → AllByRecursion (λ e. IsStored old e.1) cs → AllByRecursion (λ e. IsStored new e.1) cs
 stored_later old new [] x h = tt
-stored_later old new (c ∷ cs) x h = (record { settled = h.0.settled; based = based_later old new c.1.storage x h.0.based }, stored_later old new cs x h.1)
+stored_later old new (c ∷ cs) x h = (record { formed = h.0.formed; based = based_later old new c.1.storage x h.0.based; shared = h.0.shared }, stored_later old new cs x h.1)
 
 pub runs_keep_stored : RunsKeepStored
 runs_keep_stored u v changes stored r =

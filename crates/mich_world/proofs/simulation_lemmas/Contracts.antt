@@ -21,13 +21,12 @@ use Rattle.rules_world.specs.world.Holdings.{held_by, held_by_contract}
 use Rattle.rules_world.specs.world.World.{World as PlainWorld, contract_at as plain_contract_at, with_contract as with_plain_contract}
 use Rattle.mich_bigmap.specs.Bases.{Bases}
 use Rattle.mich_bigmap.specs.Extended.{Extends}
-use Rattle.mich_bigmap.specs.Layers.{AreSettled, SettledLayer}
 use Rattle.mich_bigmap.specs.Standing.{val_in}
 use Rattle.mich_bigmap.specs.Ticketless.{HoldNoTickets}
-use Rattle.mich_bigmap.proofs.ForCallers.{tickets_in_store, val_later, each_more}
+use Rattle.mich_bigmap.proofs.ForCallers.{tickets_in_store, val_later}
 use Rattle.mich_forms.specs.declared.places.Place.{Place}
 use Rattle.mich_forms.specs.declared.places.Place.TheVariants as place
-use Rattle.mich_term.specs.Layers.{AreFormed, FormedLayer}
+use Rattle.mich_term.specs.Layers.{AreFormed}
 use Rattle.mich_term.specs.ValueView.{val}
 use Rattle.mich_term.specs.declared.value.Value.{Value}
 use Rattle.mich_tickets.specs.Books.{Books}
@@ -110,9 +109,6 @@ pub stored_at : (h : Holders) (bs : Bases) (hash : List ℕ) (c : Contract) → 
     → contract_at h hash ≡ Some c → IsStored bs c
 stored_at h bs hash c a e = all_at (IsStored bs) (is_at (by_bytes hash)) h.contracts c a e
 
-pub formed_of : (v : Value) → AreSettled v → AreFormed v
-formed_of v s = each_more SettledLayer FormedLayer (λ b l. l.formed) v s
-
 -- ---- what contracts hold
 
 pub nothing_held : (w : PlainWorld) (hash : List ℕ) (id : Identity) → length hash ≡ 20 → plain_contract_at w hash ≡ None
@@ -140,7 +136,7 @@ stored_are h bs b w hash c t a n there = by (contract_at h hash) refl
     by (Some d) e =
         let x : Some (plain bs d) ≡ Some c = sym (contract_is h bs b w hash t ∙ ap (option_map (plain bs)) e) ∙ there in
         let s : plain bs d ≡ c = cc in
-        sym (tickets_in_store bs d.storage n (formed_of d.storage (stored_at h bs hash d a e).settled))
+        sym (tickets_in_store bs d.storage n (stored_at h bs hash d a e).formed)
         ∙ ap (λ (z : PlainContract). tickets z.storage) s
 
 pub before_held : (h : Holders) (bs : Bases) (b : Books) (w : PlainWorld) (hash : List ℕ) (c : PlainContract) (id : Identity) → AreThose h bs b w

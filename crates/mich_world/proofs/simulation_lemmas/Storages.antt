@@ -79,7 +79,7 @@ stored_for u v h e p a =
 pub moves_keep_stored : MovesKeepStored
 moves_keep_stored u v from to n a e p =
     stored_for u v (moved u.funds.present from to n) e p
-    (all_moved (IsStored u.store.bases.present) (λ c m s. record { settled = s.settled; based = s.based }) u.funds.present from to n a)
+    (all_moved (IsStored u.store.bases.present) (λ c m s. record { formed = s.formed; based = s.based; shared = s.shared }) u.funds.present from to n a)
 
 pub fees_keep_stored : FeesKeepStored
 fees_keep_stored u v who n a e p = stored_for u v (fee_taken u.funds.present who n) e p a
@@ -90,4 +90,4 @@ grants_keep_stored u v who n a e p = stored_for u v (endowed u.funds.present who
 pub payments_keep_stored : PaymentsKeepStored
 payments_keep_stored u v hash who size burn a e p =
     stored_for u v (storage_paid u.funds.present hash size who burn) e p
-    (all_paid (IsStored u.store.bases.present) (λ c n s. record { settled = s.settled; based = s.based }) u.funds.present hash who size burn a)
+    (all_paid (IsStored u.store.bases.present) (λ c n s. record { formed = s.formed; based = s.based; shared = s.shared }) u.funds.present hash who size burn a)

@@ -157,7 +157,6 @@ fn of_tickets(alloc: Global) -> Result<BigMap, Memory> {
     let mut overlay = Rows::new(alloc);
     overlay.push((Datum::Number(1), Some(tickets(alloc, 5)?)))?;
     Ok(BigMap {
-        shares: false,
         base: None,
         overlay,
     })

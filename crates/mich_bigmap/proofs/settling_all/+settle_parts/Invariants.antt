@@ -2,7 +2,9 @@ use Rattle.std.proofs.Common.{◌≡◌, ◌++◌}
 use Rattle.std.specs.Vec.Iter.{into_iter_items}
 use Rattle.std.specs.List.{AllByRecursion}
 use Rattle.mich_term.specs.Layers.{AreFormed}
+use Rattle.mich_base.specs.TypeView.{kind}
 use Rattle.mich_bigmap.specs.Layers.{HasBases}
+use Rattle.mich_bigmap.specs.Shared.{EntriesShareBy, ShareBy}
 use Rattle.mich_bigmap.specs.Settling.{SettlesAll, SettlesEntries, Lays}
 use Rattle.mich_bigmap.proofs.settling_all.+settle_parts.Given as goal
 
@@ -15,6 +17,7 @@ invariant-settle_list-loop-value l =
       formed : AllByRecursion AreFormed left;
       based : AllByRecursion (HasBases l.fn.store.bases.present) left;
       lays : Lays l.fn.store l.store;
+      shared : ShareBy (kind l.ty) l.yielded l.copies;
     }
 
 abbrev pub invariant-settle_table-loop-key : goal.invariant-settle_table-loop-key
@@ -27,4 +30,5 @@ invariant-settle_table-loop-key l =
       based : AllByRecursion (λ e. HasBases l.fn.store.bases.present e.1) left;
       here : AllByRecursion (λ e. HasBases l.store.bases.present e.1) left;
       lays : Lays l.fn.store l.store;
+      shared : EntriesShareBy (kind l.ty) l.yielded l.copies;
     }

@@ -1,4 +1,4 @@
-use Rattle.std.proofs.Common.{◌≡◌, true, refl, sym, ap, ◌∙◌, subst}
+use Rattle.std.proofs.Common.{◌≡◌, true, sym, ap, ◌∙◌, subst}
 use Rattle.std.specs.Prelude.{is_some}
 use Rattle.std.specs.List.{AllByRecursion}
 use Rattle.std.specs.Map.{keys_of}
@@ -25,6 +25,5 @@ returns-clause-formed c =
     let entries = c.apply.new.entries in
     record {
       keys = subst (λ (cs : Changes). IsIncreasing (keys_of cs)) (sym made.changes) (subst IsIncreasing (sym (put_keys entries)) made.increasing);
-      alone = λ s. refl;
       puts = λ s. subst (λ (cs : Changes). AllByRecursion (λ e. is_some e.1 ≡ true) cs) (sym made.changes) (puts_put entries);
     }

@@ -15,8 +15,8 @@ returns-clause-value c =
     ∙ ap big_table (big_pairs_put c.in_ok-big.big c.args.table (ap (λ (l : BigMap-F Value BigMap). l.overlay) opened ∙ c.in_ok-overlay.ensures.puts))
 
 pub returns-clause-whole : goal.returns-clause-whole
-returns-clause-whole c = λ a b same h.
+returns-clause-whole c = λ a b h.
     let opened = big_opened c.in_ok-big.big _ c.in_ok-big.ensures in
     big_map_whole a b c.in_ok-big.big
-    (big_lies_whole b c.in_ok-big.big c.args.shares c.args.table (ap (λ (l : BigMap-F Value BigMap). l.base) opened)
-    (ap (λ (l : BigMap-F Value BigMap). l.shares) opened) same (ap (λ (l : BigMap-F Value BigMap). l.overlay) opened ∙ c.in_ok-overlay.ensures.puts) c.overlay_of.ensures.increasing h)
+    (big_lies_whole b c.in_ok-big.big c.args.table (ap (λ (l : BigMap-F Value BigMap). l.base) opened)
+    (ap (λ (l : BigMap-F Value BigMap). l.overlay) opened ∙ c.in_ok-overlay.ensures.puts) c.overlay_of.ensures.increasing h)

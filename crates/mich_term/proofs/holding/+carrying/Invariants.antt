@@ -14,6 +14,6 @@ invariant-table_carries-loop-key l = record {
   place : map deref_pair l.yielded ++ l.key-iterator ≡ l.table;
 }
 
-abbrev pub invariant-big_carries-loop-key : goal.invariant-big_carries-loop-key
-invariant-big_carries-loop-key l =
+abbrev pub invariant-puts_ticket-loop-key : goal.invariant-puts_ticket-loop-key
+invariant-puts_ticket-loop-key l =
     (l.found || any_entry_carries (put_pairs (drop l.key-index l.key-items))) ≡ any_entry_carries (big_pairs l.big)

@@ -1,4 +1,4 @@
-use Rattle.std.proofs.Common.{true, None, [], sym, subst}
+use Rattle.std.proofs.Common.{None, [], sym, subst}
 use Rattle.std.specs.List.Sorted.{IsStrictlySortedBy}
 use Rattle.mich_term.specs.declared.value.BigMap.{roll-BigMap}
 use Rattle.mich_bigmap.specs.Formed.{IsFormed}
@@ -7,4 +7,4 @@ use Rattle.tests_world.proofs.support.empty.Goals as goal
 
 pub returns : goal.returns
 unfolding IsStrictlySortedBy
-returns c = subst (λ (cs : Changes). IsFormed (roll-BigMap record { shares = true; base = None; overlay = cs })) (sym c.new.ensures) (record { keys = tt; alone = λ e. absurd cc; puts = λ e. tt })
+returns c = subst (λ (cs : Changes). IsFormed (roll-BigMap record { base = None; overlay = cs })) (sym c.new.ensures) (record { keys = tt; puts = λ e. tt })

@@ -26,6 +26,6 @@ returns-clause-new c =
     let m = c.unbar.new.big in
     let same = c.in_ok-unbar.ensures.entries in
     let entries = subst AreEntries (sym same) c.requires.entries in
-    put_seen bs c.requires.shows m c.write.new.m entries c.in_ok-old.ensures.formed c.in_ok-old.ensures.shares c.in_ok-old.ensures.base
+    put_seen bs c.requires.shows m c.write.new.m entries c.in_ok-old.ensures.formed c.in_ok-old.ensures.base
     (datum c.args.key) c.args.value c.requires.plain c.in_ok-unbar.ensures.permitted c.in_ok-old.ensures.new
     ∙ ap (with_value (datum c.args.key) (seen_in bs c.args.value)) same

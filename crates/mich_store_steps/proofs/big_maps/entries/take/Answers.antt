@@ -17,5 +17,5 @@ returns-clause-old c =
 pub returns-clause-new : goal.returns-clause-new
 returns-clause-new c =
     let bs = c.args.store.now.bases.present in
-    erased_seen bs c.requires.shows c.args.big.now c.erase.new.m c.requires.entries c.in_ok-old.ensures.formed c.in_ok-old.ensures.shares c.in_ok-old.ensures.base
+    erased_seen bs c.requires.shows c.args.big.now c.erase.new.m c.requires.entries c.in_ok-old.ensures.formed c.in_ok-old.ensures.base
     (datum c.args.key.now) c.in_ok-old.ensures.new
