@@ -1,7 +1,10 @@
 -- What is kept of the statements of a file: the first, the place of the second, and the fault behind them.
 use Rattle.std.specs.Prelude.{◌≡◌, ◌<◌, ◌≤◌, ◌+◌, ℕ, List, [], length, ◌∷◌, Option, Some, None, option_map}
 use Rattle.rules_text.specs.nodes.Tree.{Tree, size}
-use Rattle.rules_files.specs.commands.Answers.{Answer, misplaced}
+use Rattle.rules_text.specs.declared.text.TextKind.{TextKind}
+use Rattle.rules_files.specs.commands.Answers.{Answer, misplaced, refused_with}
+use Rattle.rules_files.specs.commands.Certificates.{IsVerified}
+use Rattle.rules_files.specs.commands.Lines.{text_kind_name}
 use Rattle.rules_files.specs.commands.Places.{Placed, Listing, IsListing, IsNodeAt, IsFaultAt, IsEndAt, AreStatements}
 use Rattle.mich_base.specs.View.{tree}
 use Rattle.mich_text.specs.declared.reader.Placed.{Placed as CodePlaced}
@@ -63,6 +66,13 @@ beside (Some answer) start (Some at) = misplaced at
 abbrev pub of_kept : (Tree → Option Answer) → ℕ → Option CodePlaced → Option ℕ → Answer
 of_kept command size None second = misplaced size
 of_kept command size (Some p) second = beside (command (tree p.node)) p.start second
+
+-- the answer of `verify` to what is kept
+abbrev pub IsKeptVerified : Option (TextKind × ℕ) → ℕ → Option CodePlaced → Option ℕ → Answer → Type 0
+IsKeptVerified (Some fault) size first second answer = answer ≡ refused_with (text_kind_name fault.0) fault.1
+IsKeptVerified None size None second answer = answer ≡ misplaced size
+IsKeptVerified None size (Some p) None answer = IsVerified (tree p.node) answer
+IsKeptVerified None size (Some p) (Some at) answer = answer ≡ misplaced at
 
 -- this stands in a file from a place on; a statement has at most as many nodes as bytes, so at least a byte
 abbrev pub IsNext : List ℕ → ℕ → Next → Type 0

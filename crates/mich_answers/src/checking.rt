@@ -1,17 +1,18 @@
-// A file whose script is typed.
+// A file whose script is typed, or certified.
 ghost use Rattle.std.specs.Prelude.{◌≡◌, ◌<◌, ◌^◌, ◌+◌, IfOk, length, map, codes};
 ghost use Rattle.rules_text.specs.nodes.Tree.{size, sizes};
 ghost use Rattle.rules_files.specs.commands.Codec.{of_text};
 ghost use Rattle.rules_files.specs.commands.Answers.{done_with};
 ghost use Rattle.rules_world.specs.lines.Nodes.{line, word};
-ghost use Rattle.rules_files.specs.commands.Scripts.{IsCheckAnswer, checking_answer, script_of};
+ghost use Rattle.rules_files.specs.commands.Scripts.{checking_answer, script_of};
 ghost use Rattle.rules_code.specs.instructions.Arguments.{fault};
 ghost use Rattle.rules_code.specs.typing.Nodes.{script};
 ghost use Rattle.mich_base.specs.View.{tree, trees};
 ghost use Rattle.mich_answers.specs.Checked.{IsWhole, is_one_sequence};
-ghost use Rattle.mich_answers.specs.View.{answer_seen, IsDoneOrRefused};
+ghost use Rattle.mich_answers.specs.View.{answer_seen, IsDoneOrRefused, IsScriptAnswer, script_answer};
 
 use crate::answer::{Answer, done, refused};
+use crate::certifying::certify_node;
 use crate::lines::{node_line, text_kind_name};
 use crate::statements::{Next, read_next};
 use mich_base::{Memory, Node, Nodes, Rows, Texts};
@@ -19,6 +20,15 @@ use mich_check::{CheckError, check_script};
 use mich_types::{bare, over_one};
 use rules_text::text::TextKind;
 use std::alloc::Global;
+
+/// A command that takes the script of a file.
+#[derive(Clone, Copy)]
+pub enum ScriptCommand {
+    /// Whether the script is typed (Michelson reference, "Typing").
+    Check,
+    /// The script with the derivation of its typing beside it.
+    Certify,
+}
 
 /// The nodes of a file, and the first fault of its text.
 #[derive(Drop)]
@@ -81,7 +91,8 @@ fn well_typed(alloc: Global) -> Result<Answer, Memory>
     done(alloc, node_line(alloc, &node)?)
 }
 
-fn ill_typed(alloc: Global, location: u32) -> Result<Answer, Memory>
+/// The answer where the first fault of the typing is at a location.
+pub(crate) fn ill_typed(alloc: Global, location: u32) -> Result<Answer, Memory>
     ensures { IfOk result (λ a. answer_seen a ≡ checking_answer (fault location)) }
 {
     let location = Node::Int(i128::from(location));
@@ -106,26 +117,42 @@ fn check_node(alloc: Global, node: &Node) -> Result<Answer, Memory>
     }
 }
 
-// The answer to what a file lists.
-fn answer_statements(alloc: Global, listed: Statements) -> Result<Answer, Memory>
+// The answer of a command to a script.
+fn answer_node(alloc: Global, command: ScriptCommand, node: &Node) -> Result<Answer, Memory>
+    requires { size (tree node.now) < 2 ^ 32 }
+    ensures { IfOk result (λ a. answer_seen a ≡ script_answer command (tree node.now)) }
+{
+    match command {
+        ScriptCommand::Check => check_node(alloc, node),
+        ScriptCommand::Certify => certify_node(alloc, node),
+    }
+}
+
+// The answer of a command to what a file lists.
+fn answer_statements(
+    alloc: Global,
+    command: ScriptCommand,
+    listed: Statements,
+) -> Result<Answer, Memory>
     requires { sizes (trees listed.nodes) + 1 < 2 ^ 32 }
-    ensures { IfOk result (λ a. answer_seen a ≡ of_text listed.fault (checking_answer (script (script_of (map tree listed.nodes))))) }
+    ensures { IfOk result (λ a. answer_seen a ≡ of_text listed.fault (script_answer command (script_of (map tree listed.nodes)))) }
 {
     let Statements { nodes, fault } = listed;
     if let Some((kind, at)) = fault {
         return refused(alloc, text_kind_name(kind), at);
     }
     let script = script_of(nodes)?;
-    check_node(alloc, &script)
+    answer_node(alloc, command, &script)
 }
 
-/// The answer of `check` to a file: whether the script that it holds is typed, or the location of its first fault; the first
-/// fault of the text comes before all else (Michelson reference, "Typing"). Memory where there is no room for it.
-pub fn answer_check(alloc: Global, file: &[u8]) -> Result<Answer, Memory>
+/// The answer of a command to the script that a file holds: that it is typed, or its certificate, or the location of its first
+/// fault, or where there are too many levels, or that the certificate is too long; the first fault of the text comes before all
+/// else (Michelson reference, "Typing"). Memory where there is no room for it.
+pub fn answer_script(alloc: Global, command: ScriptCommand, file: &[u8]) -> Result<Answer, Memory>
     requires { length file.now + 1 < 2 ^ 32 }
-    ensures exact { IfOk result (λ a. IsCheckAnswer file.now (answer_seen a)) }
+    ensures exact { IfOk result (λ a. IsScriptAnswer command file.now (answer_seen a)) }
     ensures status { IfOk result (λ a. IsDoneOrRefused a.status) }
 {
     let listed = list_nodes(alloc, file)?;
-    answer_statements(alloc, listed)
+    answer_statements(alloc, command, listed)
 }

@@ -9,17 +9,20 @@ use Rattle.rules_files.specs.course.Course.{Course}
 use Rattle.rules_text.specs.declared.text.TextKind.{TextKind}
 use Rattle.rules_files.specs.commands.Answers.{Answer, done_with, replay_answer, usage_answer}
 use Rattle.rules_files.specs.commands.Codec.{IsCodecAnswer, of_listing, of_text, encode_node, decode_node}
-use Rattle.rules_files.specs.commands.Commands.{Command, OnFile, Generating, NoCommand, Verb, Replaying, Checking, Encoding, Decoding, Packing, Auditing, IsVerbAnswer, IsAnswer, is_path, verb_of, on_file, digits_behind, in_range, calls_of, on_calls, command_of}
+use Rattle.rules_files.specs.commands.Commands.{Command, OnFile, Generating, NoCommand, Verb, Replaying, Checking, Encoding, Decoding, Packing, Certifying, Verifying, Auditing, IsVerbAnswer, IsAnswer, is_path, verb_of, on_file, digits_behind, in_range, calls_of, on_calls, command_of}
 use Rattle.rules_files.specs.commands.Packs.{pack_node}
 use Rattle.rules_files.specs.commands.Places.{Placed, IsNodeAt, IsFaultAt, IsEndAt, AreStatements, Listing, EndsIn, IsListing}
 use Rattle.rules_files.specs.commands.Replay.{Replay, IsReplay, Closes, Run, going, stopped, stuck_run, run_all, RefusedAt, TextFault, ending_of}
-use Rattle.rules_files.specs.commands.Scripts.{IsCheckAnswer, check_statements}
+use Rattle.rules_files.specs.commands.Scripts.{check_statements}
+use Rattle.rules_files.specs.commands.Certificates.{certify_statements, IsVerifyAnswer}
 use Rattle.rules_world.specs.world.Receipts.{Receipt}
 use Rattle.mich_answers.proofs.ForCallers.{further}
 use Rattle.mich_text.specs.declared.fault.LexError.TheVariants as errors
 use Rattle.mich_text.proofs.ForCallers.{limited_within, stands_within}
 use Rattle.rules_world.specs.summary.Summary.{summary_line}
 use Rattle.mich_replay.specs.Laws.{HasAnAnswer}
+use Rattle.mich_replay.proofs.Certified.{verified_answer}
+use Rattle.mich_replay.proofs.Fronts.{IsTextAnswer}
 use Rattle.mich_replay.proofs.Audited.{audit_answers}
 use Rattle.mich_replay.proofs.Conserved.{no_group_is_stuck}
 use Rattle.mich_replay.proofs.Workload.{workload_replays}
@@ -105,15 +108,23 @@ replays file = by (run_all (going [] None) l.statements) refl where
 codec_answers : (command : Tree → Option Answer) (file : List ℕ) → (answer : Answer) × IsCodecAnswer command file answer
 codec_answers command file = let l = listing file in (of_listing command (length file) l.0, (l.0, l.1, refl))
 
-check_answers : (file : List ℕ) → (answer : Answer) × IsCheckAnswer file answer
-check_answers file = let l = listing file in (of_text l.0.fault (check_statements l.0.statements), (l.0, l.1, refl))
+text_answers : (own : List Placed → Answer) (file : List ℕ) → (answer : Answer) × IsTextAnswer own file answer
+text_answers own file = let l = listing file in (of_text l.0.fault (own l.0.statements), (l.0, l.1, refl))
+
+verify_answers : (file : List ℕ) → (answer : Answer) × IsVerifyAnswer file answer
+verify_answers file =
+    let l = listing file in
+    let v = verified_answer l.0.fault (length file) l.0.statements in
+    (v.0, (l.0, l.1, v.1))
 
 verb_answers : (verb : Verb) (file : List ℕ) → (answer : Answer) × IsVerbAnswer verb file answer
 verb_answers Replaying file = let r = replays file in (replay_answer r.0, (r.0, r.1, refl))
-verb_answers Checking file = check_answers file
+verb_answers Checking file = text_answers check_statements file
 verb_answers Encoding file = codec_answers encode_node file
 verb_answers Decoding file = codec_answers decode_node file
 verb_answers Packing file = codec_answers pack_node file
+verb_answers Certifying file = text_answers certify_statements file
+verb_answers Verifying file = verify_answers file
 verb_answers Auditing file = audit_answers file
 
 -- a workload has at most so many calls

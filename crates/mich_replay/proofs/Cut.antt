@@ -6,7 +6,9 @@ use Rattle.rules_text.specs.nodes.Limits.{file_limit}
 use Rattle.rules_files.specs.commands.Answers.{Answer, status_of}
 use Rattle.rules_files.specs.commands.Codec.{encode_node, decode_node}
 use Rattle.rules_files.specs.commands.Packs.{pack_node}
-use Rattle.rules_files.specs.commands.Commands.{Verb, Replaying, Checking, Encoding, Decoding, Packing, Auditing, Command, OnFile, IsVerbAnswer, IsTold, IsAnswer}
+use Rattle.rules_files.specs.commands.Scripts.{check_statements}
+use Rattle.rules_files.specs.commands.Certificates.{certify_statements}
+use Rattle.rules_files.specs.commands.Commands.{Verb, Replaying, Checking, Encoding, Decoding, Packing, Certifying, Verifying, Auditing, Command, OnFile, IsVerbAnswer, IsTold, IsAnswer}
 use Rattle.rules_files.specs.commands.Replay.{Ending, State, RefusedAt}
 use Rattle.mich_text.proofs.ForCallers.{split}
 use Rattle.mich_base.specs.declared.memory.Memory.{Memory}
@@ -14,7 +16,7 @@ use Rattle.mich_replay.specs.Fronts.{IsRest, IsReadOf}
 use Rattle.mich_answers.specs.View.{answer_seen}
 use Rattle.mich_answers.specs.declared.answer.Answer.{Answer as Reply}
 use Rattle.mich_replay.proofs.Audited.{audit_on, audit_refused}
-use Rattle.mich_replay.proofs.Fronts.{replay_on, codec_on, check_on, replay_refused, codec_refused, check_refused}
+use Rattle.mich_replay.proofs.Fronts.{replay_on, codec_on, text_on, verify_on, replay_refused, codec_refused, text_refused, verify_refused}
 
 -- ---- what was read
 
@@ -22,10 +24,12 @@ use Rattle.mich_replay.proofs.Fronts.{replay_on, codec_on, check_on, replay_refu
 
 verb_on : (verb : Verb) (file more : List ℕ) (answer : Answer) → file_limit < length file → IsVerbAnswer verb file answer → IsVerbAnswer verb (file ++ more) answer
 verb_on Replaying file more answer past (done, r, e) = (done, replay_on file more past done r, e)
-verb_on Checking file more answer past p = check_on file more past answer p
+verb_on Checking file more answer past p = text_on file more past check_statements answer p
 verb_on Encoding file more answer past p = codec_on file more past encode_node answer p
 verb_on Decoding file more answer past p = codec_on file more past decode_node answer p
 verb_on Packing file more answer past p = codec_on file more past pack_node answer p
+verb_on Certifying file more answer past p = text_on file more past certify_statements answer p
+verb_on Verifying file more answer past p = verify_on file more past answer p
 verb_on Auditing file more answer past p = audit_on file more past answer p
 
 pub verb_cut : (verb : Verb) (file more : List ℕ) (answer : Answer) → IsRest file more → IsVerbAnswer verb file answer → IsVerbAnswer verb (file ++ more) answer
@@ -39,10 +43,12 @@ not_done Replaying file answer past (done, r, e) zero = by done.ending refl wher
   by : (x : Ending) → done.ending ≡ x → ⊥
   by (State w) h = replay_refused file done w past r h
   by (RefusedAt f place) h = omega (arith, zero, ap (λ (a : Answer). a.status) e, ap status_of h)
-not_done Checking file answer past p zero = omega (arith, zero, check_refused file answer past p)
+not_done Checking file answer past p zero = omega (arith, zero, text_refused check_statements file answer past p)
 not_done Encoding file answer past p zero = omega (arith, zero, codec_refused encode_node file answer past p)
 not_done Decoding file answer past p zero = omega (arith, zero, codec_refused decode_node file answer past p)
 not_done Packing file answer past p zero = omega (arith, zero, codec_refused pack_node file answer past p)
+not_done Certifying file answer past p zero = omega (arith, zero, text_refused certify_statements file answer past p)
+not_done Verifying file answer past p zero = omega (arith, zero, verify_refused file answer past p)
 not_done Auditing file answer past p zero = omega (arith, zero, audit_refused file past answer p)
 
 pub verb_done : (verb : Verb) (file : List ℕ) (answer : Answer) → IsVerbAnswer verb file answer → answer.status ≡ 0 → length file ≤ file_limit

@@ -1,6 +1,7 @@
 pub mod Answered
 pub mod Audited
 pub mod Begins
+pub mod Certified
 pub mod Closed
 pub mod Coming
 pub mod Conserved

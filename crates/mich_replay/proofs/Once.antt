@@ -10,10 +10,13 @@ use Rattle.rules_world.specs.summary.Summary.{summary_line}
 use Rattle.rules_files.specs.commands.Replay.{Replay, Closes, Ending, State, FileFault, TextFault, RefusedAt, Run, going, stopped, stuck_run, run_one, run_all}
 use Rattle.rules_files.specs.commands.Answers.{Answer, done_with, replay_answer}
 use Rattle.rules_files.specs.commands.Codec.{of_text, IsCodecAnswer, of_listing, encode_node, decode_node}
-use Rattle.rules_files.specs.commands.Scripts.{check_statements, IsCheckAnswer}
+use Rattle.rules_files.specs.commands.Scripts.{check_statements}
+use Rattle.rules_files.specs.commands.Certificates.{certify_statements, IsListedVerified, IsVerifyAnswer}
 use Rattle.rules_files.specs.commands.Packs.{pack_node}
 use Rattle.mich_replay.proofs.Audited.{audit_one}
-use Rattle.rules_files.specs.commands.Commands.{Command, OnFile, Generating, NoCommand, Verb, Replaying, Checking, Encoding, Decoding, Packing, Auditing, IsVerbAnswer, IsWorkloadAnswer, IsAnswer}
+use Rattle.mich_replay.proofs.Certified.{listed_one}
+use Rattle.mich_replay.proofs.Fronts.{IsTextAnswer}
+use Rattle.rules_files.specs.commands.Commands.{Command, OnFile, Generating, NoCommand, Verb, Replaying, Checking, Encoding, Decoding, Packing, Certifying, Verifying, Auditing, IsVerbAnswer, IsWorkloadAnswer, IsAnswer}
 
 -- ---- what stands at a place
 
@@ -120,19 +123,28 @@ codec-one command file a b m n =
     m.2 ∙ ap (λ (ss : List Placed). of_listing command (length file) (record { statements = ss; fault = m.0.fault })) same.statements
     ∙ ap (λ (f : Option (TextKind × ℕ)). of_listing command (length file) (record { statements = n.0.statements; fault = f })) same.fault ∙ sym n.2
 
-check-one : (file : List ℕ) (a b : Answer) → IsCheckAnswer file a → IsCheckAnswer file b → a ≡ b
-check-one file a b m n =
+text-one : (own : List Placed → Answer) (file : List ℕ) (a b : Answer) → IsTextAnswer own file a → IsTextAnswer own file b → a ≡ b
+text-one own file a b m n =
     let same = listings-one file 0 m.0.statements n.0.statements m.1.0 n.1.0 m.0.fault n.0.fault m.1.1 n.1.1 m.1.2 n.1.2 in
-    m.2 ∙ ap (λ (ss : List Placed). of_text m.0.fault (check_statements ss)) same.statements
-    ∙ ap (λ (f : Option (TextKind × ℕ)). of_text f (check_statements n.0.statements)) same.fault ∙ sym n.2
+    m.2 ∙ ap (λ (ss : List Placed). of_text m.0.fault (own ss)) same.statements
+    ∙ ap (λ (f : Option (TextKind × ℕ)). of_text f (own n.0.statements)) same.fault ∙ sym n.2
+
+verify-one : (file : List ℕ) (a b : Answer) → IsVerifyAnswer file a → IsVerifyAnswer file b → a ≡ b
+verify-one file a b m n =
+    let same = listings-one file 0 m.0.statements n.0.statements m.1.0 n.1.0 m.0.fault n.0.fault m.1.1 n.1.1 m.1.2 n.1.2 in
+    listed_one n.0.fault (length file) n.0.statements a b
+    (subst (λ f. IsListedVerified f (length file) n.0.statements a) same.fault
+    (subst (λ ss. IsListedVerified m.0.fault (length file) ss a) same.statements m.2)) n.2
 
 verbs-one : (verb : Verb) (file : List ℕ) (a b : Answer) → IsVerbAnswer verb file a → IsVerbAnswer verb file b → a ≡ b
 verbs-one Replaying file a b m n =
     m.2 ∙ ap replay_answer (replays-one file 0 (going [] None) m.0 n.0 m.1.statements n.1.statements m.1.to n.1.to m.1.stand n.1.stand m.1.closes n.1.closes) ∙ sym n.2
-verbs-one Checking file a b m n = check-one file a b m n
+verbs-one Checking file a b m n = text-one check_statements file a b m n
 verbs-one Encoding file a b m n = codec-one encode_node file a b m n
 verbs-one Decoding file a b m n = codec-one decode_node file a b m n
 verbs-one Packing file a b m n = codec-one pack_node file a b m n
+verbs-one Certifying file a b m n = text-one certify_statements file a b m n
+verbs-one Verifying file a b m n = verify-one file a b m n
 verbs-one Auditing file a b m n = audit_one file a b m n
 
 -- the summary of what a workload came to

@@ -121,6 +121,8 @@ whole_reads wholes.Check e = absurd cc
 whole_reads wholes.Encode e = absurd cc
 whole_reads wholes.Decode e = absurd cc
 whole_reads wholes.Pack e = absurd cc
+whole_reads wholes.Certify e = absurd cc
+whole_reads wholes.Verify e = absurd cc
 whole_reads wholes.Audit e = absurd cc
 
 pub same_verb : (verb : Verb) (path other : List ℕ) (what : Command) → OnFile verb path ≡ what → what ≡ OnFile Replaying other → (verb ≡ Replaying) × (path ≡ other)

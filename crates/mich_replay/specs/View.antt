@@ -18,6 +18,8 @@ whole_seen wholes.Check = commands.Checking
 whole_seen wholes.Encode = commands.Encoding
 whole_seen wholes.Decode = commands.Decoding
 whole_seen wholes.Pack = commands.Packing
+whole_seen wholes.Certify = commands.Certifying
+whole_seen wholes.Verify = commands.Verifying
 whole_seen wholes.Audit = commands.Auditing
 
 abbrev pub verb_seen : Verb → commands.Verb

@@ -18,7 +18,9 @@ use crate::lines::usage_line;
 use crate::reading::read_file;
 use crate::stop::Stop;
 use crate::writing::{write_line, write_lines};
-use mich_answers::{Answer, NodeCommand, answer_audit, answer_check, answer_node};
+use mich_answers::{
+    Answer, NodeCommand, ScriptCommand, answer_audit, answer_node, answer_script, answer_verify,
+};
 use mich_base::Memory;
 use mich_io::{Files, Sink};
 use std::alloc::Global;
@@ -42,10 +44,12 @@ fn answer_file(alloc: Global, verb: WholeVerb, file: &[u8]) -> Result<Answer, Me
     ensures status { IfOk result (λ a. IsDoneOrRefused a.status) }
 {
     match verb {
-        WholeVerb::Check => answer_check(alloc, file),
+        WholeVerb::Check => answer_script(alloc, ScriptCommand::Check, file),
         WholeVerb::Encode => answer_node(alloc, NodeCommand::Encode, file),
         WholeVerb::Decode => answer_node(alloc, NodeCommand::Decode, file),
         WholeVerb::Pack => answer_node(alloc, NodeCommand::Pack, file),
+        WholeVerb::Certify => answer_script(alloc, ScriptCommand::Certify, file),
+        WholeVerb::Verify => answer_verify(alloc, file),
         WholeVerb::Audit => answer_audit(alloc, file),
     }
 }

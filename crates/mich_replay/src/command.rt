@@ -14,6 +14,8 @@ pub enum WholeVerb {
     Encode,
     Decode,
     Pack,
+    Certify,
+    Verify,
     Audit,
 }
 
@@ -55,6 +57,10 @@ fn verb_of(word: &[u8]) -> Option<Verb>
         Some(Verb::Whole(WholeVerb::Decode))
     } else if word == b"pack".as_slice() {
         Some(Verb::Whole(WholeVerb::Pack))
+    } else if word == b"certify".as_slice() {
+        Some(Verb::Whole(WholeVerb::Certify))
+    } else if word == b"verify".as_slice() {
+        Some(Verb::Whole(WholeVerb::Verify))
     } else if word == b"audit".as_slice() {
         Some(Verb::Whole(WholeVerb::Audit))
     } else {

@@ -5,7 +5,7 @@ use std::alloc::Global;
 use std::test::Fail;
 
 // A command, the file, the status, and what is written.
-type Example = (&'static str, &'static str, u8, &'static str);
+pub(crate) type Example = (&'static str, &'static str, u8, &'static str);
 
 const EXAMPLES: [Example; 11] = [
     (
@@ -127,7 +127,7 @@ const EXAMPLES: [Example; 11] = [
 ];
 
 // Fails with the first file that is answered otherwise.
-fn are_answered(alloc: Global, rows: &[Example]) -> Result<(), Fail> {
+pub(crate) fn are_answered(alloc: Global, rows: &[Example]) -> Result<(), Fail> {
     for (verb, file, status, written) in rows {
         if !is_answered(alloc, verb, file, *status, written)? {
             return Err(Fail::new(*file));

@@ -12,6 +12,7 @@ use Rattle.rules_files.specs.commands.Answers.{Answer, done_with, replay_answer,
 use Rattle.rules_files.specs.commands.Codec.{IsCodecAnswer, encode_node, decode_node}
 use Rattle.rules_files.specs.commands.Scripts.{IsCheckAnswer}
 use Rattle.rules_files.specs.commands.Audits.{IsAuditAnswer}
+use Rattle.rules_files.specs.commands.Certificates.{IsCertifyAnswer, IsVerifyAnswer}
 use Rattle.rules_files.specs.commands.Packs.{pack_node}
 
 -- the commands that take a file
@@ -21,6 +22,8 @@ pub data Verb : Type 0 where
   Encoding : Verb
   Decoding : Verb
   Packing : Verb
+  Certifying : Verb
+  Verifying : Verb
   Auditing : Verb
 
 -- what the words ask for: a command with its file, a workload of so many calls, or nothing
@@ -40,6 +43,8 @@ verb_of word =
     else if bytes_eq word (codes "encode") then Some Encoding
     else if bytes_eq word (codes "decode") then Some Decoding
     else if bytes_eq word (codes "pack") then Some Packing
+    else if bytes_eq word (codes "certify") then Some Certifying
+    else if bytes_eq word (codes "verify") then Some Verifying
     else if bytes_eq word (codes "audit") then Some Auditing
     else None
 
@@ -86,6 +91,8 @@ IsVerbAnswer Checking file answer = IsCheckAnswer file answer
 IsVerbAnswer Encoding file answer = IsCodecAnswer encode_node file answer
 IsVerbAnswer Decoding file answer = IsCodecAnswer decode_node file answer
 IsVerbAnswer Packing file answer = IsCodecAnswer pack_node file answer
+IsVerbAnswer Certifying file answer = IsCertifyAnswer file answer
+IsVerbAnswer Verifying file answer = IsVerifyAnswer file answer
 IsVerbAnswer Auditing file answer = IsAuditAnswer file answer
 
 -- the answer to a workload of so many calls: what its text comes to is summed up

@@ -1,7 +1,7 @@
 // Each call with ample memory.
 use mich_answers::{
-    Answer, Next, NodeCommand, answer_check, answer_node, as_text, misplaced, read_next,
-    refusal_line,
+    Answer, Next, NodeCommand, ScriptCommand, answer_node, answer_script, as_text, misplaced,
+    read_next, refusal_line,
 };
 use mich_base::Memory;
 use std::alloc::Global;
@@ -59,7 +59,7 @@ fn a_literal_is_packed(rt: HostRuntime) -> Result<(), Fail> {
 #[test]
 fn scripts_are_answered(rt: HostRuntime) -> Result<(), Fail> {
     let script = "parameter unit; storage unit; code { CDR ; NIL operation ; PAIR }";
-    let answer = answer_check(rt.alloc(), script.as_bytes())?;
+    let answer = answer_script(rt.alloc(), ScriptCommand::Check, script.as_bytes())?;
     assert!(rt; answer.status == 0 && is_only_line(&answer, "WellTyped\n"));
     Ok(())
 }

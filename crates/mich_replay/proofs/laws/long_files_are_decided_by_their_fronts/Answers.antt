@@ -1,4 +1,5 @@
-use Rattle.mich_replay.proofs.Fronts.{replay_on, codec_on, check_on, replay_refused, codec_refused, check_refused}
+use Rattle.rules_files.specs.commands.Scripts.{check_statements}
+use Rattle.mich_replay.proofs.Fronts.{replay_on, codec_on, text_on, replay_refused, codec_refused, text_refused}
 use Rattle.mich_replay.proofs.laws.long_files_are_decided_by_their_fronts.Goals as goal
 
 pub returns-clause-replay : goal.returns-clause-replay
@@ -14,7 +15,7 @@ pub returns-clause-status : goal.returns-clause-status
 returns-clause-status c = codec_refused
 
 pub returns-clause-check : goal.returns-clause-check
-returns-clause-check c = λ file more answer past a. check_on file more past answer a
+returns-clause-check c = λ file more answer past a. text_on file more past check_statements answer a
 
 pub returns-clause-check_status : goal.returns-clause-check_status
-returns-clause-check_status c = check_refused
+returns-clause-check_status c = text_refused check_statements

@@ -1,0 +1,14 @@
+pub mod Words
+pub mod View
+pub mod Counted
+pub mod Table
+pub mod Arguments
+pub mod Walk
+pub mod Leading
+pub mod Ways
+pub mod Bodiless
+pub mod Pushed
+pub mod Scripts
+pub mod Listed
+pub mod Entries
+pub mod telling
