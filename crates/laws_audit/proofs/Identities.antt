@@ -19,7 +19,7 @@ use Rattle.laws_world.proofs.accounts.ForCallers.{texts_tell_types, alike_equal,
 use Rattle.laws_world.proofs.lines_lemmas.ForCallers.{all_exact}
 use Rattle.laws_audit.specs.ToldLines.{identity_of}
 use Rattle.laws_audit.specs.Identities.{LiteralsTellComparable, NodesTellTickets}
-use Rattle.laws_audit.proofs.Same.{identity_same, identity_equal}
+use Rattle.mich_audit.proofs.Same.{identity_same, identity_equal}
 
 -- what tells the literals of comparable values apart: the first letter of a name, or the form
 abbrev shape : Tree → ℕ

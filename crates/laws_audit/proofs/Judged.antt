@@ -27,7 +27,8 @@ use Rattle.rules_audit.specs.Lines.{Line}
 use Rattle.rules_audit.specs.Lines as lines
 use Rattle.rules_audit.specs.Verdicts.{all_parts, same_sort, total, ticket_agrees, first_wrong, has_line, unless_wrong, differs_supply, differs_missing, verdict, agrees}
 use Rattle.rules_audit.specs.Verdicts as verdicts
-use Rattle.laws_world.proofs.accounts.ForCallers.{alike_equal, ticket_positive, tickets_good}
+use Rattle.laws_world.proofs.accounts.ForCallers.{alike_equal, ticket_positive}
+use Rattle.laws_code.proofs.stacks.ForCallers.{tickets_good}
 use Rattle.laws_world.proofs.lines_lemmas.ForCallers.{amount_is_told}
 use Rattle.laws_audit.specs.Told.{told}
 use Rattle.laws_audit.specs.FileLogs.{receipts_changes}
@@ -37,7 +38,7 @@ use Rattle.laws_audit.specs.Totals.{IsBehind, parts_of}
 use Rattle.laws_audit.specs.Judged.{TicketLinesAgree, TicketsHaveLines, ToldLinesAgree}
 use Rattle.laws_audit.proofs.Identities.{nodes_tell}
 use Rattle.laws_audit.proofs.Follows.{ArePlain, identities_plain}
-use Rattle.laws_audit.proofs.Same.{identity_same}
+use Rattle.mich_audit.proofs.Same.{identity_same}
 use Rattle.laws_audit.proofs.Supply.{supply_told}
 use Rattle.laws_audit.proofs.Totals.{totals_told, three, parts_three}
 

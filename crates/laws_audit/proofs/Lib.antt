@@ -1,4 +1,3 @@
-pub mod Same
 pub mod OneVerdict
 pub mod Lines
 pub mod Tickets

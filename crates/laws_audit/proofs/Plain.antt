@@ -16,7 +16,8 @@ use Rattle.rules_world.specs.world.World.{World, Account, identity_order}
 use Rattle.rules_world.specs.world.Forms.{IsAccount, IsHolding, IsTicket, IsChange}
 use Rattle.rules_world.specs.world.Good.{IsGood, IsGoodContract, known_with}
 use Rattle.rules_world.specs.world.Holdings.{amount_held, held_by_accounts, held_by_contracts, minted_ever, burnt_ever}
-use Rattle.laws_world.proofs.accounts.ForCallers.{burnt_positive, held_positive, identity_total, ticket_positive, tickets_good, among_positive}
+use Rattle.laws_world.proofs.accounts.ForCallers.{burnt_positive, held_positive, identity_total, ticket_positive, among_positive}
+use Rattle.laws_code.proofs.stacks.ForCallers.{tickets_good}
 use Rattle.laws_audit.specs.Follows.{ticket_in, IsPlain, IsPlainWorld}
 use Rattle.laws_audit.specs.Agreement.{RunsAgree}
 use Rattle.laws_audit.specs.Plain.{IsPlainMint, PlainMintsSuffice, MintedRunsAgree}

@@ -28,7 +28,8 @@ use Rattle.rules_audit.specs.Lines.{Line}
 use Rattle.rules_audit.specs.Lines as lines
 use Rattle.rules_audit.specs.Verdicts.{all_parts, parts_in, same_sort, total}
 use Rattle.rules_audit.specs.Verdicts as verdicts
-use Rattle.laws_world.proofs.accounts.ForCallers.{alike_equal, identity_total, equal_of, ticket_positive, tickets_good}
+use Rattle.laws_world.proofs.accounts.ForCallers.{alike_equal, identity_total, equal_of, ticket_positive}
+use Rattle.laws_code.proofs.stacks.ForCallers.{tickets_good}
 use Rattle.laws_audit.specs.Told.{told}
 use Rattle.laws_audit.specs.Changes.{receipt_changes}
 use Rattle.laws_audit.specs.FileLogs.{receipts_changes}

@@ -6,3 +6,4 @@ pub mod sizes
 pub mod Behind
 pub mod ForCallers
 pub mod certificates_lemmas
+pub mod snapshots_lemmas

@@ -1,8 +1,10 @@
 //! Laws of the course of a file: its statements have their ranges, its worlds stay good and paid, and none of its groups is stuck.
-//! So the world behind each statement is in order. Laws of certificates of typing stand in `certificates`.
+//! So the world behind each statement is in order. Laws of certificates of typing stand in `certificates`, and those of
+//! snapshots in `snapshots`.
 #![tactic(auto)]
 
 pub mod certificates;
+pub mod snapshots;
 
 ghost use Rattle.laws_files.specs.Files.{WorldsAreInOrder};
 ghost use Rattle.laws_files.specs.Laws.{CoursesBeginGood, CoursesBeginPaid, CoursesStayGood, CoursesStayPaid, StatementsHaveRanges};

@@ -17,7 +17,7 @@ use Rattle.mich_term.specs.ValueView.{val, big_step, big_pairs, put_pairs}
 use Rattle.mich_term.specs.declared.datum.Datum.{Datum}
 use Rattle.mich_term.specs.declared.value.Value.{Value}
 use Rattle.mich_term.specs.declared.value.BigMap.{BigMap, out-BigMap, roll-out-BigMap}
-use Rattle.mich_term.proofs.ForCallers.{big_is}
+use Rattle.mich_term.proofs.ForCallers.{big_is, both_nothing}
 use Rattle.mich_bigmap.specs.Bases.{Bases, Changes, entries_in, seen, big_in}
 use Rattle.mich_bigmap.specs.Puts.{puts_for}
 use Rattle.mich_bigmap.specs.Standing.{val_in, changes_in, big_val_in, big_step_in}
@@ -64,14 +64,11 @@ alone_is cs h s =
 
 -- ---- tickets
 
-nothing_of : (xs ys : List Held) → xs ++ ys ≡ [] → (xs ≡ []) × (ys ≡ [])
+pub nothing_of : (xs ys : List Held) → xs ++ ys ≡ [] → (xs ≡ []) × (ys ≡ [])
 nothing_of [] ys h = (refl, h)
 nothing_of (x ∷ xs) ys h = cc
 
-both_nothing : (xs ys : List Held) → xs ≡ [] → ys ≡ [] → xs ++ ys ≡ []
-both_nothing xs ys h k = (λ i. h i ++ k i)
-
-none_with : (k v : Val) (ps : Pairs) → tickets v ≡ [] → pair_tickets ps ≡ [] → pair_tickets (with_value k v ps) ≡ []
+pub none_with : (k v : Val) (ps : Pairs) → tickets v ≡ [] → pair_tickets ps ≡ [] → pair_tickets (with_value k v ps) ≡ []
 none_with k v no_pair t h = both_nothing (tickets v) [] t refl
 none_with k v (more_pairs j w ps) t h =
     let parts = nothing_of (tickets w) (pair_tickets ps) h in
@@ -81,7 +78,7 @@ none_with k v (more_pairs j w ps) t h =
       | Greater ↦ both_nothing (tickets w) (pair_tickets (with_value k v ps)) parts.0 (none_with k v ps t parts.1)
     ])
 
-none_without : (k : Val) (ps : Pairs) → pair_tickets ps ≡ [] → pair_tickets (without_key k ps) ≡ []
+pub none_without : (k : Val) (ps : Pairs) → pair_tickets ps ≡ [] → pair_tickets (without_key k ps) ≡ []
 none_without k no_pair h = refl
 none_without k (more_pairs j w ps) h =
     let parts = nothing_of (tickets w) (pair_tickets ps) h in

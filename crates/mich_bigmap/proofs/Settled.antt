@@ -1,5 +1,5 @@
 -- What settling makes of parts, and of values of such parts.
-use Rattle.std.proofs.Common.{◌≡◌, ℕ, ℤ, List, [], ◌∷◌, ◌++◌, map, Some, None, true, false, Bool, refl, sym, ap, ◌∙◌, subst}
+use Rattle.std.proofs.Common.{◌≡◌, ℕ, ℤ, List, [], ◌∷◌, ◌++◌, map, length, Some, None, true, false, Bool, refl, sym, ap, ◌∙◌, subst, arith}
 use Rattle.std.specs.declared.option.Option.{Option}
 use Rattle.std.specs.List.{AllByRecursion}
 use Rattle.std.specs.Map.{keys_of}
@@ -33,6 +33,10 @@ use Rattle.mich_term.proofs.ForCallers.Each as e
 use Rattle.mich_bigmap.proofs.Extending.{extends_same}
 use Rattle.mich_bigmap.proofs.Plain.{big_val_is}
 use Rattle.mich_bigmap.proofs.Staying.{each_more, SameEntries, val_stays}
+
+pub none_there : (cs : List (Datum × Option Value)) → length cs ≡ 0 → cs ≡ []
+none_there [] h = refl
+none_there (c ∷ cs) h = absurd (omega arith)
 
 -- ---- more bases
 

@@ -1,5 +1,7 @@
 -- What the parts of a value stand for in a store.
 use Rattle.std.proofs.Common.{◌≡◌, ◌≤◌, ℕ, zero, suc, length, take, arith, List, [], ◌∷◌, ◌++◌, map, Some, None, refl, sym, ap, ◌∙◌, subst}
+use Rattle.std.specs.Prelude.{option_map}
+use Rattle.std.proofs.lemmas.List.{append-nil}
 use Rattle.std.specs.declared.option.Option.{Option}
 use Rattle.std.specs.declared.cmp.Ordering.{Ordering}
 use Rattle.std.specs.declared.cmp.Ordering.TheVariants.{Less, Equal, Greater}
@@ -9,15 +11,15 @@ use Rattle.rules_data.specs.values.Val.{Val, Pairs}
 use Rattle.rules_data.specs.big_maps.Changes.{written, changed}
 use Rattle.mich_term.specs.Keyed.{by, with, IsIncreasing}
 use Rattle.mich_term.specs.View.{datum}
-use Rattle.mich_term.specs.ValueView.{val, entry, value_step}
+use Rattle.mich_term.specs.ValueView.{val, entry, change, value_step}
 use Rattle.mich_term.specs.declared.datum.Datum.{Datum}
 use Rattle.mich_term.specs.declared.value.Value.{Value}
 use Rattle.mich_term.specs.declared.value.Value.TheFolds.{fold_out-BigMap, map-BigMap}
 use Rattle.mich_term.specs.declared.value.Value.TheOpen.{BigMap-F}
 use Rattle.mich_term.specs.declared.value.BigMap.{BigMap, out-BigMap}
 use Rattle.mich_term.proofs.ForCallers.{table_step}
-use Rattle.mich_bigmap.specs.Bases.{Bases, Changes, entries_in}
-use Rattle.mich_bigmap.specs.Standing.{val_in, big_val_in, big_step_in, entry_in, changes_in}
+use Rattle.mich_bigmap.specs.Bases.{Bases, Changes, entries_in, seen, seen_change}
+use Rattle.mich_bigmap.specs.Standing.{val_in, big_val_in, big_step_in, entry_in, change_step, change_in, changes_in}
 
 abbrev Entries : Type 0
 Entries = List (Datum × Value)
@@ -61,6 +63,48 @@ module _ (bs : Bases) where
 
   pub big_val_is : (m : BigMap) → big_val_in bs m ≡ changed (changes_in bs (out-BigMap m).overlay) (entries_in bs (out-BigMap m).base)
   big_val_is m = fold_out-BigMap Val Pairs value_step (big_step_in bs) m ∙ opened_is (out-BigMap m).base (out-BigMap m).overlay
+
+-- ---- changes
+
+change_placed : (o : Ordering) (a b c : Changes) → map change (match_ordering o a b c) ≡ match_ordering o (map change a) (map change b) (map change c)
+change_placed Less a b c = refl
+change_placed Equal a b c = refl
+change_placed Greater a b c = refl
+
+with_change : (k : Datum) (v : Option Value) (cs : Changes) → map change (with k v cs) ≡ with k (option_map val v) (map change cs)
+with_change k v [] = refl
+with_change k v (c ∷ cs) = change_placed (by k c.0) ((k, v) ∷ c ∷ cs) ((c.0, v) ∷ cs) (c ∷ with k v cs)
+    ∙ ap (λ t. match_ordering (by k c.0) ((k, option_map val v) ∷ map change (c ∷ cs)) ((c.0, option_map val v) ∷ map change cs) (change c ∷ t)) (with_change k v cs)
+
+-- a change with its value seen in a store
+abbrev pub put_in : Bases → Datum × Option Value → Datum × Option Val
+put_in bs c = (c.0, option_map (val_in bs) c.1)
+
+seen_is : (cs : Changes) → seen cs ≡ map change_step (map change cs)
+seen_is [] = refl
+seen_is (c ∷ cs) = ap (λ t. seen_change c ∷ t) (seen_is cs)
+
+module _ (bs : Bases) where
+  keys_put : (cs : Changes) → keys_of (map (put_in bs) cs) ≡ keys_of cs
+  keys_put [] = refl
+  keys_put (c ∷ cs) = ap (λ ks. c.0 ∷ ks) (keys_put cs)
+
+  -- changes are copied from the least key on
+  pub puts_next : (copies iter rest all new : Changes) (k d : Datum) (v w : Option Value) → iter ≡ (k, v) ∷ rest → map change copies ++ map (put_in bs) iter ≡ map (put_in bs) all
+      → IsIncreasing (keys_of all) → d ≡ k → option_map val w ≡ option_map (val_in bs) v → new ≡ with d w copies → map change new ++ map (put_in bs) rest ≡ map (put_in bs) all
+  puts_next copies iter rest all new k d v w step so_far s e f n =
+      table_step (map change copies) (map (put_in bs) iter) (map (put_in bs) rest) (map (put_in bs) all) (map change new) k d (option_map (val_in bs) v) (option_map val w)
+      (ap (map (put_in bs)) step) so_far (subst IsIncreasing (sym (keys_put all)) s) e f (ap (map change) n ∙ with_change d w copies)
+
+  pub puts_end : (copies iter all : Changes) → iter ≡ [] → map change copies ++ map (put_in bs) iter ≡ map (put_in bs) all → map change copies ≡ map (put_in bs) all
+  puts_end copies iter all e h = sym (append-nil (map change copies)) ∙ sym (ap (λ cs. map change copies ++ map (put_in bs) cs) e) ∙ h
+
+  changes_are : (cs : Changes) → map change_step (map (put_in bs) cs) ≡ changes_in bs cs
+  changes_are [] = refl
+  changes_are (c ∷ cs) = ap (λ t. change_in bs c ∷ t) (changes_are cs)
+
+  pub puts_seen : (copies all : Changes) → map change copies ≡ map (put_in bs) all → seen copies ≡ changes_in bs all
+  puts_seen copies all h = seen_is copies ∙ ap (map change_step) h ∙ changes_are all
 
 pub taken_all : {A : Type 0} (i : ℕ) (xs : List A) → length xs ≤ i → take i xs ≡ xs
 taken_all zero [] le = refl

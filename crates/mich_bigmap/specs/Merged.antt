@@ -1,13 +1,10 @@
 -- Changes that are taken together.
-use Rattle.std.specs.Prelude.{◌≡◌, ℕ, Option, [], ◌∷◌, ◌++◌}
-use Rattle.std.specs.Map.{keys_of}
+use Rattle.std.specs.Prelude.{◌≡◌, ℕ, Option, [], ◌∷◌}
 use Rattle.rules_data.specs.values.Val.{Pairs}
 use Rattle.rules_data.specs.values.Tickets.{pair_tickets}
 use Rattle.rules_data.specs.big_maps.Changes.{changed}
-use Rattle.mich_term.specs.Keyed.{IsIncreasing, with}
+use Rattle.mich_term.specs.Keyed.{with}
 use Rattle.mich_term.specs.ValueView.{put_pairs}
-use Rattle.mich_term.specs.declared.datum.Datum.{Datum}
-use Rattle.mich_term.specs.declared.value.Value.{Value}
 use Rattle.mich_bigmap.specs.Bases.{Bases, Changes, entries_in, seen}
 
 -- over each base, they make what the upper changes make of what the lower ones make
@@ -19,11 +16,6 @@ AreMerged lower upper all = (bs : Bases) (o : Option ℕ)
 abbrev pub all_with : Changes → Changes → Changes
 all_with [] lower = lower
 all_with (c ∷ upper) lower = with c.0 c.1 (all_with upper lower)
-
--- what has grown is followed by a change at this key, where it was followed by the lower changes with that change and others behind it
-abbrev pub Passes : Datum → Changes → Changes → Changes → Changes → Type 0
-Passes k lower left old new = (c : Option Value) (upper : Changes) → IsIncreasing (keys_of ((k, c) ∷ upper))
-    → new ++ (k, c) ∷ all_with upper left ≡ old ++ all_with ((k, c) ∷ upper) lower
 
 -- the entries that changes make of those of a base
 abbrev pub entries_over : Bases → Option ℕ × Changes → Pairs

@@ -9,32 +9,31 @@ ghost use Rattle.mich_bigmap.specs.Bases.{entries_in, seen};
 ghost use Rattle.mich_bigmap.specs.Puts.{puts_for};
 ghost use Rattle.mich_bigmap.specs.Stacked.{AreLayers, bases_of};
 
-use crate::layers::{Layer, below};
-use crate::overlay::Change;
-use mich_base::{Memory, Rows};
+use crate::layers::{Changes, Layer, below};
+use mich_base::Memory;
 use mich_term::{Datum, Table, Value, copy_datum, maps, shadow};
 use std::alloc::Global;
 
 // An equal change. Memory where there is no room for it.
-pub(crate) fn copy_change(alloc: Global, change: &Change) -> Result<Change, Memory>
+fn copy_change(alloc: Global, change: &Option<Value>) -> Result<Option<Value>, Memory>
     ensures { IfOk result (λ c. c ≡ change.now) }
 {
-    let (key, value) = change;
-    let new_key = copy_datum(alloc, key)?;
-    let new_value = match value {
-        Some(value) => Some(shadow(alloc, value)?),
-        None => None,
-    };
-    Ok((new_key, new_value))
+    match change {
+        Some(value) => Ok(Some(shadow(alloc, value)?)),
+        None => Ok(None),
+    }
 }
 
 // Equal changes. Memory where there is no room for them.
-pub(crate) fn copy_changes(alloc: Global, changes: &Rows<Change>) -> Result<Rows<Change>, Memory>
+#[tactic(auto, using(mich_term::proofs::ForCallers::table_step))]
+pub(crate) fn copy_changes(alloc: Global, changes: &Changes) -> Result<Changes, Memory>
     ensures { IfOk result (λ cs. cs ≡ changes.now) }
 {
-    let mut copies = Rows::with_capacity(alloc, changes.len())?;
-    for change in changes.as_slice() {
-        copies.push(copy_change(alloc, change)?)?;
+    let mut copies = Table::new(alloc);
+    for (key, change) in changes.iter() {
+        let new_key = copy_datum(alloc, key)?;
+        let new_change = copy_change(alloc, change)?;
+        copies.insert(new_key, new_change)?;
     }
     Ok(copies)
 }
@@ -60,11 +59,11 @@ fn write(entries: &mut Table<Value>, key: Datum, change: Option<Value>) -> Resul
 
 // Writes changes over entries. Memory where there is no room for them.
 #[tactic(auto, using(crate::proofs::Putting::written_last))]
-pub(crate) fn apply(entries: &mut Table<Value>, changes: Rows<Change>) -> Result<(), Memory>
+pub(crate) fn apply(entries: &mut Table<Value>, changes: Changes) -> Result<(), Memory>
     ensures { OnOk result (pairs entries.new ≡ changed (seen changes) (pairs entries.old)) }
 {
-    let mut left = changes;
-    'apply: while let Some((key, change)) = left.pop() {
+    let mut left = changes.into_entries();
+    'apply: while let Some((key, change)) = left.next_back() {
         write(entries, key, change)?;
     }
     Ok(())
@@ -92,13 +91,15 @@ pub(crate) fn collect(
 }
 
 // The changes that put these entries. Memory where there is no room for them.
-pub(crate) fn puts_of(alloc: Global, entries: Table<Value>) -> Result<Rows<Change>, Memory>
+#[tactic(auto, using(crate::proofs::Putting::puts_step))]
+pub(crate) fn puts_of(alloc: Global, entries: Table<Value>) -> Result<Changes, Memory>
     ensures changes { IfOk result (λ cs. cs ≡ puts_for entries) }
     ensures increasing { IsIncreasing (keys_of entries) }
 {
-    let mut changes = Rows::with_capacity(alloc, entries.len())?;
+    let _count = entries.len();
+    let mut changes = Table::new(alloc);
     for (key, value) in entries.into_entries() {
-        changes.push((key, Some(value)))?;
+        changes.insert(key, Some(value))?;
     }
     Ok(changes)
 }

@@ -8,7 +8,6 @@ mod laws;
 mod layers;
 mod merging;
 mod noting;
-mod overlay;
 mod printed;
 mod settling;
 mod settling_all;

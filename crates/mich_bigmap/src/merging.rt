@@ -7,70 +7,34 @@ ghost use Rattle.mich_term.specs.Keyed.{IsIncreasing};
 ghost use Rattle.mich_term.specs.ValueView.{put_pairs};
 ghost use Rattle.mich_bigmap.specs.Bases.{seen};
 ghost use Rattle.mich_bigmap.specs.Formed.{is_there};
-ghost use Rattle.mich_bigmap.specs.Merged.{AreMerged, Bare, Passes, all_with, entries_over};
+ghost use Rattle.mich_bigmap.specs.Merged.{AreMerged, Bare, all_with, entries_over};
+ghost use Rattle.mich_bigmap.specs.Puts.{only_put};
 ghost use Rattle.mich_bigmap.specs.Stacked.{AreLayers, bases_of};
 ghost use Rattle.mich_bigmap.specs.Ticketless.{HoldNoTickets};
 
-use crate::flattening::{apply, copy_change, puts_of};
-use crate::layers::{Layer, below};
-use crate::overlay::Change;
-use mich_base::{Memory, Rows};
-use mich_term::{Datum, Table, compare};
+use crate::flattening::{apply, copy_changes, puts_of};
+use crate::layers::{Changes, Layer, below};
+use mich_base::Memory;
+use mich_term::Table;
 use std::alloc::Global;
-use std::cmp::Ordering;
 
-// Copies the lower changes whose keys are below this one, and gives those behind them, without the one at the key. Memory where there
-// is no room for them.
-fn copy_below<'a>(
-    alloc: Global,
-    lower: &'a [Change],
-    key: &Datum,
-    all: &mut Rows<Change>,
-) -> Result<&'a [Change], Memory>
-    requires { IsIncreasing (keys_of lower.now) }
-    ensures merged { IfOk result (λ left. Passes key.now lower.now left.now all.old all.new) }
-    ensures increasing { IfOk result (λ left. IsIncreasing (keys_of left.now)) }
-{
-    let mut left = lower;
-    'below: while let Some((first, rest)) = left.split_first() {
-        match compare(&first.0, key) {
-            Ordering::Less => {
-                all.push(copy_change(alloc, first)?)?;
-                left = rest;
-            }
-            Ordering::Equal => return Ok(rest),
-            Ordering::Greater => return Ok(left),
-        }
-    }
-    Ok(left)
-}
-
-// Changes written over the lower ones, key by key. Memory where there is no room for them.
-fn woven(alloc: Global, lower: &Rows<Change>, changes: Rows<Change>) -> Result<Rows<Change>, Memory>
+// Changes written over the lower ones. Memory where there is no room for them.
+#[tactic(auto, using(crate::proofs::Weaving::all_with_last))]
+fn woven(alloc: Global, lower: &Changes, changes: Changes) -> Result<Changes, Memory>
     requires lower { IsIncreasing (keys_of lower.now) }
     requires upper { IsIncreasing (keys_of changes) }
     ensures { IfOk result (λ cs. cs ≡ all_with changes lower.now) }
 {
-    let room = lower.len().saturating_add(changes.len());
-    let mut all = Rows::with_capacity(alloc, room)?;
-    let mut left = lower.as_slice();
-    for (key, change) in changes.into_vec() {
-        left = copy_below(alloc, left, &key, &mut all)?;
-        all.push((key, change))?;
-    }
-    'rest: while let Some((first, rest)) = left.split_first() {
-        all.push(copy_change(alloc, first)?)?;
-        left = rest;
+    let mut all = copy_changes(alloc, lower)?;
+    let mut left = changes.into_entries();
+    'write: while let Some((key, change)) = left.next_back() {
+        all.insert(key, change)?;
     }
     Ok(all)
 }
 
 // What changes make of those below them. Memory where there is no room for it.
-fn overwritten(
-    alloc: Global,
-    lower: &Rows<Change>,
-    changes: Rows<Change>,
-) -> Result<Rows<Change>, Memory>
+fn overwritten(alloc: Global, lower: &Changes, changes: Changes) -> Result<Changes, Memory>
     requires lower { IsIncreasing (keys_of lower.now) }
     requires upper { IsIncreasing (keys_of changes) }
     ensures merged { IfOk result (λ cs. AreMerged lower.now changes cs) }
@@ -80,12 +44,30 @@ fn overwritten(
     woven(alloc, lower, changes)
 }
 
+// Whether something is put at each key.
+#[tactic(auto, using(crate::proofs::Putting::and_next))]
+fn only_put(changes: &Changes) -> bool
+    ensures only { result ≡ only_put changes.now }
+    ensures increasing { IsIncreasing (keys_of changes.now) }
+{
+    let mut all = true;
+    for (key, change) in changes.iter() {
+        let _key = key;
+        let there = change.is_some();
+        all = all && there;
+    }
+    all
+}
+
 // Changes over nothing as changes that only put. Memory where there is no room for them.
-fn alone(alloc: Global, changes: Rows<Change>) -> Result<Rows<Change>, Memory>
+pub(crate) fn alone(alloc: Global, changes: Changes) -> Result<Changes, Memory>
     ensures entries { IfOk result (λ cs. changed (seen cs) no_pair ≡ changed (seen changes) no_pair) }
     ensures increasing { IfOk result (λ cs. IsIncreasing (keys_of cs)) }
     ensures puts { IfOk result (λ cs. put_pairs cs ≡ changed (seen changes) no_pair) }
 {
+    if only_put(&changes) {
+        return Ok(changes);
+    }
     let mut entries = Table::new(alloc);
     apply(&mut entries, changes)?;
     puts_of(alloc, entries)
@@ -97,8 +79,8 @@ pub(crate) fn merged(
     alloc: Global,
     layers: &[Layer],
     base: Option<u64>,
-    changes: Rows<Change>,
-) -> Result<(Option<u64>, Rows<Change>), Memory>
+    changes: Changes,
+) -> Result<(Option<u64>, Changes), Memory>
     requires layers { AreLayers layers.now }
     requires increasing { IsIncreasing (keys_of changes) }
     ensures same { IfOk result (λ r. entries_over (bases_of layers.now) r ≡ entries_over (bases_of layers.now) (base, changes)) }

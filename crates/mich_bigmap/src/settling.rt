@@ -13,21 +13,16 @@ ghost use Rattle.mich_bigmap.specs.Formed.{IsFormed, HasBase, is_there};
 ghost use Rattle.mich_bigmap.specs.Settled.{IsSettled};
 ghost use Rattle.mich_bigmap.specs.Ticketless.{HoldNoTickets, PutNoTickets};
 
+use crate::layers::Changes;
 use crate::merging::merged;
-use crate::overlay::Change;
 use crate::store::Store;
-use mich_base::{Memory, Rows};
-use mich_term::{BigMap, puts_ticket};
+use mich_base::Memory;
+use mich_term::{BigMap, Table, puts_ticket};
 use std::alloc::Global;
 
 // Puts changes into the store as a base over another, merged with those that it would be over and that don't hold at least four times as many.
 #[tactic(auto, using(mich_base::proofs::undo_lemmas::ForCallers::keeps_same, crate::proofs::Extending::extends_same))]
-fn lay(
-    alloc: Global,
-    store: &mut Store,
-    over: Option<u64>,
-    changes: Rows<Change>,
-) -> Result<u64, Memory>
+fn lay(alloc: Global, store: &mut Store, over: Option<u64>, changes: Changes) -> Result<u64, Memory>
     requires { IsIncreasing (keys_of changes) }
     ensures same { IfOk result (λ k. entries_in store.new.bases.present (Some k) ≡ changed (seen changes) (entries_in store.old.bases.present over)) }
     ensures there { IfOk result (λ k. is_there store.new.bases.present (Some k) ≡ true) }
@@ -42,7 +37,7 @@ fn lay(
 
 /// A big map of the same entries, all kept in the store: it has a base and an empty overlay. One that puts a ticket stays as it is,
 /// since the values of a base are copied. After Memory the store is given up with its world (Octez "big_map").
-#[tactic(auto, using(mich_base::proofs::undo_lemmas::ForCallers::keeps_same, crate::proofs::Extending::extends_same, crate::proofs::Settled::bare_is))]
+#[tactic(auto, using(mich_base::proofs::undo_lemmas::ForCallers::keeps_same, crate::proofs::Extending::extends_same, crate::proofs::Settled::bare_is, crate::proofs::Settled::none_there))]
 pub fn settle(alloc: Global, store: &mut Store, m: BigMap) -> Result<BigMap, Memory>
     requires { IsFormed m }
     ensures same { IfOk result (λ n. big_in store.new.bases.present n ≡ big_in store.old.bases.present m) }
@@ -55,7 +50,7 @@ pub fn settle(alloc: Global, store: &mut Store, m: BigMap) -> Result<BigMap, Mem
     ensures ticketless { HoldNoTickets store.old.bases.present → HoldNoTickets store.new.bases.present }
     ensures noted { store.new.noted ≡ store.old.noted }
 {
-    if m.overlay.is_empty() && m.base.is_some() {
+    if m.overlay.len() == 0 && m.base.is_some() {
         return Ok(m);
     }
     if puts_ticket(&m) {
@@ -80,6 +75,6 @@ fn settle_anew(alloc: Global, store: &mut Store, m: BigMap) -> Result<BigMap, Me
     let number = lay(alloc, store, m.base, m.overlay)?;
     Ok(BigMap {
         base: Some(number),
-        overlay: Rows::new(alloc),
+        overlay: Table::new(alloc),
     })
 }

@@ -14,9 +14,8 @@ ghost use Rattle.mich_bigmap.specs.Stored.{no_bases, with_kept};
 ghost use Rattle.mich_bigmap.specs.Ticketless.{HoldNoTickets, PutNoTickets};
 
 use crate::keeping::{clear, mark, sweep_all};
-use crate::layers::Layer;
-use crate::overlay::Change;
-use mich_base::{Memory, Rows};
+use crate::layers::{Changes, Layer};
+use mich_base::Memory;
 use std::alloc::Global;
 use std::marker::Model;
 
@@ -70,7 +69,7 @@ impl Store {
     }
 
     // Adds a base, and gives its number. Memory where there is no room for it; the store is then unchanged.
-    pub(crate) fn add(&mut self, over: Option<u64>, changes: Rows<Change>) -> Result<u64, Memory>
+    pub(crate) fn add(&mut self, over: Option<u64>, changes: Changes) -> Result<u64, Memory>
         requires { IsIncreasing (keys_of changes) }
         ensures added { IfOk result (λ k. self.new.bases ≡ grown self.old.bases (record { number = k; over = over; changes = changes } ∷ self.old.bases.present)) }
         ensures unused { IfOk result (λ k. base_at self.old.bases.present k ≡ None) }
@@ -94,7 +93,7 @@ impl Store {
 
     // The same, by what the bases stand for.
     #[tactic(auto, using(mich_base::proofs::undo_lemmas::ForCallers::keeps_equal))]
-    pub(crate) fn extend(&mut self, over: Option<u64>, changes: Rows<Change>) -> Result<u64, Memory>
+    pub(crate) fn extend(&mut self, over: Option<u64>, changes: Changes) -> Result<u64, Memory>
         requires { IsIncreasing (keys_of changes) }
         ensures same { IfOk result (λ k. entries_in self.new.bases.present (Some k) ≡ changed (seen changes) (entries_in self.old.bases.present over)) }
         ensures there { IfOk result (λ k. is_there self.new.bases.present (Some k) ≡ true) }

@@ -8,7 +8,7 @@ use Rattle.rules_code.specs.typing.Sections.{Body}
 use Rattle.mich_outline.specs.Outlines.{outline_at}
 use Rattle.mich_cert.specs.Scripts.{if_found, views_reach, views_largest, bodies_reach, bodies_largest}
 use Rattle.mich_cert.proofs.SectionPlaces.{FoundHas, Stands, TypedStand, OutlineStands, outline_stands}
-use Rattle.mich_cert.proofs.Standing.{ends_within}
+use Rattle.mich_check.proofs.PushTyping.{ends_within}
 
 -- ---- what is found
 

@@ -1,74 +1,13 @@
--- Where the bodies in a literal stand.
+-- The entries of the node at a location.
 use Rattle.std.proofs.Common.{◌≡◌, ℕ, zero, suc, ◌+◌, ◌-◌, ◌≤◌, Option, Some, List, [], ◌∷◌, ◌++◌, length, ◌⊎◌, inl, inr, ap, ◌∙◌, arith}
 use Rattle.std.specs.Prelude.{slice_get}
 use Rattle.rules_text.specs.nodes.Tree.{Tree, int, str, bytes, prim, seq, Trees, none, more, size, sizes, preorder, preorders}
 use Rattle.rules_data.specs.types.Kind.{Kind}
-use Rattle.rules_data.specs.values.Val.{Val}
-use Rattle.rules_data.specs.values.Literals.{Pending, body, claim, good, read}
 use Rattle.rules_code.specs.instructions.Context.{Context}
 use Rattle.rules_code.specs.certificates.Derivation.{Teller, told_by, block_entries, tellers, inner_tellers}
-use Rattle.laws_typing.specs.literals.Laws.{AllStandIn, AllAtMost}
-use Rattle.laws_typing.proofs.literals_lemmas.ForCallers.{size_is, bodies_stand, bodies_within}
-use Rattle.mich_cert.specs.Pushed.{reach, largest}
+use Rattle.laws_typing.proofs.literals_lemmas.ForCallers.{size_is}
+use Rattle.mich_check.proofs.PushTyping.{split}
 use Rattle.mich_cert.proofs.Tellers.{skip}
-
-split : (xs ys : List Tree) (i : ℕ) (u : Tree) → slice_get (xs ++ ys) i ≡ Some u →
-    (slice_get xs i ≡ Some u) ⊎ ((j : ℕ) × (i ≡ length xs + j) × (slice_get ys j ≡ Some u))
-split [] ys i u h = inr (i, omega arith, h)
-split (x ∷ xs) ys zero u h = inl h
-split (x ∷ xs) ys (suc i) u h = elim (split xs ys i u h) [
-  | inl e ↦ inl e
-  | inr g ↦ inr (g.0, (let k = g.1 in omega (arith, k)), g.2)
-]
-
-one : (t u : Tree) → Some t ≡ Some u → size u ≤ size t
-one t u h = let e : t ≡ u = cc in rw e (omega arith)
-
-mutual
-  -- a node ends within the nodes that it stands among
-  pub ends_within : (t : Tree) (i : ℕ) (u : Tree) → slice_get (preorder t) i ≡ Some u → i + size u ≤ size t
-  ends_within t zero u h = by t h
-    where
-      by : (t : Tree) → slice_get (preorder t) zero ≡ Some u → zero + size u ≤ size t
-      by (int n) h = let e = one (int n) u h in omega (arith, e)
-      by (str s) h = let e = one (str s) u h in omega (arith, e)
-      by (bytes b) h = let e = one (bytes b) u h in omega (arith, e)
-      by (prim name annots ts) h = let e = one (prim name annots ts) u h in omega (arith, e)
-      by (seq ts) h = let e = one (seq ts) u h in omega (arith, e)
-  ends_within (prim name annots ts) (suc i) u h = let e = all_within ts i u h in omega (arith, e)
-  ends_within (seq ts) (suc i) u h = let e = all_within ts i u h in omega (arith, e)
-  ends_within (int n) (suc i) u h = absurd cc
-  ends_within (str s) (suc i) u h = absurd cc
-  ends_within (bytes b) (suc i) u h = absurd cc
-
-  all_within : (ts : Trees) (i : ℕ) (u : Tree) → slice_get (preorders ts) i ≡ Some u → i + size u ≤ sizes ts
-  all_within none i u h = absurd cc
-  all_within (more t ts) i u h = elim (split (preorder t) (preorders ts) i u h) [
-    | inl f ↦ (let e = ends_within t i u f in omega (arith, e))
-    | inr g ↦ (let e = all_within ts g.0 u g.2 in let k = g.1 in let s = size_is t in omega (arith, e, k, s))
-  ]
-
-reach_in : (at : ℕ) (t : Tree) (ps : List Pending) → AllStandIn at (preorder t) ps → reach ps ≤ at + size t
-reach_in at t [] h = omega arith
-reach_in at t (body l a r recursive u ∷ ps) h =
-    let e = ends_within t h.0.0 u h.0.2 in
-    let k = h.0.1 in
-    let g = reach_in at t ps h.1 in
-    omega (arith, e, k, g)
-reach_in at t (claim l b a ∷ ps) h = reach_in at t ps h.1
-
-pub reach_within : (a : Kind) (at : ℕ) (t : Tree) (x : Val) (ps : List Pending) → read a at t ≡ good x ps → reach ps ≤ at + size t
-reach_within a at t x ps e = reach_in at t ps (bodies_stand a at t x ps e)
-
-largest_in : (n : ℕ) (ps : List Pending) → AllAtMost n ps → largest ps ≤ n
-largest_in n [] h = omega arith
-largest_in n (body l a r recursive t ∷ ps) h = let e = h.0 in let g = largest_in n ps h.1 in omega (arith, e, g)
-largest_in n (claim l b a ∷ ps) h = largest_in n ps h
-
-pub largest_within : (a : Kind) (at : ℕ) (t : Tree) (x : Val) (ps : List Pending) → read a at t ≡ good x ps → largest ps ≤ size t
-largest_within a at t x ps e = largest_in (size t) ps (bodies_within a at t x ps e)
-
--- ---- the entries of the node at a location
 
 get_left : {X : Type 0} (xs ys : List X) (i : ℕ) (x : X) → slice_get xs i ≡ Some x → slice_get (xs ++ ys) i ≡ Some x
 get_left [] ys i x h = absurd cc

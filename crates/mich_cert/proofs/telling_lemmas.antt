@@ -1,6 +1,5 @@
 pub mod Lengths
 pub mod Lines
-pub mod OriginStacks
 pub mod OutlineFaults
 pub mod Certified
 pub mod FlatRows

@@ -1,7 +1,7 @@
 -- What the walk over the bodies in a literal finds.
-use Rattle.std.specs.Prelude.{ℕ, ◌+◌, ◌&&◌, max, cond, Bool, List, [], ◌∷◌, Option, Some, None, option_and_then}
+use Rattle.std.specs.Prelude.{ℕ, ◌+◌, ◌&&◌, cond, Bool, List, [], ◌∷◌, Option, Some, None, option_and_then}
 use Rattle.rules_text.specs.declared.nodes.Primitive.TheVariants as p
-use Rattle.rules_text.specs.nodes.Tree.{Tree, size}
+use Rattle.rules_text.specs.nodes.Tree.{Tree}
 use Rattle.rules_data.specs.types.Kind.{Kind}
 use Rattle.rules_data.specs.values.Val.{Val}
 use Rattle.rules_data.specs.values.Literals.{Pending, body, claim, Literal, good, bad}
@@ -15,18 +15,6 @@ use Rattle.mich_cert.specs.Walk.{told, body_of, call_begins, call_ends}
 abbrev pub pending_in : Literal Val → Option (List Pending)
 pending_in (good x ps) = Some ps
 pending_in (bad l) = None
-
--- the greatest location behind a body
-abbrev pub reach : List Pending → ℕ
-reach [] = 0
-reach (body l a r recursive t ∷ ps) = max (l + size t) (reach ps)
-reach (claim l b a ∷ ps) = reach ps
-
--- the size of the largest body
-abbrev pub largest : List Pending → ℕ
-largest [] = 0
-largest (body l a r recursive t ∷ ps) = max (size t) (largest ps)
-largest (claim l b a ∷ ps) = largest ps
 
 -- the walk over a node as the body of a lambda
 abbrev pub called_walk : Bool → Kind → Kind → Tree → ℕ → List Entry → Option (List Entry)

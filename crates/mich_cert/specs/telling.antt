@@ -1,6 +1,5 @@
 pub mod Certified
 pub mod Length
-pub mod Scripts
 pub mod Told
 pub mod Tops
 pub mod Walk

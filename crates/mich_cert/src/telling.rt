@@ -1,8 +1,6 @@
 //! Certificates as the typing of a script tells them.
 mod certifying;
 mod create;
-mod creating;
-mod ends;
 mod error;
 mod forms;
 mod length;

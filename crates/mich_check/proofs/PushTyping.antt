@@ -41,7 +41,7 @@ use Rattle.mich_check.proofs.Within.{fault_within}
 
 -- ---- where bodies stand
 
-split : (xs ys : List Tree) (i : ℕ) (u : Tree) → slice_get (xs ++ ys) i ≡ Some u →
+pub split : (xs ys : List Tree) (i : ℕ) (u : Tree) → slice_get (xs ++ ys) i ≡ Some u →
     (slice_get xs i ≡ Some u) ⊎ ((j : ℕ) × (i ≡ length xs + j) × (slice_get ys j ≡ Some u))
 split [] ys i u h = inr (i, omega arith, h)
 split (x ∷ xs) ys zero u h = inl h
@@ -55,7 +55,7 @@ one t u h = let e : t ≡ u = cc in rw e (omega arith)
 
 mutual
   -- a node ends within the nodes that it stands among
-  ends_within : (t : Tree) (i : ℕ) (u : Tree) → slice_get (preorder t) i ≡ Some u → i + size u ≤ size t
+  pub ends_within : (t : Tree) (i : ℕ) (u : Tree) → slice_get (preorder t) i ≡ Some u → i + size u ≤ size t
   ends_within t zero u h = by t h
     where
       by : (t : Tree) → slice_get (preorder t) zero ≡ Some u → zero + size u ≤ size t
@@ -162,7 +162,7 @@ first_bad at None p whole (error.IllTyped l) w h = absurd cc
 first_bad at o p whole error.Memory w h = tt
 
 module _ (ps : List Item) (i : ℕ) (p : Item) (h : i < length ps) (e : p ≡ get_or ps i p) where
-  items_at : all_pending (drop i ps) ≡ pending p ∷ all_pending (drop (i + 1) ps)
+  pub items_at : all_pending (drop i ps) ≡ pending p ∷ all_pending (drop (i + 1) ps)
   items_at =
       ap all_pending (drop-cons ps i p h) ∙ ap (λ x. pending x ∷ all_pending (drop (suc i) ps)) (sym e)
       ∙ ap (λ k. pending p ∷ all_pending (drop k ps)) (sym (add-one i))

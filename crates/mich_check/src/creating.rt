@@ -8,11 +8,11 @@ use mich_base::{Rows, Ty};
 use mich_control::{CheckError, pop_type, push_type};
 use mich_overload::same_kind;
 
-// The type of the storage that CREATE_CONTRACT gives, and the stack below.
+/// The type of the storage that CREATE_CONTRACT takes, and the stack below it.
 #[derive(Drop)]
-pub(crate) struct Origin {
-    pub(crate) storage: Ty,
-    pub(crate) rest: Rows<Ty>,
+pub struct Origin {
+    pub storage: Ty,
+    pub rest: Rows<Ty>,
 }
 
 fn is_delegate(ty: &Ty) -> bool
@@ -30,9 +30,10 @@ fn is_amount(ty: &Ty) -> bool
     matches!(ty, Ty::Mutez)
 }
 
-// What CREATE_CONTRACT takes from the stack; none where it has no place on it.
+/// What CREATE_CONTRACT takes from a stack of types. None where no delegate, amount and storage are on top (Michelson reference,
+/// "CREATE_CONTRACT").
 #[tactic(auto, using(crate::proofs::OriginStacks::empty, crate::proofs::OriginStacks::one, crate::proofs::OriginStacks::two, crate::proofs::OriginStacks::another_delegate, crate::proofs::OriginStacks::another_amount, crate::proofs::OriginStacks::fits))]
-pub(crate) fn origination(types: Rows<Ty>) -> Option<Origin>
+pub fn origination(types: Rows<Ty>) -> Option<Origin>
     ensures { option_map origin_of result ≡ originated (kinds types) }
 {
     let mut rest = types;
@@ -46,8 +47,9 @@ pub(crate) fn origination(types: Rows<Ty>) -> Option<Origin>
     }
 }
 
-// The stack behind CREATE_CONTRACT at a location, whose script has a storage of this type.
-pub(crate) fn stack_behind(origin: Origin, storage: &Ty, at: u32) -> Result<Rows<Ty>, CheckError>
+/// The stack behind CREATE_CONTRACT, whose script has a storage of this type. IllTyped at the location where it isn't the type of the
+/// storage that was taken; Memory where there is no room for it (Michelson reference, "CREATE_CONTRACT").
+pub fn stack_behind(origin: Origin, storage: &Ty, at: u32) -> Result<Rows<Ty>, CheckError>
     ensures { IsBehind at (kind storage.now) (origin_of origin) result }
 {
     if !same_kind(storage, &origin.storage) {

@@ -10,11 +10,11 @@ use mich_control::{CheckError, pair_of};
 use mich_stackrules::is_within_limit;
 use std::alloc::Global;
 
-// The one type that a body begins with, and the one that it ends with.
+/// The one type that a body begins with, and the one that it ends with.
 #[derive(Drop)]
-pub(crate) struct Ends {
-    pub(crate) begins: Ty,
-    pub(crate) ends: Ty,
+pub struct Ends {
+    pub begins: Ty,
+    pub ends: Ty,
 }
 
 fn operations(alloc: Global) -> Result<Ty, Memory>
@@ -23,13 +23,9 @@ fn operations(alloc: Global) -> Result<Ty, Memory>
     Ok(Ty::List(Link::new(alloc, Ty::Operation)?))
 }
 
-// Those of the code at a location, which must be within the limit of types.
-pub(crate) fn code_ends(
-    alloc: Global,
-    parameter: &Ty,
-    storage: &Ty,
-    at: u32,
-) -> Result<Ends, CheckError>
+/// The ends of a script's code: the pair of parameter and storage, and the pair of the list of operations and storage. IllTyped at the
+/// location where one of them is past the limit of types; Memory where there is no room for them (Octez "Michelson", scripts).
+pub fn code_ends(alloc: Global, parameter: &Ty, storage: &Ty, at: u32) -> Result<Ends, CheckError>
     ensures { AreCodeEnds (kind parameter.now) (kind storage.now) at result }
 {
     let begins = pair_of(alloc, parameter, storage)?;
@@ -42,8 +38,9 @@ pub(crate) fn code_ends(
     }
 }
 
-// Those of the body of a view at a location, of which the first must be within the limit of types.
-pub(crate) fn view_ends(
+/// The ends of a view's code: the pair of input and storage, and the output. IllTyped at the location where the pair is past the
+/// limit of types; Memory where there is no room for them (Octez "Views").
+pub fn view_ends(
     alloc: Global,
     input: &Ty,
     output: &Ty,

@@ -25,7 +25,8 @@ pub fn check_body(
     ensures { IsLambda (kind arg.now) (kind ret.now) recursive (tree node.now) result }
 {
     let types = call_types(alloc, arg, ret, recursive)?;
-    let body = nodes::check_body(alloc, node, 0, Place::Lambda, types)?;
+    let mut end = 0;
+    let body = nodes::check_body(alloc, node, 0, Place::Lambda, types, &mut end)?;
     let ends = only(alloc, ret)?;
     if !ends_in(&body.after, &ends) {
         return Err(CheckError::IllTyped(0));

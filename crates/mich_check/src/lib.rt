@@ -12,6 +12,8 @@ mod literals;
 mod nodes;
 mod scripts;
 
+pub use creating::{Origin, origination, stack_behind};
+pub use ends::{Ends, code_ends, view_ends};
 pub use lambdas::check_body;
 pub use literals::{Checked, check_literal, check_literal_at};
 pub use mich_control::CheckError;

@@ -1,5 +1,5 @@
 // The check of instructions and blocks.
-ghost use Rattle.std.specs.Prelude.{◌≡◌, ◌+◌, ◌<◌, ◌^◌, [], ◌∷◌};
+ghost use Rattle.std.specs.Prelude.{◌≡◌, ◌+◌, ◌<◌, ◌^◌, [], ◌∷◌, IfOk};
 ghost use Rattle.rules_text.specs.nodes.Tree.{prim, size, sizes};
 ghost use Rattle.rules_text.specs.nodes.Primitives.{primitive_of_name};
 ghost use Rattle.rules_code.specs.instructions.Forms as f;
@@ -31,7 +31,7 @@ use mich_outline::Attribute;
 use mich_types::behind;
 use std::alloc::Global;
 
-// The typed code of a block, whose first instruction is at a location.
+// The typed code of a block, whose first instruction is at a location; `end` becomes the location behind the block.
 #[cycle(check)]
 pub(crate) fn check_block(
     alloc: Global,
@@ -39,9 +39,11 @@ pub(crate) fn check_block(
     at: u32,
     place: Place<'_>,
     types: Rows<Ty>,
+    end: &mut u32,
 ) -> Result<Body, CheckError>
     requires { at + sizes (trees nodes.now) < 2 ^ 32 }
-    ensures { IsBlock (context place.entry) (trees nodes.now) (kinds types) (shift at (trees_type (trees nodes.now) (context place.entry) (kinds types))) result }
+    ensures typed { IsBlock (context place.entry) (trees nodes.now) (kinds types) (shift at (trees_type (trees nodes.now) (context place.entry) (kinds types))) result }
+    ensures ends { IfOk result (λ _. end.new ≡ at + sizes (trees nodes.now)) }
 {
     let mut code = Rows::new(alloc);
     let mut after = Some(types);
@@ -51,17 +53,17 @@ pub(crate) fn check_block(
         let Some(before) = after else {
             return Err(CheckError::IllTyped(last));
         };
-        let made = check_node(alloc, node, next, place, before)?;
+        last = next;
+        let made = check_node(alloc, node, last, place, before, &mut next)?;
         code.push(made.instr)?;
         after = made.after;
-        last = next;
-        next = behind(node, next);
     }
     let code = Shared::new(alloc, code)?;
+    *end = next;
     Ok(Body { code, after })
 }
 
-// The typed code of the node at a location as a body.
+// The typed code of the node at a location as a body; `end` becomes the location behind it.
 #[cycle(check)]
 pub(crate) fn check_body(
     alloc: Global,
@@ -69,17 +71,19 @@ pub(crate) fn check_body(
     at: u32,
     place: Place<'_>,
     types: Rows<Ty>,
+    end: &mut u32,
 ) -> Result<Body, CheckError>
     requires { at + size (tree node.now) < 2 ^ 32 }
-    ensures { IsBody (context place.entry) (tree node.now) (kinds types) (body (tree node.now) at (context place.entry) (kinds types)) result }
+    ensures typed { IsBody (context place.entry) (tree node.now) (kinds types) (body (tree node.now) at (context place.entry) (kinds types)) result }
+    ensures ends { IfOk result (λ _. end.new ≡ at + size (tree node.now)) }
 {
     match node {
-        Node::Seq(nodes) => check_block(alloc, nodes, at + 1, place, types),
+        Node::Seq(nodes) => check_block(alloc, nodes, at + 1, place, types, end),
         _ => Err(CheckError::IllTyped(at)),
     }
 }
 
-// The typed instruction of the node at a location.
+// The typed instruction of the node at a location; `end` becomes the location behind it.
 #[cycle(check)]
 pub(crate) fn check_node(
     alloc: Global,
@@ -87,14 +91,16 @@ pub(crate) fn check_node(
     at: u32,
     place: Place<'_>,
     types: Rows<Ty>,
+    end: &mut u32,
 ) -> Result<Made, CheckError>
     requires { at + size (tree node.now) < 2 ^ 32 }
-    ensures { IsInstrAt at (context place.entry) (tree node.now) (kinds types) result }
+    ensures typed { IsInstrAt at (context place.entry) (tree node.now) (kinds types) result }
+    ensures ends { IfOk result (λ _. end.new ≡ at + size (tree node.now)) }
 {
     match node {
-        Node::Prim(app) => check_app(alloc, app, at, place, types),
+        Node::Prim(app) => check_app(alloc, app, at, place, types, end),
         Node::Seq(_) => {
-            let body = check_body(alloc, node, at, place, types)?;
+            let body = check_body(alloc, node, at, place, types, end)?;
             Ok(Made {
                 instr: Instr::Seq(body.code),
                 after: body.after,
@@ -111,24 +117,56 @@ fn check_app(
     at: u32,
     place: Place<'_>,
     types: Rows<Ty>,
+    end: &mut u32,
 ) -> Result<Made, CheckError>
     requires { at + sizes (trees app.now.args) + 1 < 2 ^ 32 }
-    ensures { IsInstrAt at (context place.entry) (prim app.now.name app.now.annots (trees app.now.args)) (kinds types) result }
+    ensures typed { IsInstrAt at (context place.entry) (prim app.now.name app.now.annots (trees app.now.args)) (kinds types) result }
+    ensures ends { IfOk result (λ _. end.new ≡ at + (sizes (trees app.now.args) + 1)) }
 {
     match form_of_name(&app.name) {
-        Form::Straight => check_straight(alloc, app, at, place, types),
-        Form::Transfer => check_transfer(alloc, app, at, place, types),
-        Form::Bodiless(bodiless) => check_bodiless(alloc, bodiless, app, at, place, types),
-        Form::Branch(branch) => check_branch(alloc, branch, app, at, place, types),
-        Form::Loop(turns) => check_loop(alloc, turns, app, at, place, types),
-        Form::SelfContract => check_self(alloc, app, at, place, types),
-        Form::Dip => check_dip(alloc, app, at, place, types),
-        Form::Map => check_map(alloc, app, at, place, types),
-        Form::Lambda => check_lambda(alloc, false, app, at, place, types),
-        Form::LambdaRec => check_lambda(alloc, true, app, at, place, types),
-        Form::Push => check_push(alloc, app, at, place, types),
-        Form::CreateContract => check_create(alloc, app, at, place, types),
+        Form::Straight => {
+            *end = behind_all(&app.args, at + 1);
+            check_straight(alloc, app, at, place, types)
+        }
+        Form::Transfer => {
+            *end = behind_all(&app.args, at + 1);
+            check_transfer(alloc, app, at, place, types)
+        }
+        Form::Bodiless(bodiless) => {
+            *end = behind_all(&app.args, at + 1);
+            check_bodiless(alloc, bodiless, app, at, place, types)
+        }
+        Form::Branch(branch) => check_branch(alloc, branch, app, at, place, types, end),
+        Form::Loop(turns) => check_loop(alloc, turns, app, at, place, types, end),
+        Form::SelfContract => {
+            *end = behind_all(&app.args, at + 1);
+            check_self(alloc, app, at, place, types)
+        }
+        Form::Dip => check_dip(alloc, app, at, place, types, end),
+        Form::Map => check_map(alloc, app, at, place, types, end),
+        Form::Lambda => check_lambda(alloc, false, app, at, place, types, end),
+        Form::LambdaRec => check_lambda(alloc, true, app, at, place, types, end),
+        Form::Push => {
+            *end = behind_all(&app.args, at + 1);
+            check_push(alloc, app, at, place, types)
+        }
+        Form::CreateContract => {
+            *end = behind_all(&app.args, at + 1);
+            check_create(alloc, app, at, place, types)
+        }
     }
+}
+
+// The location behind the nodes of which the first is at a location.
+fn behind_all(nodes: &Nodes, at: u32) -> u32
+    requires { at + sizes (trees nodes.now) < 2 ^ 32 }
+    ensures { result ≡ at + sizes (trees nodes.now) }
+{
+    let mut next = at;
+    for node in nodes.as_slice() {
+        next = behind(node, next);
+    }
+    next
 }
 
 #[cycle(check)]
@@ -139,10 +177,12 @@ fn check_branch(
     at: u32,
     place: Place<'_>,
     types: Rows<Ty>,
+    end: &mut u32,
 ) -> Result<Made, CheckError>
     requires fits { at + sizes (trees app.now.args) + 1 < 2 ^ 32 }
     requires form { form_of (primitive_of_name app.now.name) ≡ branch_form branch }
-    ensures { IsInstrAt at (context place.entry) (prim app.now.name app.now.annots (trees app.now.args)) (kinds types) result }
+    ensures typed { IsInstrAt at (context place.entry) (prim app.now.name app.now.annots (trees app.now.args)) (kinds types) result }
+    ensures ends { IfOk result (λ _. end.new ≡ at + (sizes (trees app.now.args) + 1)) }
 {
     let Some((one, other)) = app.args.both() else {
         return Err(CheckError::IllTyped(at));
@@ -150,8 +190,8 @@ fn check_branch(
     let Some((first, second)) = branch_stacks(alloc, branch, types)? else {
         return Err(CheckError::IllTyped(at));
     };
-    let one_body = check_body(alloc, one, at + 1, place, first)?;
-    let other_body = check_body(alloc, other, behind(one, at + 1), place, second)?;
+    let one_body = check_body(alloc, one, at + 1, place, first, end)?;
+    let other_body = check_body(alloc, other, *end, place, second, end)?;
     let after = joined(one_body.after, other_body.after, at)?;
     Ok(Made {
         instr: branch_instr(branch, one_body.code, other_body.code),
@@ -167,10 +207,12 @@ fn check_loop(
     at: u32,
     place: Place<'_>,
     types: Rows<Ty>,
+    end: &mut u32,
 ) -> Result<Made, CheckError>
     requires fits { at + sizes (trees app.now.args) + 1 < 2 ^ 32 }
     requires form { form_of (primitive_of_name app.now.name) ≡ loop_form turns }
-    ensures { IsInstrAt at (context place.entry) (prim app.now.name app.now.annots (trees app.now.args)) (kinds types) result }
+    ensures typed { IsInstrAt at (context place.entry) (prim app.now.name app.now.annots (trees app.now.args)) (kinds types) result }
+    ensures ends { IfOk result (λ _. end.new ≡ at + (sizes (trees app.now.args) + 1)) }
 {
     let Some(node) = app.args.only() else {
         return Err(CheckError::IllTyped(at));
@@ -178,7 +220,7 @@ fn check_loop(
     let Some(turning) = loop_stacks(alloc, turns, types)? else {
         return Err(CheckError::IllTyped(at));
     };
-    let body = check_body(alloc, node, at + 1, place, turning.begins)?;
+    let body = check_body(alloc, node, at + 1, place, turning.begins, end)?;
     if !ends_in(&body.after, &turning.ends) {
         return Err(CheckError::IllTyped(at));
     }
@@ -196,16 +238,18 @@ fn check_dip(
     at: u32,
     place: Place<'_>,
     types: Rows<Ty>,
+    end: &mut u32,
 ) -> Result<Made, CheckError>
     requires fits { at + sizes (trees app.now.args) + 1 < 2 ^ 32 }
     requires form { form_of (primitive_of_name app.now.name) ≡ f.dip }
-    ensures { IsInstrAt at (context place.entry) (prim app.now.name app.now.annots (trees app.now.args)) (kinds types) result }
+    ensures typed { IsInstrAt at (context place.entry) (prim app.now.name app.now.annots (trees app.now.args)) (kinds types) result }
+    ensures ends { IfOk result (λ _. end.new ≡ at + (sizes (trees app.now.args) + 1)) }
 {
     let dip = dip_parts(&app.args, at)?;
     let Some((upper, lower)) = split_stack(types, counted(dip.count))? else {
         return Err(CheckError::IllTyped(at));
     };
-    let body = check_body(alloc, dip.body, dip.place, place, lower)?;
+    let body = check_body(alloc, dip.body, dip.place, place, lower, end)?;
     dipped(alloc, dip.count, upper, body, at)
 }
 
@@ -216,10 +260,12 @@ fn check_map(
     at: u32,
     place: Place<'_>,
     types: Rows<Ty>,
+    end: &mut u32,
 ) -> Result<Made, CheckError>
     requires fits { at + sizes (trees app.now.args) + 1 < 2 ^ 32 }
     requires form { form_of (primitive_of_name app.now.name) ≡ f.map }
-    ensures { IsInstrAt at (context place.entry) (prim app.now.name app.now.annots (trees app.now.args)) (kinds types) result }
+    ensures typed { IsInstrAt at (context place.entry) (prim app.now.name app.now.annots (trees app.now.args)) (kinds types) result }
+    ensures ends { IfOk result (λ _. end.new ≡ at + (sizes (trees app.now.args) + 1)) }
 {
     let Some(node) = app.args.only() else {
         return Err(CheckError::IllTyped(at));
@@ -227,7 +273,7 @@ fn check_map(
     let Some(mapping) = map_stacks(alloc, types)? else {
         return Err(CheckError::IllTyped(at));
     };
-    let body = check_body(alloc, node, at + 1, place, mapping.begins)?;
+    let body = check_body(alloc, node, at + 1, place, mapping.begins, end)?;
     mapped(alloc, mapping.target, mapping.rest, body, at)
 }
 
@@ -240,10 +286,12 @@ fn check_lambda(
     at: u32,
     _place: Place<'_>,
     types: Rows<Ty>,
+    end: &mut u32,
 ) -> Result<Made, CheckError>
     requires fits { at + sizes (trees app.now.args) + 1 < 2 ^ 32 }
     requires form { form_of (primitive_of_name app.now.name) ≡ lambda_form recursive }
-    ensures { IsInstrAt at (context _place.entry) (prim app.now.name app.now.annots (trees app.now.args)) (kinds types) result }
+    ensures typed { IsInstrAt at (context _place.entry) (prim app.now.name app.now.annots (trees app.now.args)) (kinds types) result }
+    ensures ends { IfOk result (λ _. end.new ≡ at + (sizes (trees app.now.args) + 1)) }
 {
     let Some((first, second, node)) = app.args.three() else {
         return Err(CheckError::IllTyped(at));
@@ -251,7 +299,7 @@ fn check_lambda(
     let arrow = read_arrow(alloc, first, second, at)?;
     let begins = begun(alloc, recursive, &arrow, at)?;
     let place = behind(second, behind(first, at + 1));
-    let body = check_body(alloc, node, place, Place::Lambda, begins)?;
+    let body = check_body(alloc, node, place, Place::Lambda, begins, end)?;
     lambda_made(
         alloc,
         recursive,
@@ -332,7 +380,8 @@ fn check_called(
     ensures { IsFaulty (called_fault at (kind arg.now) (kind ret.now) recursive (tree node.now)) result }
 {
     let types = call_types(alloc, arg, ret, recursive)?;
-    let made = check_node(alloc, node, at, Place::Lambda, types)?;
+    let mut end = at;
+    let made = check_node(alloc, node, at, Place::Lambda, types, &mut end)?;
     let ends = only(alloc, ret)?;
     if ends_in(&made.after, &ends) {
         Ok(())

@@ -146,7 +146,8 @@ fn check_whole(
 {
     let begins = only(alloc, &ends.begins)?;
     let last = only(alloc, &ends.ends)?;
-    let made = check_body(alloc, body.node, body.at, place, begins)?;
+    let mut end = body.at;
+    let made = check_body(alloc, body.node, body.at, place, begins, &mut end)?;
     if ends_in(&made.after, &last) {
         Ok(made.code)
     } else {

@@ -1,3 +1,2 @@
 -- What the proofs of the crates above may cite of this crate.
-pub use Rattle.mich_data.proofs.Keys.{datum_comparable}
 pub use Rattle.mich_data.proofs.Places.{left_at, left_end, sizes_at}

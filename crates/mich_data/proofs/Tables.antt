@@ -11,7 +11,7 @@ use Rattle.rules_data.specs.values.Literals.{Pending, Literal, good, bad, with_p
 use Rattle.mich_term.specs.View.{datum}
 use Rattle.rules_data.specs.types.Kind.{Kind}
 use Rattle.mich_term.specs.ValueView.{val, pairs, put_pairs, big_pairs}
-use Rattle.mich_term.proofs.ForCallers.{big_is, with_last, by_lawful}
+use Rattle.mich_term.proofs.ForCallers.{big_is, table_step, with_last, by_lawful}
 use Rattle.mich_term.specs.declared.value.BigMap.{BigMap, out-BigMap, roll-BigMap, out-roll-BigMap}
 use Rattle.mich_term.specs.declared.value.Value.TheOpen.{BigMap-F}
 use Rattle.mich_data.specs.Whole.{put_of, AreWholeEntries, IsPut, LiesWhole, IsWhole}
@@ -182,10 +182,12 @@ put_whole : (a : Kind) (es : List (Datum × Value)) → AreWholeEntries a es →
 put_whole a [] h = tt
 put_whole a (e ∷ es) h = (h.0, put_whole a es h.1)
 
-pub overlay_step : (cs ds all : List (Datum × Option Value)) (d : Datum) (v : Value) (left rest : List (Datum × Value)) →
-    cs ++ map put_of left ≡ all → left ≡ (d, v) ∷ rest → ds ≡ cs ++ (d, Some v) ∷ [] → ds ++ map put_of rest ≡ all
-overlay_step cs ds all d v left rest e f g =
-    ap (λ l. l ++ map put_of rest) g ∙ append_assoc cs ((d, Some v) ∷ []) (map put_of rest) ∙ sym (ap (λ l. cs ++ map put_of l) f) ∙ e
+-- an entry is put behind those before it
+pub overlay_step : (cs ds : List (Datum × Option Value)) (left rest all : List (Datum × Value)) (d : Datum) (v : Value) →
+    cs ++ map put_of left ≡ map put_of all → IsIncreasing (keys_of all) → left ≡ (d, v) ∷ rest → ds ≡ with d (Some v) cs → ds ++ map put_of rest ≡ map put_of all
+overlay_step cs ds left rest all d v e s f g =
+    table_step cs (map put_of left) (map put_of rest) (map put_of all) ds d d (Some v) (Some v) (ap (map put_of) f) e
+    (subst IsIncreasing (sym (put_keys all)) s) refl refl g
 
 pub overlay_end : (cs all : List (Datum × Option Value)) (left : List (Datum × Value)) → cs ++ map put_of left ≡ all → left ≡ [] → cs ≡ all
 overlay_end cs all left e f = sym (append-nil cs) ∙ sym (ap (λ l. cs ++ map put_of l) f) ∙ e

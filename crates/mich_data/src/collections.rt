@@ -236,7 +236,7 @@ fn key_behind(
     }
 }
 
-#[tactic(auto, using(crate::proofs::Keys::datum_comparable))]
+#[tactic(auto, using(mich_term::proofs::ForCallers::datum_comparable))]
 fn stands_behind(before: Option<&Datum>, key: &Datum) -> bool
     ensures { result ≡ is_behind (told before.entry) (datum key.now) }
 {

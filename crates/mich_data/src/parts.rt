@@ -9,7 +9,7 @@ ghost use Rattle.mich_term.specs.ValueView.{pairs, val};
 ghost use Rattle.mich_data.specs.Whole.{AreWholeEntries, IsWhole, IsWrappedWhole, put_of};
 ghost use Rattle.mich_data.specs.Wrapped.{IsSplit, wrapped};
 
-use mich_base::{Link, Memory, Node, Rows};
+use mich_base::{Link, Memory, Node};
 use mich_term::{BigMap, Datum, Table, Value};
 use std::alloc::Global;
 
@@ -84,14 +84,14 @@ pub(crate) fn big_value(alloc: Global, table: Table<Value>) -> Result<Value, Mem
 
 // The entries of a table as what is put into a big map.
 #[tactic(auto, using(crate::proofs::Tables::overlay_step, crate::proofs::Tables::overlay_end))]
-fn overlay_of(alloc: Global, table: Table<Value>) -> Result<Rows<(Datum, Option<Value>)>, Memory>
+fn overlay_of(alloc: Global, table: Table<Value>) -> Result<Table<Option<Value>>, Memory>
     ensures puts { IfOk result (λ overlay. overlay ≡ map put_of table) }
     ensures increasing { IsIncreasing (keys_of table) }
 {
     let _count = table.len();
-    let mut overlay = Rows::new(alloc);
+    let mut overlay = Table::new(alloc);
     for (key, value) in table.into_entries() {
-        overlay.push((key, Some(value)))?;
+        overlay.insert(key, Some(value))?;
     }
     Ok(overlay)
 }

@@ -160,7 +160,7 @@ fn big_node(alloc: Global, big: &BigMap) -> Result<Node, Memory>
     ensures { IfOk result (λ n. tree n ≡ seq (canonical_entries (big_pairs big.now))) }
 {
     let mut nodes = Nodes::with_capacity(alloc, big.overlay.len())?;
-    for (key, change) in big.overlay.as_slice() {
+    for (key, change) in big.overlay.iter() {
         if let Some(value) = change {
             let literal = value_node(alloc, value)?;
             nodes.push(entry_node(alloc, key, literal)?)?;

@@ -3,10 +3,10 @@ use Rattle.std.proofs.Common.{◌≡◌, true, List, [], ◌∷◌, map, refl, s
 use Rattle.std.proofs.lemmas.Bool.{and_parts, and_from}
 use Rattle.rules_data.specs.values.Val.{Val, Vals, Pairs, no_val, more_vals, no_pair, more_pairs, is_comparable}
 use Rattle.rules_data.specs.values.Val as v
-use Rattle.mich_term.specs.View.{datum, datum_step, vals_of, pairs_of}
+use Rattle.mich_term.specs.View.{datum, vals_of, pairs_of}
 use Rattle.mich_term.specs.ValueView.{val, value_step, big_step, big_pairs}
-use Rattle.mich_term.specs.declared.datum.Datum.{Datum, ind-Datum, fold-roll-Datum, roll-Datum, map-Datum}
-use Rattle.mich_term.specs.declared.datum.Datum.TheOpen.{Datum-F}
+use Rattle.mich_term.specs.declared.datum.Datum.{Datum}
+use Rattle.mich_term.proofs.ForCallers.{datum_comparable}
 use Rattle.mich_term.specs.declared.value.Value.{Value, roll-Value, ind-Value, fold-roll-Value, map-Value}
 use Rattle.mich_term.specs.declared.value.Value.TheOpen.{Value-F}
 use Rattle.mich_term.specs.declared.value.BigMap.{BigMap, fold-BigMap}
@@ -117,28 +117,6 @@ comparable_flat (v.big_table es) h = absurd cc
 comparable_flat _ h = tt
 
 -- ---- comparable values
-
-abbrev IsComparable : Datum → Type 0
-IsComparable d = is_comparable (datum d) ≡ true
-
-abbrev Comparable : Type 0
-Comparable = (d : Datum) × IsComparable d
-
-level : (y : Datum-F Comparable) → IsComparable (roll-Datum (map-Datum Comparable Datum (λ p. p.0) y))
-level Datum-F.Unit = ap is_comparable (fold-roll-Datum Val datum_step Datum-F.Unit)
-level (Datum-F.Bool b) = ap is_comparable (fold-roll-Datum Val datum_step (Datum-F.Bool b))
-level (Datum-F.Number n) = ap is_comparable (fold-roll-Datum Val datum_step (Datum-F.Number n))
-level (Datum-F.Text s) = ap is_comparable (fold-roll-Datum Val datum_step (Datum-F.Text s))
-level (Datum-F.Bytes s) = ap is_comparable (fold-roll-Datum Val datum_step (Datum-F.Bytes s))
-level Datum-F.None = ap is_comparable (fold-roll-Datum Val datum_step Datum-F.None)
-level (Datum-F.Some x) = ap is_comparable (fold-roll-Datum Val datum_step (Datum-F.Some x.0)) ∙ x.1
-level (Datum-F.Left x) = ap is_comparable (fold-roll-Datum Val datum_step (Datum-F.Left x.0)) ∙ x.1
-level (Datum-F.Right x) = ap is_comparable (fold-roll-Datum Val datum_step (Datum-F.Right x.0)) ∙ x.1
-level (Datum-F.Pair x y) =
-    ap is_comparable (fold-roll-Datum Val datum_step (Datum-F.Pair x.0 y.0)) ∙ and_from (is_comparable (datum x.0)) (is_comparable (datum y.0)) x.1 y.1
-
-pub datum_comparable : (d : Datum) → is_comparable (datum d) ≡ true
-datum_comparable = ind-Datum IsComparable (λ x y is. subst (λ z. IsComparable (roll-Datum z)) is (level y))
 
 -- a comparable value among all values is the same however big maps are seen
 pub datum_is : (big : Sight) (x : Value) (d : Datum) → val x ≡ datum d → seen big x ≡ datum d

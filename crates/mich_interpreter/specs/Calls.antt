@@ -1,6 +1,9 @@
--- Lambdas on top of a stack, and the values that their bodies begin with.
-use Rattle.std.specs.Prelude.{Bool, true, false, List, [], ◌∷◌}
-use Rattle.rules_text.specs.nodes.Tree.{Tree, seq}
+-- Lambdas on top of a stack, the values that their bodies begin with, and the bodies of lambdas that capture a value.
+use Rattle.std.specs.Prelude.{Bool, true, false, List, [], ◌∷◌, codes}
+use Rattle.rules_text.specs.nodes.Tree.{Tree, seq, none, trees_of}
+use Rattle.rules_data.specs.types.Kind.{Kind}
+use Rattle.rules_data.specs.types.Printing.{named}
+use Rattle.rules_code.specs.evaluation.Calls.{push_node}
 use Rattle.rules_data.specs.values.Val.{Val}
 use Rattle.rules_data.specs.values.Val as v
 
@@ -13,3 +16,7 @@ HasLambda _ = ⊥
 abbrev pub called : Val → Tree → Bool → List Val
 called x body true = x ∷ v.lambda body true ∷ []
 called x body false = x ∷ []
+
+-- a body that pushes a value of a type, pairs it with what is there, and goes on with another body
+abbrev pub capturing : Kind → Val → Tree → Tree
+capturing a x body = seq (trees_of (push_node a x ∷ named (codes "PAIR") none ∷ body ∷ []))

@@ -1,6 +1,7 @@
 -- How an instruction ends.
 use Rattle.std.specs.Prelude.{◌≡◌, ◌≤◌, ◌<◌, ◌-◌, ℕ, pos, ◌+ℤ◌, ◌-ℤ◌, Bool, true, false, List, [], ◌∷◌, Option, Some, None, Result, IfOk}
 use Rattle.mich_base.specs.declared.memory.Memory.{Memory}
+use Rattle.rules_text.specs.nodes.Tree.{Tree, Trees}
 use Rattle.rules_data.specs.declared.gas.Kind.{Kind as Priced}
 use Rattle.rules_data.specs.gas.Prices.{Listed, cost}
 use Rattle.rules_data.specs.types.Kind.{Kind}
@@ -17,11 +18,13 @@ use Rattle.mich_base.specs.TypeView.{kind}
 use Rattle.mich_base.specs.undo.History.{Keeps as KeepsBooks}
 use Rattle.mich_stack.specs.Views.{Sight, seen}
 use Rattle.mich_step.specs.Views.{environment}
-use Rattle.mich_instr.specs.Code.{Code}
+use Rattle.mich_instr.specs.Code as made
+use Rattle.mich_instr.specs.Code.{Code, Codes}
 use Rattle.mich_instr.specs.View.{codes}
 use Rattle.mich_instr.specs.declared.instr.Instr.{Instr}
 use Rattle.mich_frames.specs.Around.{Around, in_environment, with_burnt}
 use Rattle.mich_frames.specs.Frames as fr
+use Rattle.mich_frames.specs.Rows.{view_row}
 use Rattle.mich_frames.specs.Stands.{StandsAt, MeetsAt, OpensAt}
 use Rattle.mich_interpreter.specs.declared.act.Act.{Act}
 use Rattle.mich_interpreter.specs.declared.act.Act.TheVariants as a
@@ -150,6 +153,14 @@ Carries i costs old new r =
     (x : Beyond) (fs : List fr.Frame) (d : ℕ) (Z : List Kind) (o : Outcome) → Meets i x costs old fs d Z o →
     IfOk r (λ a. Acts a x costs new fs d Z o)
 
+-- the same of LAMBDA or LAMBDA_REC with this body, whatever its types are
+abbrev pub ComesLambda : Bool → Tree → Costs → State → Type 0
+ComesLambda recursive body costs m = (a : Kind) × (r : Kind) × (written : Trees) × (is : Codes) × Comes (made.lambda recursive a r written body is) costs m
+
+abbrev pub CarriesLambda : Bool → Tree → Costs → State → State → Result Act Memory → Type 0
+CarriesLambda recursive body costs old new result =
+    (a r : Kind) (written : Trees) (is : Codes) → Carries (made.lambda recursive a r written body is) costs old new result
+
 -- the same for what sees a world
 abbrev pub ComesIn : World → Code → Costs → State → Type 0
 ComesIn v i costs m =
@@ -159,6 +170,13 @@ abbrev pub CarriesIn : World → Code → Costs → State → State → Result A
 CarriesIn v i costs old new r =
     (x : Beyond) (fs : List fr.Frame) (d : ℕ) (Z : List Kind) (o : Outcome) → Meets i x costs old fs d Z o → Sees v x →
     IfOk r (λ a. Acts a x costs new fs d Z o)
+
+-- the same of VIEW with a name and two types, however it is written
+abbrev pub ComesView : World → List ℕ → Kind → Kind → Costs → State → Type 0
+ComesView v name a b costs m = (app : Tree) × ComesIn v (made.straight (view_row name a b) app) costs m
+
+abbrev pub CarriesView : World → List ℕ → Kind → Kind → Costs → State → State → Result Act Memory → Type 0
+CarriesView v name a b costs old new r = (app : Tree) → CarriesIn v (made.straight (view_row name a b) app) costs old new r
 
 -- wherever the frame does
 abbrev pub Resumes : Frame → Costs → State → State → Result Act Memory → Type 0

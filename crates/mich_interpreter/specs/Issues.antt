@@ -1,5 +1,5 @@
 -- The operations that issued ones stand for, however big maps are seen.
-use Rattle.std.specs.Prelude.{List}
+use Rattle.std.specs.Prelude.{List, ◌≡◌, ◌≤◌, ◌<◌, ◌+◌, ℕ, Option, MatchOption}
 use Rattle.std.specs.List.{AllByRecursion}
 use Rattle.rules_code.specs.evaluation.Operations.{transfer, origination, event}
 use Rattle.rules_code.specs.evaluation.Operations as rules
@@ -11,6 +11,7 @@ use Rattle.mich_instr.specs.View.{script_node}
 use Rattle.mich_instr.specs.declared.issued.Issued.{Issued}
 use Rattle.mich_instr.specs.declared.issued.Issued.TheVariants as i
 use Rattle.mich_stack.specs.Views.{Sight, seen}
+use Rattle.rules_text.specs.nodes.Limits.{operation_limit}
 
 -- the script of an origination is typed
 abbrev pub IsScripted : Issued → Type 0
@@ -26,3 +27,7 @@ issued_by big (i.Transfer number argument amount to) = numbered number (transfer
 issued_by big (i.Origination number delegate amount script storage hash) =
     numbered number (origination delegate amount (script_node script) (seen big storage) hash)
 issued_by big (i.Event number tag ty value) = numbered number (event tag (kind ty) (seen big value))
+
+-- one more operation is counted, from so many to so many, and this is its number; none where there are as many as there may be
+abbrev pub IsCounted : Option ℕ → ℕ → ℕ → Type 0
+IsCounted number old new = MatchOption number (operation_limit ≤ old) (λ n. (n ≡ old) × (n < operation_limit) × (new ≡ n + 1))

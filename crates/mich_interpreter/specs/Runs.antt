@@ -88,7 +88,13 @@ StaysBehindAct act old new r =
     (x : Beyond) (costs : Costs) (gs : List fr.Frame) (Z : List Kind) (o : Outcome) → HasActedIn act x costs old gs Z o →
     IfOk r (λ s. IsStep s x costs new gs Z o)
 
--- wherever it is behind its block, if there was a step
+-- wherever it is behind its block
+abbrev pub StaysBehind : Costs → Machine → Machine → Result Step Memory → Type 0
+StaysBehind costs old new r =
+    (x : Beyond) (gs : List fr.Frame) (Z : List Kind) (o : Outcome) → Behind x costs old gs Z o →
+    IfOk r (λ s. IsStep s x costs new gs Z o)
+
+-- the same, if there was a step
 abbrev pub StaysBehindTurn : Costs → Machine → Machine → Result (Option Step) Memory → Type 0
 StaysBehindTurn costs old new r =
     (x : Beyond) (gs : List fr.Frame) (Z : List Kind) (o : Outcome) → Behind x costs old gs Z o →

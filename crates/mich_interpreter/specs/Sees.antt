@@ -20,6 +20,10 @@ abbrev pub IsNamed : Lookup → List ℕ → List ℕ → List ℕ → Kind → 
 IsNamed at place name annotation ty o =
     option_map (spelled_address place) o ≡ contract_of at annotation ty (spelled_address place name)
 
+-- the address that an address and an annotation name together, where the contract there takes the type; or none
+abbrev pub NamesContract : World → List ℕ → Kind → List ℕ → Option (List ℕ) → Type 0
+NamesContract v annotation ty address o = (at : Lookup) → LooksInto v at → o ≡ contract_of at annotation ty address
+
 -- big maps are seen in the store of this world, and its contracts are seen; each script is typed, and each storage is settled
 pub record Sees (v : World) (x : Beyond) : Type 0 where
   pub sight : x.sight ≡ sight v.store.bases.present

@@ -1,5 +1,5 @@
 -- The plain frames, values and counts that those of the code stand for.
-use Rattle.std.specs.Prelude.{ℕ, ℤ, ◌+ℤ◌, ◌-ℤ◌, List, ◌++◌, map, reverse, drop, Option}
+use Rattle.std.specs.Prelude.{ℕ, ℤ, ◌+ℤ◌, ◌-ℤ◌, List, ◌++◌, map, reverse, drop, Option, ◌≡◌, take}
 use Rattle.rules_data.specs.values.Val.{Val}
 use Rattle.rules_data.specs.values.Tickets.{Identity}
 use Rattle.rules_code.specs.evaluation.Surroundings.{Contract}
@@ -43,6 +43,10 @@ pub record Beyond : Type 0 where
 -- a stack of values, whose last element is on top, as it is written: the top first
 abbrev pub tops : Sight → List Value → List Val
 tops big vs = map (seen big) (reverse vs)
+
+-- so many values are taken from the top of a stack, and the others are left, however big maps are seen
+abbrev pub AreTaken : ℕ → List Value → List Value → List Value → Type 0
+AreTaken count old above new = (big : Sight) → (tops big above ≡ take count (tops big old)) × (tops big new ≡ drop count (tops big old))
 
 abbrev pub frame : Sight → Frame → fr.Frame
 frame big (f.Rest block at) = fr.rest (codes (drop at block))

@@ -13,6 +13,8 @@ use Rattle.mich_stack.specs.Views.{seen}
 use Rattle.mich_world.specs.declared.contract.Contract.{Contract}
 use Rattle.mich_interpreter.specs.View.{Beyond}
 use Rattle.mich_interpreter.specs.declared.visits.Visit.{Visit}
+use Rattle.mich_world.specs.World.{World}
+use Rattle.mich_interpreter.specs.Sees.{Sees}
 
 -- the code of a contract's view of a name with these types, its balance and its storage
 pub record IsOf (c : Contract) (twenty name : List ℕ) (a b : Kind) (v : Visit) : Type 0 where
@@ -42,3 +44,7 @@ IsVisit x a b _ _ = ⊥
 -- what is found is the view of a name with these types, at an address as it is spelled
 abbrev pub Finds : Beyond → List ℕ → List ℕ → Kind → Kind → Option Visit → Type 0
 Finds x address name a b v = IsVisit x a b (viewed x.contract_at name a b address) v
+
+-- the same for whatever sees a world
+abbrev pub FindsIn : World → List ℕ → List ℕ → Kind → Kind → Option Visit → Type 0
+FindsIn world address name a b v = (x : Beyond) → Sees world x → Finds x address name a b v

@@ -1,14 +1,13 @@
 // APPLY.
-ghost use Rattle.std.specs.Prelude.{◌≡◌, ◌∷◌, [], true, codes, IfOk};
-ghost use Rattle.rules_text.specs.nodes.Tree.{none, seq, trees_of};
+ghost use Rattle.std.specs.Prelude.{◌≡◌, true, IfOk};
 ghost use Rattle.rules_data.specs.types.Kind.{pair};
-ghost use Rattle.rules_data.specs.types.Printing.{named};
 ghost use Rattle.rules_code.specs.evaluation.Calls.{applied, push_node, rec_node};
 ghost use Rattle.mich_base.specs.TypeView.{kind};
 ghost use Rattle.mich_base.specs.View.{tree};
 ghost use Rattle.mich_instr.specs.Code as made;
 ghost use Rattle.mich_term.specs.ValueView.{val};
 ghost use Rattle.mich_interpreter.specs.Ends.{Comes, Carries, Spends};
+ghost use Rattle.mich_interpreter.specs.Calls.{capturing};
 
 use crate::act::{Act, Failed};
 use crate::calls::pop_lambda;
@@ -48,7 +47,7 @@ fn rec_node(alloc: Global, first: &Ty, second: &Ty, ret: &Ty, body: &Node) -> Re
 
 // The body that takes the other part alone: it pushes the value, pairs the two and goes on with the old body.
 fn plain_node(alloc: Global, captured: &Ty, value: &Value, body: &Node) -> Result<Node, Memory>
-    ensures { IfOk result (λ n. tree n ≡ seq (trees_of (push_node (kind captured.now) (val value.now) ∷ named (codes "PAIR") none ∷ tree body.now ∷ []))) }
+    ensures { IfOk result (λ n. tree n ≡ capturing (kind captured.now) (val value.now) (tree body.now)) }
 {
     let mut nodes = Nodes::new(alloc);
     nodes.push(push_node(alloc, captured, value)?)?;

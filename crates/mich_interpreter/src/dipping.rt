@@ -1,10 +1,9 @@
 // DIP.
-ghost use Rattle.std.specs.Prelude.{◌≡◌, IfOk, take, drop, ◌≤◌, length};
+ghost use Rattle.std.specs.Prelude.{◌≡◌, IfOk, ◌≤◌, length};
 ghost use Rattle.rules_text.specs.nodes.Tree.{Trees};
-ghost use Rattle.mich_stack.specs.Views.{Sight};
 ghost use Rattle.mich_instr.specs.Code as made;
 ghost use Rattle.mich_instr.specs.View.{codes};
-ghost use Rattle.mich_interpreter.specs.View.{tops};
+ghost use Rattle.mich_interpreter.specs.View.{AreTaken};
 ghost use Rattle.mich_interpreter.specs.Ends.{Comes, Carries, Spends};
 
 use crate::act::{Act, Failed};
@@ -21,7 +20,7 @@ use std::mem;
 // Takes so many values from the top.
 fn take_above(alloc: Global, stack: &mut Rows<Value>, count: usize) -> Result<Rows<Value>, Memory>
     requires { count ≤ length stack.old }
-    ensures { IfOk result (λ above. (big : Sight) → (tops big above ≡ take count (tops big stack.old)) × (tops big stack.new ≡ drop count (tops big stack.old))) }
+    ensures { IfOk result (λ above. AreTaken count stack.old above stack.new) }
 {
     let mut values = mem::replace(stack, Rows::new(alloc)).into_vec();
     let place = values.len() - count;

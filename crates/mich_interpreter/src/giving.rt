@@ -1,7 +1,7 @@
 // PUSH, LAMBDA, LAMBDA_REC and SELF.
 ghost use Rattle.std.specs.Prelude.{◌≡◌, ◌<◌, ◌^◌, ℕ, List, true, is_some, Some, IfOk, IfSome};
-ghost use Rattle.rules_text.specs.nodes.Tree.{Tree, Trees, size};
-ghost use Rattle.rules_data.specs.types.Kind.{Kind as TypeKind, simple};
+ghost use Rattle.rules_text.specs.nodes.Tree.{Tree, size};
+ghost use Rattle.rules_data.specs.types.Kind.{simple};
 ghost use Rattle.rules_data.specs.types.Attributes.{pushable};
 ghost use Rattle.rules_data.specs.forms.Spelling.{contract_place, spelled_address};
 ghost use Rattle.rules_data.specs.values.Val.{bytes};
@@ -15,8 +15,7 @@ ghost use Rattle.mich_term.specs.ValueView.{val};
 ghost use Rattle.mich_term.specs.declared.value.Value.{out-Value};
 ghost use Rattle.mich_frames.specs.Shapes.{lambda_price};
 ghost use Rattle.mich_instr.specs.Code as made;
-ghost use Rattle.mich_instr.specs.Code.{Codes};
-ghost use Rattle.mich_interpreter.specs.Ends.{Comes, Carries, Spends};
+ghost use Rattle.mich_interpreter.specs.Ends.{Comes, ComesLambda, Carries, CarriesLambda, Spends};
 
 use crate::act::{Act, Failed};
 use crate::paying::{pay, pay_capped};
@@ -121,8 +120,8 @@ pub(crate) fn act_lambda(
     recursive: bool,
     body: &Shared<Node>,
 ) -> Result<Act, Memory>
-    requires { (a : TypeKind) × (r : TypeKind) × (written : Trees) × (is : Codes) × Comes (made.lambda recursive a r written (tree body.now) is) costs.now m.old }
-    ensures acts { (a r : TypeKind) (written : Trees) (is : Codes) → Carries (made.lambda recursive a r written (tree body.now) is) costs.now m.old m.new result }
+    requires { ComesLambda recursive (tree body.now) costs.now m.old }
+    ensures acts { CarriesLambda recursive (tree body.now) costs.now m.old m.new result }
     ensures less { IfOk result (λ a. Spends a m.old.meter m.new.meter) }
     ensures ledger { m.new.ledger ≡ m.old.ledger }
     ensures counts { m.new.counts ≡ m.old.counts }

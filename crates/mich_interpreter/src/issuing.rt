@@ -1,6 +1,5 @@
 // TRANSFER_TOKENS, EMIT, CONTRACT and VIEW.
-ghost use Rattle.std.specs.Prelude.{false, ◌≡◌, ◌≤◌, ◌<◌, ◌+◌, ◌∷◌, pos, MatchOption, IfOk, option_map};
-ghost use Rattle.rules_text.specs.nodes.Limits.{operation_limit};
+ghost use Rattle.std.specs.Prelude.{false, ◌≡◌, ◌<◌, ◌+◌, ◌∷◌, pos, IfOk, option_map};
 ghost use Rattle.rules_text.specs.nodes.Tree.{Tree};
 ghost use Rattle.rules_data.specs.values.Val.{number, bytes};
 ghost use Rattle.rules_code.specs.instructions.Straight.{on_operations};
@@ -13,7 +12,7 @@ ghost use Rattle.mich_overload.specs.Steps.{in_step};
 ghost use Rattle.mich_overload.specs.View.{operation_row};
 ghost use Rattle.mich_stack.specs.Views.{Sight, seen};
 ghost use Rattle.mich_interpreter.specs.View.{tops};
-ghost use Rattle.mich_interpreter.specs.Issues.{KeepsScripts};
+ghost use Rattle.mich_interpreter.specs.Issues.{KeepsScripts, IsCounted};
 ghost use Rattle.mich_interpreter.specs.Parts.{HasAmount};
 ghost use Rattle.mich_interpreter.specs.Ends.{Comes, Carries, ComesIn, CarriesIn, Spends, KeepsAct};
 
@@ -49,7 +48,7 @@ pub(crate) fn pop_amount(stack: &mut Rows<Value>) -> u64
 
 // Counts one more operation, and gives its number. None where there are as many as there may be.
 pub(crate) fn count_operation(counts: &mut Counts) -> Option<u32>
-    ensures number { MatchOption result (operation_limit ≤ counts.old.issued) (λ n. (n ≡ counts.old.issued) × (n < operation_limit) × (counts.new.issued ≡ n + 1)) }
+    ensures number { IsCounted result counts.old.issued counts.new.issued }
     ensures others { (counts.new.originated ≡ counts.old.originated) × (counts.new.group ≡ counts.old.group) }
 {
     let number = counts.issued;

@@ -5,7 +5,7 @@ ghost use Rattle.rules_data.specs.forms.Spelling.{contract_place, implicit_place
 ghost use Rattle.mich_literals.specs.arguments.Arguments.{HasTypedScripts};
 ghost use Rattle.mich_base.specs.TypeView.{kind};
 ghost use Rattle.mich_forms.specs.Spelled.{address_bytes, place_bytes};
-ghost use Rattle.mich_interpreter.specs.Sees.{IsNamed, LooksInto};
+ghost use Rattle.mich_interpreter.specs.Sees.{IsNamed, LooksInto, NamesContract};
 
 use mich_base::Ty;
 use mich_forms::{Address, Entrypoint, KeyHash, Place};
@@ -110,7 +110,7 @@ pub(crate) fn contract_of(
     address: &Address,
 ) -> Option<Address>
     requires { HasTypedScripts world.now }
-    ensures { (at : Lookup) → LooksInto world.now at → option_map address_bytes result ≡ contract_of at annotation (kind ty.now) (address_bytes address.now) }
+    ensures { NamesContract world.now annotation (kind ty.now) (address_bytes address.now) (option_map address_bytes result) }
 {
     match named_entrypoint(world, address.place, address.entrypoint, annotation, ty) {
         Some(entrypoint) => Some(Address {

@@ -2,14 +2,13 @@
 ghost use Rattle.std.specs.Prelude.{[], ◌∷◌, ◌++◌, ◌≡◌, ◌+◌, ◌^◌, ◌<◌, ℕ, List, length, IfOk, IfSome, MatchOption};
 ghost use Rattle.rules_data.specs.types.Kind.{Kind};
 ghost use Rattle.rules_code.specs.evaluation.Outcome.{Outcome};
-ghost use Rattle.mich_frames.specs.Frames.{Frame as PlainFrame};
 ghost use Rattle.mich_instr.specs.View.{code};
 ghost use Rattle.mich_interpreter.specs.View.{Beyond};
 ghost use Rattle.mich_interpreter.specs.Ends.{ComesIn, CarriesIn, Waits, Resumes, Spends, Turns, KeepsAct};
 ghost use Rattle.mich_interpreter.specs.declared.state.State.{State as PlainState};
 ghost use Rattle.mich_interpreter.specs.Sees.{Sees};
 ghost use Rattle.mich_interpreter.specs.Callers.{InCall, SomeStart};
-ghost use Rattle.mich_interpreter.specs.Runs.{Behind, IsStep, StaysIn, StaysBehindAct, StaysBehindTurn, IsBegun, IsSpent, IsPaidStep, IsSettled, HasLeft, with_below, with_rest, SomeRun, SomeEnd, IsEnd, KeepsStep, KeepsEnd, IsNoBlock, IsNoSequence};
+ghost use Rattle.mich_interpreter.specs.Runs.{StaysIn, StaysBehind, StaysBehindAct, StaysBehindTurn, IsBegun, IsSpent, IsPaidStep, IsSettled, HasLeft, with_below, with_rest, SomeRun, SomeEnd, IsEnd, KeepsStep, KeepsEnd, IsNoBlock, IsNoSequence};
 
 use crate::act::{Act, Failed, View};
 use crate::applying::act_apply;
@@ -234,7 +233,7 @@ fn turn_again(m: &mut Machine, costs: &Costs) -> Result<Option<Step>, Memory>
 #[tactic(auto, using(crate::proofs::Keeping::same_keeps, crate::proofs::Keeping::keeps_state, crate::proofs::Keeping::keeps_on))]
 fn leave(alloc: Global, m: &mut Machine, costs: &Costs) -> Result<Step, Memory>
     requires { SomeEnd costs.now m.old }
-    ensures stays { (x : Beyond) (gs : List PlainFrame) (Z : List Kind) (o : Outcome) → Behind x costs.now m.old gs Z o → IfOk result (λ s. IsStep s x costs.now m.new gs Z o) }
+    ensures stays { StaysBehind costs.now m.old m.new result }
     ensures spent { IfOk result (λ s. HasLeft s m.old m.new) }
     ensures keeps { IfOk result (λ s. KeepsStep s m.old.state m.new.state) }
 {

@@ -1,12 +1,9 @@
 // VIEW.
 ghost use Rattle.std.specs.Prelude.{◌≡◌, IfOk};
-ghost use Rattle.rules_text.specs.nodes.Tree.{Tree};
 ghost use Rattle.mich_base.specs.TypeView.{kind};
 ghost use Rattle.rules_data.specs.values.Val.{both};
 ghost use Rattle.mich_stack.specs.Views.{Sight, seen};
-ghost use Rattle.mich_frames.specs.Rows.{view_row};
-ghost use Rattle.mich_instr.specs.Code as made;
-ghost use Rattle.mich_interpreter.specs.Ends.{ComesIn, CarriesIn, Spends, KeepsAct};
+ghost use Rattle.mich_interpreter.specs.Ends.{ComesView, CarriesView, Spends, KeepsAct};
 ghost use Rattle.mich_interpreter.specs.Viewing.{env_at};
 
 use crate::act::{Act, Failed, View};
@@ -67,8 +64,8 @@ pub(crate) fn act_view(
     input: &Ty,
     output: &Ty,
 ) -> Result<Act, Memory>
-    requires { (app : Tree) × ComesIn world.now (made.straight (view_row name.now (kind input.now) (kind output.now)) app) costs.now m.old }
-    ensures acts { (app : Tree) → CarriesIn world.now (made.straight (view_row name.now (kind input.now) (kind output.now)) app) costs.now m.old m.new result }
+    requires { ComesView world.now name.now (kind input.now) (kind output.now) costs.now m.old }
+    ensures acts { CarriesView world.now name.now (kind input.now) (kind output.now) costs.now m.old m.new result }
     ensures less { IfOk result (λ a. Spends a m.old.meter m.new.meter) }
     ensures keeps { IfOk result (λ a. KeepsAct a m.old m.new) }
 {

@@ -7,9 +7,8 @@ ghost use Rattle.mich_frames.specs.Views.{code_named, view_code};
 ghost use Rattle.mich_instr.specs.View as of;
 ghost use Rattle.mich_instr.specs.View.{codes, view_codes};
 ghost use Rattle.mich_instr.specs.declared.instr.Script.{out-Script};
-ghost use Rattle.mich_interpreter.specs.Sees.{Sees};
 ghost use Rattle.mich_interpreter.specs.View.{Beyond};
-ghost use Rattle.mich_interpreter.specs.Visits.{HasCode, Finds};
+ghost use Rattle.mich_interpreter.specs.Visits.{HasCode, Finds, FindsIn};
 
 use mich_base::{Memory, Rows, Text, Ty};
 use mich_forms::{Address, Entrypoint, KeyHash, Place};
@@ -93,7 +92,7 @@ fn visit_hash(
     input: &Ty,
     output: &Ty,
 ) -> Result<Option<Visit>, Memory>
-    ensures { IfOk result (λ r. (x : Beyond) → Sees world.now x → Finds x (spelled_address (contract_place hash) entrypoint) name.now (kind input.now) (kind output.now) r) }
+    ensures { IfOk result (λ r. FindsIn world.now (spelled_address (contract_place hash) entrypoint) name.now (kind input.now) (kind output.now) r) }
 {
     match world.contract(&hash) {
         Some(contract) => Ok(visit_contract(alloc, contract, hash, name, input, output)?),
@@ -123,7 +122,7 @@ pub(crate) fn find_view(
     input: &Ty,
     output: &Ty,
 ) -> Result<Option<Visit>, Memory>
-    ensures { IfOk result (λ r. (x : Beyond) → Sees world.now x → Finds x (address_bytes address.now) name.now (kind input.now) (kind output.now) r) }
+    ensures { IfOk result (λ r. FindsIn world.now (address_bytes address.now) name.now (kind input.now) (kind output.now) r) }
 {
     match address.place {
         Place::Implicit(who) => Ok(visit_account(who, address.entrypoint, name, input, output)),

@@ -87,11 +87,11 @@ views_of s = view_codes (out-Script s).views
 script_is : (s : Script) → script_code s ≡ made.script (script_node s) (kind (out-Script s).parameter.ty) (entries_of s) (kind (out-Script s).storage) (codes (code_of s)) (views_of s)
 script_is s = search (rules, scripts.the_lemmas)
 
-typed_is : (s : Script) → IsTypedScript s →
+pub typed_is : (s : Script) → IsTypedScript s →
     IsScript (script_node s) (made.script (script_node s) (kind (out-Script s).parameter.ty) (entries_of s) (kind (out-Script s).storage) (codes (code_of s)) (views_of s))
 typed_is s h = subst (IsScript (script_node s)) (script_is s) h
 
-found_one : (x y : PlainScript) → found x ≡ found y → x ≡ y
+pub found_one : (x y : PlainScript) → found x ≡ found y → x ≡ y
 found_one x y e = cc
 
 read_entries : (n : Tree) (p g : Kind) (es : List Entry) (is : made.Codes) (vs : made.ViewCodes) (t : PlainScript) → IsScript n (made.script n p es g is vs) → script n ≡ found t → t.entries ≡ es
@@ -102,9 +102,17 @@ read_entries n p g es is vs t h read = by n n p g es is vs h read
         let same : record { parameter = p; entries = es; storage = g; code = seq ts; views = ws } ≡ t = found_one _ _ (sym typed ∙ read) in
         sym (ap (λ (s : PlainScript). s.entries) same)
 
+pub read_storage : (n : Tree) (p g : Kind) (es : List Entry) (is : made.Codes) (vs : made.ViewCodes) (t : PlainScript) → IsScript n (made.script n p es g is vs) → script n ≡ found t → t.storage ≡ g
+read_storage n p g es is vs t h read = by n n p g es is vs h read
+  where
+    by : (n m : Tree) (p g : Kind) (es : List Entry) (is : made.Codes) (vs : made.ViewCodes) → IsScript n (made.script m p es g is vs) → script n ≡ found t → t.storage ≡ g
+    by n _ p g es is _ (is_script {ts = ts} {vs = ws} typed code views) read =
+        let same : record { parameter = p; entries = es; storage = g; code = seq ts; views = ws } ≡ t = found_one _ _ (sym typed ∙ read) in
+        sym (ap (λ (s : PlainScript). s.storage) same)
+
 -- ---- contracts
 
-at_one : (P : Contract → Type 0) (test : List ℕ → Bool) (cs : List (List ℕ × Contract)) (k : Contract) → AllByRecursion (λ c. P c.1) cs → lookup test cs ≡ Some k → P k
+pub at_one : (P : Contract → Type 0) (test : List ℕ → Bool) (cs : List (List ℕ × Contract)) (k : Contract) → AllByRecursion (λ c. P c.1) cs → lookup test cs ≡ Some k → P k
 at_one P test [] k h e = cc
 at_one P test (c ∷ cs) k h e = by (test c.0) e (λ g. at_one P test cs k h.1 g)
   where

@@ -132,7 +132,7 @@ module _ (bs : Bases) where
 
 -- ---- amounts
 
-one_contract : (x y : PlainContract) → Some x ≡ Some y → x ≡ y
+pub one_contract : (x y : PlainContract) → Some x ≡ Some y → x ≡ y
 one_contract x y e = cc
 
 returned_positive : (id : Identity) (w : PlainWorld) (is : List rules.Issued) → All (λ x. IsGoodOperation w x.operation) is → pos 0 ≤ℤ amount_returned id is
@@ -219,7 +219,7 @@ module _ {v : World} {to : List ℕ} {stack : List Value} {issued : List Issued}
         run_is ∙ finishes e.s e.w e.t e.argument e.counts e.t.hash e.contract e.tally r with_r (map f p.picked) pick.once
         (ap (λ xs. issued_with xs r.numbers) e.issues ∙ pick.returned)
 
-    is : IsFinished e.s e.w e.t e.argument e.counts end
+    pub is : IsFinished e.s e.w e.t e.argument e.counts end
     is = subst (EndsWell e.s e.w e.t e.argument e.counts) (sym run_is ∙ run_finished) with_r
 
     same_contract : is.before ≡ e.contract
@@ -288,7 +288,7 @@ module _ {v : World} {to : List ℕ} {stack : List Value} {issued : List Issued}
       pub given_based : HasBases bs given
       given_based = sound_based bs given sound
 
-      stored_is : val_in bs given ≡ is.storage
+      pub stored_is : val_in bs given ≡ is.storage
       stored_is = sym (sound_seen bs given sound) ∙ seen_so ∙ sym same_storage
 
       -- ---- behind the burns

@@ -30,8 +30,10 @@ use Rattle.mich_world.specs.declared.contract.Contract.{Contract}
 use Rattle.mich_machine.specs.Calls.{IsHosting}
 use Rattle.mich_machine.specs.Endings.{IsEnding}
 use Rattle.mich_machine.specs.Ends.{run_at, FailsSo, EndsWith}
+use Rattle.mich_machine.specs.Plain.{is_plain}
 use Rattle.mich_machine.specs.Returned.{by_number, handed, Numbered, Pick, picks, IsPicked}
 use Rattle.mich_machine.proofs.Ended.{some, shape, replayed, there_so, may_replace, y_stored, new_world, z_stands, z_ticketless, run_so, handed_so, given_based}
+use Rattle.mich_machine.proofs.Ticketless.{none_before, none_after}
 
 -- ---- the stack
 
@@ -93,6 +95,16 @@ module _ {v : World} {to : List ℕ} {stack : List Value} {issued : List Issued}
   replace_so =
       subst (λ (w : World). MayReplace (owner_of to) y.ledger.books.present (stored_tickets (contract_at w.funds.present to)) (tickets (val given))) (sym y_is)
       (may_replace e p is_picked given seen_so y.ledger tells)
+
+  pub none_before_so : is_plain (contract_at y.funds.present to) ≡ true → stored_tickets (contract_at y.funds.present to) ≡ []
+  none_before_so =
+      subst (λ (w : World). is_plain (contract_at w.funds.present to) ≡ true → stored_tickets (contract_at w.funds.present to) ≡ []) (sym y_is)
+      (λ plain_type. none_before e p is_picked plain_type)
+
+  pub none_after_so : is_plain (contract_at y.funds.present to) ≡ true → tickets (val given) ≡ []
+  none_after_so =
+      subst (λ (w : World). is_plain (contract_at w.funds.present to) ≡ true → tickets (val given) ≡ []) (sym y_is)
+      (λ plain_type. none_after e p is_picked plain_type given seen_so)
 
   pub there_still : is_some (contract_at y.funds.present to) ≡ true
   there_still = subst (λ (w : World). is_some (contract_at w.funds.present to) ≡ true) (sym y_is) (there_so e)

@@ -5,5 +5,6 @@ pub mod Numbers
 pub mod Picking
 pub mod Picks
 pub mod Shapes
+pub mod Ticketless
 pub mod Turns
 pub mod Wrapping

@@ -23,7 +23,8 @@ use Rattle.rules_world.specs.world.Outcomes.{applied}
 use Rattle.rules_world.specs.world.Receipts.{Transfer}
 use Rattle.rules_world.specs.world.Transfers.{Transaction, account_failure, account_outcome, with_taken, received, with_ticket}
 use Rattle.rules_world.specs.world.World.{World as PlainWorld}
-use Rattle.laws_world.proofs.accounts.ForCallers.{tickets_good, ticket_positive}
+use Rattle.laws_world.proofs.accounts.ForCallers.{ticket_positive}
+use Rattle.laws_code.proofs.stacks.ForCallers.{tickets_good}
 use Rattle.laws_world.proofs.runs.ForCallers.{moved_moves, orderly_of, at_itself}
 use Rattle.mich_base.specs.Counted.{IsNotEmpty}
 use Rattle.mich_base.specs.View.{tree}

@@ -99,6 +99,15 @@ abbrev pub IsDueIn : World → PlainWorld → Listed → CodeCounts → List ℕ
 IsDueIn v w prices counts source from to name amount argument t =
     IsDue v w (setting_in prices counts source) (counts_of counts) from to name amount argument t
 
+-- in some world some entrypoint is ready so, or due so
+abbrev pub SomeReady : World → Costs → CodeCounts → List ℕ → Place → List ℕ → List ℕ → ℕ → Value → Type 0
+SomeReady v costs counts source from to name amount argument =
+    (w : PlainWorld) × (t : Target) × IsReadyIn v w (listed costs) counts source from to name amount argument t
+
+abbrev pub SomeDue : World → Costs → CodeCounts → List ℕ → Place → List ℕ → List ℕ → ℕ → Value → Type 0
+SomeDue v costs counts source from to name amount argument =
+    (w : PlainWorld) × (t : Target) × IsDueIn v w (listed costs) counts source from to name amount argument t
+
 -- this surrounds a contract that a place calls, in each group of a source
 abbrev pub IsAround : World → List ℕ → Place → List ℕ → ℕ → Env → Type 0
 IsAround v source from to amount env =

@@ -59,6 +59,11 @@ Founds v source from f new r =
     (prices : Listed) (w : PlainWorld) (gas group : ℕ) (counts : Counts) → IsFounding v w source from f
     → EndsAs (found_contract (setting_of prices group source) w f gas (counts_of counts)) new gas counts counts r
 
+-- in some world, at some prices, a group comes to an origination
+abbrev pub SomeOrigination : World → Counts → List ℕ → ℕ → Tree → Tree → Type 0
+SomeOrigination v counts source balance t storage =
+    (prices : Listed) × (w : PlainWorld) × BeginsIn v w prices counts source (ordered (Originate balance t storage))
+
 -- where a group comes to an origination, and its price is paid, it ends as the definitions say
 abbrev pub Originates : List ℕ → ℕ → Tree → Tree → World → Counts → World → Counts → Result Applied ApplyError → Type 0
 Originates source balance t storage v counts new after r =

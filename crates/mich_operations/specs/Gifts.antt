@@ -161,3 +161,7 @@ Gives costs source issuer ty content amount to name v gas counts new left after 
     (with_offered (offered (offer issuer.now ty.now content.now amount)) (setting_in (listed costs.now) counts source.now) w
     (place_bytes to.now) name.now gas (counts_of counts))
     new left counts after r
+
+-- an account holds more, by as many as a ticket tells, and nobody else does
+abbrev pub Receives : List ℕ → Ticket → World → World → Type 0
+Receives who t v new = Moves (implicit_place who) (λ j. amount_of j (held t)) v.ledger.books.present new.ledger.books.present

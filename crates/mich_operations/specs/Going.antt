@@ -59,6 +59,10 @@ setting_in prices counts source = setting_of prices counts.group source
 abbrev pub BeginsIn : World → PlainWorld → Listed → Counts → List ℕ → Waiting → Type 0
 BeginsIn v w prices counts source op = Begins v w (setting_in prices counts source) op (counts_of counts)
 
+-- in some world it does
+abbrev pub SomeBegins : World → Costs → Counts → List ℕ → Waiting → Type 0
+SomeBegins v costs counts source op = (w : PlainWorld) × BeginsIn v w (listed costs) counts source op
+
 -- ---- behind it
 
 -- what it did, and the growth of its contract

@@ -1,13 +1,11 @@
 // Operations that a source orders.
 ghost use Rattle.std.specs.Prelude.{IfOk};
 ghost use Rattle.rules_world.specs.world.Outcomes.{ordered};
-ghost use Rattle.rules_world.specs.world.World.{World as PlainWorld};
 ghost use Rattle.mich_bigmap.specs.Extended.{Extends};
-ghost use Rattle.mich_gas.specs.View.{listed};
 ghost use Rattle.mich_machine.specs.Calls.{IsHosting};
 ghost use Rattle.mich_ops.specs.View.{action as action_of};
 ghost use Rattle.mich_world.specs.Marks.{KeepsWorld};
-ghost use Rattle.mich_operations.specs.Going.{Applies, BeginsIn, KeepsContracts, WithMemory};
+ghost use Rattle.mich_operations.specs.Going.{Applies, KeepsContracts, WithMemory, SomeBegins};
 
 use crate::applied::{Applied, ApplyError};
 use crate::calls::call;
@@ -33,7 +31,7 @@ pub fn apply_action(
     bodies: &mut Bodies,
     action: &Action,
 ) -> Result<Applied, ApplyError>
-    requires next { (w : PlainWorld) × BeginsIn world.old w (listed costs.now) counts.old source.now (ordered (action_of action.now)) }
+    requires next { SomeBegins world.old costs.now counts.old source.now (ordered (action_of action.now)) }
     requires hosting { IsHosting world.old }
     ensures ends { Applies costs.entry source.entry (ordered (action_of action.entry.now)) world.old meter.old counts.old world.new meter.new counts.new result }
     ensures hosting { IfOk result (λ _. IsHosting world.new) }

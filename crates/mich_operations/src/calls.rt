@@ -2,15 +2,13 @@
 ghost use Rattle.std.specs.Prelude.{IfOk};
 ghost use Rattle.rules_world.specs.world.Contents.{Call};
 ghost use Rattle.rules_world.specs.world.Outcomes.{ordered};
-ghost use Rattle.rules_world.specs.world.World.{World as PlainWorld};
 ghost use Rattle.mich_base.specs.View.{tree};
 ghost use Rattle.mich_bigmap.specs.Extended.{Extends};
 ghost use Rattle.mich_forms.specs.Spelled.{place_bytes};
-ghost use Rattle.mich_gas.specs.View.{listed};
 ghost use Rattle.mich_machine.specs.Calls.{IsHosting};
 ghost use Rattle.mich_world.specs.Marks.{KeepsWorld};
 ghost use Rattle.mich_operations.specs.Calls.{CallsPlace};
-ghost use Rattle.mich_operations.specs.Going.{BeginsIn, KeepsContracts, WithMemory};
+ghost use Rattle.mich_operations.specs.Going.{KeepsContracts, WithMemory, SomeBegins};
 
 use crate::accounts::call_account;
 use crate::applied::{Applied, ApplyError};
@@ -37,7 +35,7 @@ pub(crate) fn call(
     entry: &Entrypoint,
     argument: &Node,
 ) -> Result<Applied, ApplyError>
-    requires next { (w : PlainWorld) × BeginsIn world.old w (listed costs.now) counts.old source.now (ordered (Call amount (place_bytes to.now) entry.now (tree argument.now))) }
+    requires next { SomeBegins world.old costs.now counts.old source.now (ordered (Call amount (place_bytes to.now) entry.now (tree argument.now))) }
     requires hosting { IsHosting world.old }
     ensures ends { CallsPlace costs.entry source.entry amount to.entry entry.entry argument.entry world.old meter.old counts.old world.new meter.new counts.new result }
     ensures hosting { IfOk result (λ _. IsHosting world.new) }

@@ -1,16 +1,15 @@
 // Tickets of accounts.
 ghost use Rattle.std.specs.Prelude.{◌≡◌, pos, ◌+ℤ◌, ◌<ℤ◌, ◌≤ℤ◌, IfOk};
 ghost use Rattle.rules_data.specs.forms.Spelling.{implicit_place};
-ghost use Rattle.rules_code.specs.steps.Changes.{amount_of};
 ghost use Rattle.mich_forms.specs.declared.places.Place.TheVariants as place;
 ghost use Rattle.mich_term.specs.TicketView.{held, identity};
 ghost use Rattle.mich_tickets.specs.Answers.{IsDebit};
-ghost use Rattle.mich_tickets.specs.Effects.{Moves};
 ghost use Rattle.mich_tickets.specs.Limits.{IsPositive};
 ghost use Rattle.mich_tickets.specs.Most.{most};
 ghost use Rattle.mich_tickets.specs.Sums.{held_of};
 ghost use Rattle.mich_base.specs.undo.History.{Keeps};
 ghost use Rattle.mich_world.specs.World.{with_ledger};
+ghost use Rattle.mich_operations.specs.Gifts.{Receives};
 
 use mich_base::Memory;
 use mich_forms::{KeyHash, Place};
@@ -29,7 +28,7 @@ pub(crate) fn credit(
     requires positive { IsPositive (held ticket) }
     requires room { (held_of world.old.ledger.books.present (identity ticket.id) (implicit_place who.now) +ℤ ticket.amount) ≤ℤ most }
     ensures world { world.new ≡ with_ledger world.old world.new.ledger }
-    ensures moves { IfOk result (λ _. Moves (implicit_place who.now) (λ j. amount_of j (held ticket)) world.old.ledger.books.present world.new.ledger.books.present) }
+    ensures moves { IfOk result (λ _. Receives who.now ticket world.old world.new) }
     ensures keeps { Keeps world.old.ledger.books world.new.ledger.books }
 {
     world

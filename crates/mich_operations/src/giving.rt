@@ -2,7 +2,7 @@
 ghost use Rattle.std.specs.Prelude.{◌≡◌, None, true, is_some, IfOk};
 ghost use Rattle.rules_code.specs.instructions.Same as same;
 ghost use Rattle.rules_data.specs.types.Kind as kinds;
-ghost use Rattle.rules_world.specs.world.Targets.{Target, search};
+ghost use Rattle.rules_world.specs.world.Targets.{search};
 ghost use Rattle.rules_world.specs.world.World.{World as PlainWorld};
 ghost use Rattle.mich_literals.specs.arguments.Arguments.{HasTypedScripts};
 ghost use Rattle.mich_base.specs.TypeView.{kind};
@@ -15,9 +15,9 @@ ghost use Rattle.mich_term.specs.Layers.{AreFormed};
 ghost use Rattle.mich_world.specs.Holders.{contract_at};
 ghost use Rattle.mich_world.specs.Marks.{KeepsWorld};
 ghost use Rattle.mich_world.specs.Standing.{StandsFor};
-ghost use Rattle.mich_operations.specs.Calls.{IsReadyIn};
+ghost use Rattle.mich_operations.specs.Calls.{SomeReady};
 ghost use Rattle.mich_operations.specs.Gifts.{Gives, GivesContract, IsHandedIn, IsWanted, RunsGift, ordered_gift, tickets_of};
-ghost use Rattle.mich_operations.specs.Going.{BeginsIn, KeepsContracts, WithMemory};
+ghost use Rattle.mich_operations.specs.Going.{KeepsContracts, WithMemory, SomeBegins};
 
 use crate::applied::{Applied, ApplyError};
 use crate::gifts::{gave, give_account, take};
@@ -82,7 +82,7 @@ fn run_gift(
     name: &Entrypoint,
     argument: Value,
 ) -> Result<Applied, ApplyError>
-    requires ready { (w : PlainWorld) × (t : Target) × IsReadyIn world.old w (listed costs.now) counts.old source.now (place.Implicit source.now) to.now name.now 0 argument t }
+    requires ready { SomeReady world.old costs.now counts.old source.now (place.Implicit source.now) to.now name.now 0 argument }
     requires hosting { IsHosting world.old }
     requires there { is_some (contract_at world.old.funds.present to.now) ≡ true }
     requires formed { AreFormed argument }
@@ -170,7 +170,7 @@ pub(crate) fn give(
     to: &Place,
     name: &Entrypoint,
 ) -> Result<Applied, ApplyError>
-    requires next { (w : PlainWorld) × BeginsIn world.old w (listed costs.now) counts.old source.now (ordered_gift issuer.now ty.now node.now amount to.now name.now) }
+    requires next { SomeBegins world.old costs.now counts.old source.now (ordered_gift issuer.now ty.now node.now amount to.now name.now) }
     requires hosting { IsHosting world.old }
     ensures ends { Gives costs.entry source.entry issuer.entry ty.entry node.entry amount to.entry name.entry world.old meter.old counts.old world.new meter.new counts.new result }
     ensures hosting { IfOk result (λ _. IsHosting world.new) }

@@ -1,12 +1,10 @@
 // Operations that a contract issued.
 ghost use Rattle.std.specs.Prelude.{◌≡◌, true, is_some, IfOk};
-ghost use Rattle.rules_world.specs.world.World.{World as PlainWorld};
 ghost use Rattle.mich_bigmap.specs.Extended.{Extends};
-ghost use Rattle.mich_gas.specs.View.{listed};
 ghost use Rattle.mich_machine.specs.Calls.{IsHanded, IsHosting};
 ghost use Rattle.mich_world.specs.Holders.{contract_at};
 ghost use Rattle.mich_world.specs.Marks.{KeepsWorld};
-ghost use Rattle.mich_operations.specs.Going.{Applies, BeginsIn, KeepsContracts, WithMemory, issued_by};
+ghost use Rattle.mich_operations.specs.Going.{Applies, KeepsContracts, WithMemory, issued_by, SomeBegins};
 
 use crate::applied::{Applied, ApplyError};
 use crate::charging::charge;
@@ -35,7 +33,7 @@ pub fn apply_issued(
     by: [u8; 20],
     operation: Issued,
 ) -> Result<Applied, ApplyError>
-    requires next { (w : PlainWorld) × BeginsIn world.old w (listed costs.now) counts.old source.now (issued_by world.old.store.bases.present by operation) }
+    requires next { SomeBegins world.old costs.now counts.old source.now (issued_by world.old.store.bases.present by operation) }
     requires hosting { IsHosting world.old }
     requires there { is_some (contract_at world.old.funds.present by) ≡ true }
     requires handed { IsHanded world.old.store.bases.present operation }

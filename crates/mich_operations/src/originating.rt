@@ -2,10 +2,7 @@
 ghost use Rattle.std.specs.Prelude.{◌≡◌, ◌<◌, ◌^◌, IfOk};
 ghost use Rattle.laws_data.specs.types.Laws.{IsWellFormed};
 ghost use Rattle.rules_text.specs.nodes.Tree.{size};
-ghost use Rattle.rules_data.specs.gas.Prices.{Listed};
 ghost use Rattle.rules_world.specs.world.Arguments.{literal_in};
-ghost use Rattle.rules_world.specs.world.Contents.{Originate};
-ghost use Rattle.rules_world.specs.world.Outcomes.{ordered};
 ghost use Rattle.rules_world.specs.world.World.{World as PlainWorld};
 ghost use Rattle.mich_literals.specs.arguments.Arguments.{HasTypedScripts};
 ghost use Rattle.mich_base.specs.TypeView.{kind};
@@ -16,8 +13,8 @@ ghost use Rattle.mich_machine.specs.Calls.{IsHosting};
 ghost use Rattle.mich_term.specs.Layers.{AreFormed};
 ghost use Rattle.mich_world.specs.Marks.{KeepsWorld};
 ghost use Rattle.mich_world.specs.Standing.{StandsFor};
-ghost use Rattle.mich_operations.specs.Foundings.{IsScriptOf, IsStorageOf, Originates};
-ghost use Rattle.mich_operations.specs.Going.{BeginsIn, KeepsContracts, WithMemory};
+ghost use Rattle.mich_operations.specs.Foundings.{IsScriptOf, IsStorageOf, Originates, SomeOrigination};
+ghost use Rattle.mich_operations.specs.Going.{KeepsContracts, WithMemory};
 
 use crate::applied::{Applied, ApplyError};
 use crate::founding::found;
@@ -71,7 +68,7 @@ pub(crate) fn originate(
     script: &Node,
     storage: &Node,
 ) -> Result<Applied, ApplyError>
-    requires next { (prices : Listed) × (w : PlainWorld) × BeginsIn world.old w prices counts.old source.now (ordered (Originate balance (tree script.now) (tree storage.now))) }
+    requires next { SomeOrigination world.old counts.old source.now balance (tree script.now) (tree storage.now) }
     requires hosting { IsHosting world.old }
     ensures ends { Originates source.now balance (tree script.now) (tree storage.now) world.old counts.old world.new counts.new result }
     ensures hosting { IfOk result (λ _. IsHosting world.new) }

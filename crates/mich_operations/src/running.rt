@@ -1,15 +1,12 @@
 // Contracts that are called.
 ghost use Rattle.std.specs.Prelude.{◌≡◌, None, is_some, true, IfOk};
-ghost use Rattle.rules_world.specs.world.Targets.{Target};
-ghost use Rattle.rules_world.specs.world.World.{World as PlainWorld};
 ghost use Rattle.mich_bigmap.specs.Extended.{Extends};
 ghost use Rattle.mich_bigmap.specs.Layers.{HasBases};
-ghost use Rattle.mich_gas.specs.View.{listed};
 ghost use Rattle.mich_machine.specs.Calls.{IsHosting};
 ghost use Rattle.mich_term.specs.Layers.{AreFormed};
 ghost use Rattle.mich_world.specs.Holders.{contract_at, may_receive};
 ghost use Rattle.mich_world.specs.Marks.{KeepsWorld};
-ghost use Rattle.mich_operations.specs.Calls.{CallsContract, IsAround, IsDueIn, IsReadyIn, RunsContract};
+ghost use Rattle.mich_operations.specs.Calls.{CallsContract, IsAround, RunsContract, SomeReady, SomeDue};
 ghost use Rattle.mich_operations.specs.Going.{KeepsContracts, WithMemory};
 
 use crate::applied::{Applied, ApplyError};
@@ -63,7 +60,7 @@ fn run_contract(
     amount: u64,
     argument: Value,
 ) -> Result<Applied, ApplyError>
-    requires ready { (w : PlainWorld) × (t : Target) × IsReadyIn world.old w (listed costs.now) counts.old source.now from.now to.now name.now amount argument t }
+    requires ready { SomeReady world.old costs.now counts.old source.now from.now to.now name.now amount argument }
     requires hosting { IsHosting world.old }
     requires there { is_some (contract_at world.old.funds.present to.now) ≡ true }
     requires formed { AreFormed argument }
@@ -113,7 +110,7 @@ pub(crate) fn call_contract(
     amount: u64,
     argument: Value,
 ) -> Result<Applied, ApplyError>
-    requires due { (w : PlainWorld) × (t : Target) × IsDueIn world.old w (listed costs.now) counts.old source.now from.now to.now name.now amount argument t }
+    requires due { SomeDue world.old costs.now counts.old source.now from.now to.now name.now amount argument }
     requires payer { may_receive world.old.funds.present from.now ≡ true }
     requires hosting { IsHosting world.old }
     requires formed { AreFormed argument }

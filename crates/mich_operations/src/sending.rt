@@ -1,16 +1,14 @@
 // Transfers that contracts issue.
 ghost use Rattle.std.specs.Prelude.{◌≡◌, is_some, true, IfOk};
 ghost use Rattle.rules_data.specs.forms.Spelling.{IsEntrypoint, IsPlace, spelled_address};
-ghost use Rattle.rules_world.specs.world.World.{World as PlainWorld};
 ghost use Rattle.mich_bigmap.specs.Extended.{Extends};
 ghost use Rattle.mich_bigmap.specs.Layers.{HasBases};
 ghost use Rattle.mich_forms.specs.Spelled.{address_bytes, place_bytes};
-ghost use Rattle.mich_gas.specs.View.{listed};
 ghost use Rattle.mich_machine.specs.Calls.{IsHosting};
 ghost use Rattle.mich_term.specs.Layers.{AreFormed};
 ghost use Rattle.mich_world.specs.Holders.{contract_at};
 ghost use Rattle.mich_world.specs.Marks.{KeepsWorld};
-ghost use Rattle.mich_operations.specs.Going.{BeginsIn, KeepsContracts, WithMemory};
+ghost use Rattle.mich_operations.specs.Going.{KeepsContracts, WithMemory, SomeBegins};
 ghost use Rattle.mich_operations.specs.Transfers.{Sends, issued_transfer};
 
 use crate::accounts::send_account;
@@ -49,7 +47,7 @@ pub(crate) fn send(
     amount: u64,
     argument: Value,
 ) -> Result<Applied, ApplyError>
-    requires next { (w : PlainWorld) × BeginsIn world.old w (listed costs.now) counts.old source.now (issued_transfer world.old by argument amount to.now) }
+    requires next { SomeBegins world.old costs.now counts.old source.now (issued_transfer world.old by argument amount to.now) }
     requires hosting { IsHosting world.old }
     requires there { is_some (contract_at world.old.funds.present by) ≡ true }
     requires formed { AreFormed argument }

@@ -1,9 +1,9 @@
 // How many bytes the binary forms of nodes have, each counted up to 2^64-1. Nothing here takes memory.
-ghost use Rattle.std.specs.Prelude.{◌≡◌, ◌+◌, length};
-ghost use Rattle.rules_text.specs.binary.Spelling.{count, groups, integer, joined, signed_groups};
+ghost use Rattle.std.specs.Prelude.{◌≡◌, length};
+ghost use Rattle.rules_text.specs.binary.Spelling.{groups, integer, joined, signed_groups};
 ghost use Rattle.mich_base.specs.View.{tree, app_tree, trees};
 ghost use Rattle.mich_term.specs.Weights.{capped};
-ghost use Rattle.mich_pack.specs.Lengths.{node_length, nodes_length, own_length};
+ghost use Rattle.mich_pack.specs.Lengths.{node_length, nodes_length, own_length, application_length};
 
 use mich_base::{App, Node, Nodes, Text};
 
@@ -88,7 +88,7 @@ fn application_len(app: &App) -> u64
 // An application by its arguments and its annotations.
 #[cycle(node)]
 fn parts_len(args: &Nodes, annotations: &[Text]) -> u64
-    ensures { result ≡ capped (nodes_length (trees args.now) + length (joined annotations.now) + own_length (count (trees args.now)) (length (joined annotations.now))) }
+    ensures { result ≡ capped (application_length (trees args.now) annotations.now) }
 {
     let notes = notes_len(annotations);
     nodes_len(args)

@@ -1,16 +1,14 @@
 // How many bytes nodes, and what contracts keep, have in binary form, each counted up to 2^64-1. Nothing here takes memory.
 ghost use Rattle.std.specs.Prelude.{◌≡◌, length};
 ghost use Rattle.rules_text.specs.binary.Spelling.{spelling};
-ghost use Rattle.rules_data.specs.values.Val as values;
 ghost use Rattle.rules_data.specs.values.Canonical.{canonical};
 ghost use Rattle.rules_world.specs.world.Growth.{as_pairs, all_as_pairs, entries_as_pairs};
-ghost use Rattle.mich_base.specs.TypeView.{kind};
 ghost use Rattle.mich_base.specs.View.{tree};
-ghost use Rattle.mich_forms.specs.Spelled.{place_bytes};
-ghost use Rattle.mich_term.specs.View.{datum};
 ghost use Rattle.mich_term.specs.ValueView.{val, vals, pairs, big_pairs};
 ghost use Rattle.mich_term.specs.Weights.{capped};
 ghost use Rattle.mich_pack.specs.Lengths.{value_length, values_length, entries_length};
+ghost use Rattle.mich_term.specs.TicketView.{held};
+ghost use Rattle.rules_code.specs.steps.TicketSteps.{as_value};
 
 use crate::node_length;
 use crate::value_length::{datum_len, value_len, with_entry};
@@ -36,7 +34,7 @@ pub fn stored_len(value: &Value) -> u64
 
 // A ticket as a pair of its issuer and a pair.
 fn pair_len(ticket: &Ticket) -> u64
-    ensures { result ≡ capped (value_length (as_pairs (values.ticket (place_bytes ticket.now.id.issuer) (kind ticket.now.id.ty) (datum ticket.now.id.content) ticket.now.amount))) }
+    ensures { result ≡ capped (value_length (as_pairs (as_value (held ticket.now)))) }
 {
     let issuer = ticket.id.issuer.bytes();
     (issuer.len() as u64)
@@ -102,7 +100,7 @@ fn kept_big_len(big: &BigMap) -> u64
     ensures { result ≡ capped (entries_length (entries_as_pairs (big_pairs big.now))) }
 {
     let mut total: u64 = 0;
-    for (key, change) in big.overlay.as_slice() {
+    for (key, change) in big.overlay.iter() {
         if let Some(value) = change {
             total = with_entry(total, key, kept_len(value));
         }

@@ -13,7 +13,7 @@ use Rattle.rules_files.specs.commands.Answers.{Answer, done_with, refused_with, 
 use Rattle.rules_files.specs.commands.Certificates.{IsVerified, IsAloneVerified, IsListedVerified}
 use Rattle.rules_files.specs.commands.Lines.{text_kind_name}
 use Rattle.rules_files.specs.commands.Places.{Placed}
-use Rattle.laws_audit.proofs.Same.{trees_decided}
+use Rattle.mich_audit.proofs.Same.{trees_decided}
 
 -- ---- a node is valid or not
 

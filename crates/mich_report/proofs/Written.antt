@@ -17,7 +17,7 @@ use Rattle.rules_world.specs.world.World.{identity_order}
 use Rattle.laws_world.proofs.accounts.ForCallers.{identity_total}
 use Rattle.laws_world.specs.lines.Laws.{AreInOrder, amount_told}
 use Rattle.laws_world.proofs.lines_lemmas.ForCallers.{are_alike, all_exact}
-use Rattle.mich_data.proofs.ForCallers.{datum_comparable}
+use Rattle.mich_term.proofs.ForCallers.{datum_comparable}
 use Rattle.mich_term.specs.TicketView.{identity}
 use Rattle.mich_term.specs.declared.ticket.TicketId.{TicketId}
 use Rattle.mich_tickets.proofs.ForCallers.{found_inserted, found_changed, found_close}

@@ -1,13 +1,13 @@
 -- Worlds that are printed, and what is written of them.
 use Rattle.std.specs.List.Sorted.{IsStrictlySortedBy}
 use Rattle.std.specs.Map.{keys_of}
-use Rattle.std.specs.Prelude.{◌≡◌, ◌≤ℤ◌, ◌-ℤ◌, ℕ, ℤ, pos, List, [], ◌∷◌, ◌++◌, codes, map}
+use Rattle.std.specs.Prelude.{◌≡◌, ◌≤ℤ◌, ◌-ℤ◌, ℕ, ℤ, pos, List, [], ◌∷◌, ◌++◌, codes, map, Result, IfOk}
 use Rattle.rules_text.specs.nodes.Tree.{Tree, int}
-use Rattle.rules_world.specs.lines.Nodes.{account_node, burn_nodes, line, number, over, ticket_fields}
+use Rattle.rules_world.specs.lines.Nodes.{account_node, burn_nodes, held_node, line, number, over, ticket_fields}
 use Rattle.rules_data.specs.values.Tickets.{Identity}
 use Rattle.rules_world.specs.world.Good.{IsGood}
 use Rattle.rules_world.specs.world.World.{World as PlainWorld}
-use Rattle.laws_world.specs.lines.Laws.{amount_told}
+use Rattle.laws_world.specs.lines.Laws.{AreInOrder, amount_told}
 use Rattle.mich_tickets.specs.Books.{Books}
 use Rattle.mich_tickets.specs.Lines.{Lines, by_identity}
 use Rattle.mich_tickets.specs.Sums.{totals_of, minted_of, burnt_of}
@@ -16,6 +16,9 @@ use Rattle.mich_world.specs.Holders.{Holders, total}
 use Rattle.mich_world.specs.Standing.{StandsFor}
 use Rattle.mich_world.specs.World.{World}
 use Rattle.mich_report.specs.Amounts.{Amounts, Purses, amount_in, held_in, held_of_line, minted_of_line, settled}
+use Rattle.mich_base.specs.View.{tree}
+use Rattle.mich_base.specs.declared.memory.Memory.{Memory}
+use Rattle.mich_base.specs.declared.node.Node.{Node}
 
 -- a world stands for a good one in which nothing waits
 pub record IsAtRest (v : World) (w : PlainWorld) : Type 0 where
@@ -57,6 +60,14 @@ ticket_of b e = totals_node (totals_of b e.0) e.0
 -- that of an account
 abbrev pub line_of : List ℕ → ℕ → List (Identity × ℤ) → List ℕ
 line_of who balance holdings = line (account_node (who, record { balance = balance; holdings = holdings }))
+
+-- whatever tickets an account holds, these are their nodes in order
+abbrev pub PrintsHoldings : Purses → List ℕ → Result (List Node) Memory → Type 0
+PrintsHoldings ps who r = (holdings : List (Identity × ℤ)) → AreInOrder holdings → Holds ps who holdings → IfOk r (λ ns. map tree ns ≡ map held_node holdings)
+
+-- and this is its line
+abbrev pub PrintsAccount : Purses → List ℕ → ℕ → Result (List ℕ) Memory → Type 0
+PrintsAccount ps who balance r = (holdings : List (Identity × ℤ)) → AreInOrder holdings → Holds ps who holdings → IfOk r (λ t. t ≡ line_of who balance holdings)
 
 -- those of all accounts
 abbrev pub account_lines : PlainWorld → List (List ℕ)

@@ -2,18 +2,16 @@
 ghost use Rattle.std.specs.List.{AllByRecursion, flat_map};
 ghost use Rattle.std.specs.List.Sorted.{IsStrictlySortedBy};
 ghost use Rattle.std.specs.Map.{keys_of};
-ghost use Rattle.std.specs.Prelude.{◌≡◌, ◌<ℤ◌, ◌≤ℤ◌, ℤ, pos, List, ◌++◌, IfOk, map};
-ghost use Rattle.rules_world.specs.lines.Nodes.{burn_nodes, contract_node, held_node, line, state_nodes};
+ghost use Rattle.std.specs.Prelude.{◌≡◌, ◌<ℤ◌, ◌≤ℤ◌, ℤ, pos, ◌++◌, IfOk, map};
+ghost use Rattle.rules_world.specs.lines.Nodes.{burn_nodes, contract_node, line, state_nodes};
 ghost use Rattle.rules_data.specs.values.Canonical.{canonical};
-ghost use Rattle.rules_data.specs.values.Tickets.{Identity};
 ghost use Rattle.rules_world.specs.world.World.{World as PlainWorld};
-ghost use Rattle.laws_world.specs.lines.Laws.{AreInOrder};
 ghost use Rattle.mich_base.specs.View.{tree};
 ghost use Rattle.mich_bigmap.specs.Standing.{val_in};
 ghost use Rattle.mich_term.specs.TicketView.{identity};
 ghost use Rattle.mich_world.specs.Standing.{plain};
 ghost use Rattle.mich_report.specs.Amounts.{by_print, seen};
-ghost use Rattle.mich_report.specs.State.{AreTotals, GathersOf, Holds, IsAtRest, account_lines, line_of, sum_lines, ticket_of, totals_node};
+ghost use Rattle.mich_report.specs.State.{AreTotals, GathersOf, IsAtRest, account_lines, sum_lines, ticket_of, totals_node, PrintsAccount, PrintsHoldings};
 
 use crate::amounts::Amounts;
 use crate::gathering::{Purses, all_minted, held_by_accounts};
@@ -31,7 +29,7 @@ use std::alloc::Global;
 
 // What an account holds.
 fn purse_nodes(alloc: Global, purses: &Purses, who: &KeyHash) -> Result<Nodes, Memory>
-    ensures { (holdings : List (Identity × ℤ)) → AreInOrder holdings → Holds purses.now.entries who.now holdings → IfOk result (λ ns. map tree ns ≡ map held_node holdings) }
+    ensures { PrintsHoldings purses.now.entries who.now result }
 {
     match purses.get(who) {
         Some(purse) => purse.held_nodes(alloc),
@@ -41,7 +39,7 @@ fn purse_nodes(alloc: Global, purses: &Purses, who: &KeyHash) -> Result<Nodes, M
 
 // An account with its balance.
 fn account_line(alloc: Global, who: &KeyHash, balance: u64, purses: &Purses) -> Result<Text, Memory>
-    ensures { (holdings : List (Identity × ℤ)) → AreInOrder holdings → Holds purses.now.entries who.now holdings → IfOk result (λ t. t ≡ line_of who.now balance holdings) }
+    ensures { PrintsAccount purses.now.entries who.now balance result }
 {
     let mut fields = Nodes::new(alloc);
     fields.push(bytes_node(alloc, who.bytes().as_slice())?)?;

@@ -19,6 +19,10 @@ called argument o = record { fee = o.fee; gas = o.gas; action = Call o.amount (p
 abbrev pub given : Tree → Tree → Gift → Content
 given kind content g = record { fee = g.fee; gas = g.gas; action = Give (place_bytes g.issuer) kind content g.amount (place_bytes g.to) g.entry }
 
+-- what an origination with these fields, a script and a storage is
+abbrev pub origin_with : List Node → Tree → Tree → Option Content
+origin_with front script storage = content_by (codes "Originate") (nodes_of (trees front) ++ script ∷ storage ∷ [])
+
 -- what a call and a gift with these fields are
 abbrev pub call_with : (fee gas amount to entry : Node) → Tree → Option Content
 call_with fee gas amount to entry argument =

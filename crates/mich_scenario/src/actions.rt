@@ -4,7 +4,7 @@ ghost use Rattle.rules_text.specs.nodes.Tree.{Tree};
 ghost use Rattle.rules_files.specs.statements.Statements.{content_by, nodes_of};
 ghost use Rattle.mich_base.specs.View.{tree, trees};
 ghost use Rattle.mich_ops.specs.View.{content};
-ghost use Rattle.mich_scenario.specs.Fronts.{call_with, called, gift_with, given, originated, IsGift};
+ghost use Rattle.mich_scenario.specs.Fronts.{call_with, called, gift_with, given, originated, IsGift, origin_with};
 
 use crate::counted::{eight, five};
 use crate::fields::{contract_place, entrypoint, gas, number, place, ticket_amount};
@@ -44,7 +44,7 @@ pub(crate) struct Gift {
 // fee gas balance
 #[tactic(auto, using(crate::proofs::Counts::origin_fields))]
 fn read_origin(front: &Rows<Node>) -> Option<Origin>
-    ensures { (script storage : Tree) → option_map (originated script storage) result ≡ content_by (codes "Originate") (nodes_of (trees front.now) ++ script ∷ storage ∷ []) }
+    ensures { (script storage : Tree) → option_map (originated script storage) result ≡ origin_with front.now script storage }
 {
     let Some((fee, limit, balance)) = front.three() else {
         return None;

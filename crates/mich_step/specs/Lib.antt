@@ -1,3 +1,4 @@
+pub mod Burners
 pub mod Ends
 pub mod Parts
 pub mod Rule

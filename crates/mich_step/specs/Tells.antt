@@ -1,11 +1,15 @@
 -- How instructions that may change what a ledger tells end.
 use Rattle.std.specs.Prelude.{◌≡◌, ℤ, unsigned_abs, List, [], ◌∷◌, Option, Some, None, option_map, Result, Ok, Err}
 use Rattle.rules_data.specs.values.Val.{Val}
-use Rattle.rules_code.specs.instructions.Straight.{TicketRow}
+use Rattle.rules_data.specs.values.Tickets.{Identity}
+use Rattle.rules_code.specs.instructions.Straight.{Straight, TicketRow}
+use Rattle.rules_code.specs.instructions.Straight as i
 use Rattle.rules_code.specs.steps.Changes.{Change, burnt}
+use Rattle.rules_code.specs.steps.Environment.{Environment}
 use Rattle.rules_code.specs.steps.Step.{Step, done, fails, wrong, optional}
 use Rattle.rules_code.specs.steps.TicketSteps.{as_value, ticket_step, ticket_step_of}
 use Rattle.mich_base.specs.TypeView.{kind}
+use Rattle.mich_base.specs.declared.ty.Ty.{Ty}
 use Rattle.mich_forms.specs.Spelled.{place_bytes}
 use Rattle.mich_term.specs.TicketView.{held}
 use Rattle.mich_term.specs.View.{datum}
@@ -18,6 +22,7 @@ use Rattle.mich_term.specs.declared.value.Value.{Value}
 use Rattle.mich_stack.specs.declared.error.StepError.{StepError}
 use Rattle.mich_stack.specs.declared.error.StepError.TheVariants.{Failed, Memory}
 use Rattle.mich_stack.specs.Views.{Sight, values, failure}
+use Rattle.mich_step.specs.Rule.{rule}
 use Rattle.mich_step.specs.Shown.{ShowsTickets}
 use Rattle.mich_step.specs.Views.{environment}
 use Rattle.mich_step.specs.declared.environment.Env.{Env}
@@ -49,6 +54,22 @@ TellsShown step vs old new = (big : Sight) → ShowsTickets big vs → Tells (ch
 -- the rule of an instruction on tickets, where and for whom the code runs, and what was ever minted
 abbrev pub ticket_rule : Env → Books → TicketRow → List Val → Step
 ticket_rule e b row = ticket_step (environment e) (minted_of b) row
+
+-- the rule by which tickets with contents of this type are made
+abbrev pub new_ticket_rule : Env → Books → Ty → List Val → Step
+new_ticket_rule e b ty = ticket_rule e b (i.ticket (kind ty))
+
+-- the rule of an instruction without bodies, where and for whom the code runs, and what was ever minted
+abbrev pub simple_rule : Env → Books → Straight → List Val → Step
+simple_rule e b s = rule (environment e) (minted_of b) s
+
+-- an instruction on tickets ends by its rule, wherever its code runs and whatever was ever minted
+abbrev pub StepsAnywhere : TicketRow → List Value → List Value → Result (Unit {0}) StepError → Type 0
+StepsAnywhere row old new r = (e : Environment) (total : Identity → ℤ) → Steps (ticket_step e total row) old new r
+
+-- a ledger tells what its rule makes and discards, wherever its code runs and whatever was ever minted
+abbrev pub TellsAnywhere : TicketRow → List Value → State → State → Type 0
+TellsAnywhere row vs old new = (e : Environment) (total : Identity → ℤ) → TellsStep (ticket_step e total row) vs old new
 
 -- the rule by which so many tickets are minted, where so many ever were
 abbrev pub mint_rule : TicketId → ℤ → Books → List Val → Step

@@ -7,9 +7,8 @@ ghost use Rattle.mich_overload.specs.View.{straight};
 ghost use Rattle.mich_stack.specs.Views.{plain};
 ghost use Rattle.mich_stack.specs.Ends.{Fits, Keeps};
 ghost use Rattle.mich_tickets.specs.Limits.{IsReady};
-ghost use Rattle.mich_tickets.specs.Sums.{minted_of};
 ghost use Rattle.mich_step.specs.Rule.{IsQuiet, Suits, rule};
-ghost use Rattle.mich_step.specs.Tells.{Steps, TellsShown};
+ghost use Rattle.mich_step.specs.Tells.{Steps, TellsShown, simple_rule};
 ghost use Rattle.mich_step.specs.Views.{environment};
 
 use crate::burning::{collections, order, pairs};
@@ -59,11 +58,11 @@ pub fn step(
     env: &Env,
 ) -> Result<(), StepError>
     requires in_step { in_step (straight instr.now) ≡ true }
-    requires fits { Fits (rule (environment env.now) (minted_of ledger.old.books.present) (straight instr.now)) stack.old }
+    requires fits { Fits (simple_rule env.now ledger.old.books.present (straight instr.now)) stack.old }
     requires suits { Suits (straight instr.now) (plain stack.old) }
     requires ready { IsReady ledger.old.books.present (flat_map tickets (plain stack.old)) }
-    ensures ends { Steps (rule (environment env.entry.now) (minted_of ledger.old.books.present) (straight instr.now)) stack.old stack.new result }
-    ensures tells { IfOk result (λ _. TellsShown (rule (environment env.entry.now) (minted_of ledger.old.books.present) (straight instr.now)) stack.old ledger.old ledger.new) }
+    ensures ends { Steps (simple_rule env.entry.now ledger.old.books.present (straight instr.now)) stack.old stack.new result }
+    ensures tells { IfOk result (λ _. TellsShown (simple_rule env.entry.now ledger.old.books.present (straight instr.now)) stack.old ledger.old ledger.new) }
     ensures keeps { KeepsBooks ledger.old.books ledger.new.books }
 {
     match instr {

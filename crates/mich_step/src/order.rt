@@ -1,13 +1,14 @@
 // The order of the stack.
-ghost use Rattle.std.specs.Prelude.{◌≡◌, ◌≤◌, ◌-◌, ◌<◌, [], ◌∷◌, ◌++◌, List, length, take, drop, remove, insert, IfOk, flat_map};
+ghost use Rattle.std.specs.Prelude.{◌≡◌, ◌≤◌, ◌-◌, ◌<◌, [], ◌∷◌, ◌++◌, length, take, drop, remove, insert, IfOk, flat_map};
 ghost use Rattle.rules_code.specs.instructions.Straight as i;
-ghost use Rattle.rules_data.specs.values.Tickets.{Held, tickets};
+ghost use Rattle.rules_data.specs.values.Tickets.{tickets};
 ghost use Rattle.mich_term.specs.ValueView.{val};
 ghost use Rattle.mich_stack.specs.Views.{Sight, seen, values, plain};
 ghost use Rattle.rules_code.specs.steps.Stack.{stack_step};
 ghost use Rattle.mich_base.specs.TypeView.{kind};
 ghost use Rattle.mich_overload.specs.View.{stack_row};
 ghost use Rattle.mich_stack.specs.Ends.{Fits, Keeps, Ends, gone};
+ghost use Rattle.mich_step.specs.Burners.{StaysReady};
 ghost use Rattle.mich_step.specs.Ends.{SuitsStack};
 
 use mich_base::{Memory, Rows, Ty};
@@ -28,7 +29,7 @@ fn drop_values<B: Burner>(
     requires ready { B.ready burner.old (flat_map tickets (take count (plain stack.old))) }
     ensures rest { IfOk result (λ _. (big : Sight) → values big stack.new ≡ drop count (values big stack.old)) }
     ensures tells { IfOk result (λ _. B.told burner.new ≡ B.told burner.old ++ flat_map tickets (take count (plain stack.old))) }
-    ensures stays_ready { IfOk result (λ _. (l : List Held) → B.ready burner.old (flat_map tickets (take count (plain stack.old)) ++ l) → B.ready burner.new l) }
+    ensures stays_ready { IfOk result (λ _. StaysReady B.ready burner.old burner.new (flat_map tickets (take count (plain stack.old)))) }
 {
     let Some(others) = count.checked_sub(1) else {
         return Ok(());
@@ -129,7 +130,7 @@ fn drop_count<B: Burner>(
     requires ready { B.ready burner.old (gone (stack_step (i.drop count) (plain stack.old))) }
     ensures ends { Ends (stack_step (i.drop count)) stack.old stack.new result }
     ensures tells { IfOk result (λ _. B.told burner.new ≡ B.told burner.old ++ gone (stack_step (i.drop count) (plain stack.old))) }
-    ensures stays_ready { IfOk result (λ _. (l : List Held) → B.ready burner.old (gone (stack_step (i.drop count) (plain stack.old)) ++ l) → B.ready burner.new l) }
+    ensures stays_ready { IfOk result (λ _. StaysReady B.ready burner.old burner.new (gone (stack_step (i.drop count) (plain stack.old)))) }
 {
     drop_values(alloc, count, stack, burner)?;
     Ok(())
@@ -148,7 +149,7 @@ pub fn stack_step<B: Burner>(
     requires ready { B.ready burner.old (gone (stack_step (stack_row row.now) (plain stack.old))) }
     ensures ends { Ends (stack_step (stack_row row.now)) stack.old stack.new result }
     ensures tells { IfOk result (λ _. B.told burner.new ≡ B.told burner.old ++ gone (stack_step (stack_row row.now) (plain stack.old))) }
-    ensures stays_ready { IfOk result (λ _. (l : List Held) → B.ready burner.old (gone (stack_step (stack_row row.now) (plain stack.old)) ++ l) → B.ready burner.new l) }
+    ensures stays_ready { IfOk result (λ _. StaysReady B.ready burner.old burner.new (gone (stack_step (stack_row row.now) (plain stack.old)))) }
 {
     match row {
         StackRow::Drop(count) => drop_count(alloc, *count, stack, burner),

@@ -1,14 +1,15 @@
 // Pairs, and combs of pairs.
-ghost use Rattle.std.specs.Prelude.{◌≡◌, ◌∷◌, ◌++◌, List, drop, IfOk, Some, is_some, true, option_map};
+ghost use Rattle.std.specs.Prelude.{◌≡◌, ◌∷◌, ◌++◌, drop, IfOk, Some, is_some, true};
 ghost use Rattle.rules_code.specs.instructions.Straight as i;
-ghost use Rattle.rules_data.specs.values.Tickets.{Held, tickets};
+ghost use Rattle.rules_data.specs.values.Tickets.{tickets};
 ghost use Rattle.rules_data.specs.values.Val.{both};
 ghost use Rattle.rules_code.specs.steps.Stack.{comb, pair_step, part_at, parts, replaced};
 ghost use Rattle.mich_overload.specs.View.{pair_row};
 ghost use Rattle.mich_stack.specs.Views.{Sight, seen, values, plain};
 ghost use Rattle.mich_stack.specs.Ends.{Fits, Keeps, Ends, gone};
 ghost use Rattle.mich_stack.specs.Given.{Gives};
-ghost use Rattle.mich_step.specs.Parts.{IsPair, IsPart, IsReplaced};
+ghost use Rattle.mich_step.specs.Burners.{StaysReady};
+ghost use Rattle.mich_step.specs.Parts.{ArePartsOnTop, IsPair, IsPart, IsReplaced};
 
 use mich_base::{Link, Memory, Rows};
 use mich_overload::PairRow;
@@ -54,7 +55,7 @@ fn pair(alloc: Global, count: u32, stack: &mut Rows<Value>) -> Result<(), StepEr
 // Puts the parts of a comb on the stack, its first so many and the rest of it.
 fn put_parts(comb: Value, others: u32, stack: &mut Rows<Value>) -> Result<(), Memory>
     requires { (big : Sight) × (is_some (parts others (seen big comb)) ≡ true) }
-    ensures { IfOk result (λ _. (big : Sight) → option_map (λ vs. vs ++ values big stack.old) (parts others (seen big comb)) ≡ Some (values big stack.new)) }
+    ensures { IfOk result (λ _. ArePartsOnTop others comb stack.old stack.new) }
 {
     let Some(further) = others.checked_sub(1) else {
         return push(stack, comb);
@@ -209,7 +210,7 @@ pub fn pair_step<B: Burner>(
     requires ready { B.ready burner.old (gone (pair_step (pair_row row.now) (plain stack.old))) }
     ensures ends { Ends (pair_step (pair_row row.now)) stack.old stack.new result }
     ensures tells { IfOk result (λ _. B.told burner.new ≡ B.told burner.old ++ gone (pair_step (pair_row row.now) (plain stack.old))) }
-    ensures stays_ready { IfOk result (λ _. (l : List Held) → B.ready burner.old (gone (pair_step (pair_row row.now) (plain stack.old)) ++ l) → B.ready burner.new l) }
+    ensures stays_ready { IfOk result (λ _. StaysReady B.ready burner.old burner.new (gone (pair_step (pair_row row.now) (plain stack.old)))) }
 {
     match give_pairs(alloc, row, stack) {
         Ok(given) => {

@@ -1,23 +1,20 @@
 // Tickets.
 ghost use Rattle.std.specs.Prelude.{◌≡◌, ℤ, pos, ◌+ℤ◌, ◌≤ℤ◌, ◌∷◌, List, IfOk, option_map};
 ghost use Rattle.mich_base.specs.undo.History.{Keeps as KeepsBooks};
-ghost use Rattle.rules_data.specs.values.Val.{Val, number, bytes, both};
+ghost use Rattle.rules_data.specs.values.Val.{Val, number, both};
 ghost use Rattle.rules_data.specs.values.Tickets.{Identity};
 ghost use Rattle.rules_code.specs.steps.Environment.{Environment};
 ghost use Rattle.rules_code.specs.instructions.Straight as i;
 ghost use Rattle.rules_code.specs.steps.Step.{optional};
 ghost use Rattle.rules_code.specs.steps.TicketSteps.{as_value, ticket_step};
-ghost use Rattle.mich_base.specs.TypeView.{kind};
-ghost use Rattle.mich_forms.specs.Spelled.{place_bytes};
 ghost use Rattle.mich_overload.specs.View.{ticket_row};
 ghost use Rattle.mich_term.specs.TicketView.{held};
-ghost use Rattle.mich_term.specs.View.{datum};
 ghost use Rattle.mich_stack.specs.Views.{Sight, seen, values, plain};
 ghost use Rattle.mich_stack.specs.Ends.{Fits, Keeps};
 ghost use Rattle.mich_stack.specs.Keys.{IsKeyOnTop};
 ghost use Rattle.mich_tickets.specs.Limits.{IsReady};
-ghost use Rattle.mich_step.specs.Tells.{Steps, TellsStep, IsMinted, mint_rule, ticket_rule};
-ghost use Rattle.mich_step.specs.Parts.{IsNumber, IsTicket, IsAmountsOnTop, IsTicketsOnTop};
+ghost use Rattle.mich_step.specs.Tells.{Steps, StepsAnywhere, TellsStep, TellsAnywhere, IsMinted, mint_rule, new_ticket_rule, ticket_rule};
+ghost use Rattle.mich_step.specs.Parts.{IsNumber, IsTicket, IsAmountsOnTop, IsTicketsOnTop, ticket_parts};
 ghost use Rattle.mich_step.specs.Rule.{SuitsTickets, ticket_stake};
 
 use crate::environment::{Env, place_value};
@@ -75,10 +72,10 @@ fn mint(
     stack: &mut Rows<Value>,
     ledger: &mut Ledger,
 ) -> Result<(), StepError>
-    requires fits { Fits (ticket_rule env.now ledger.old.books.present (i.ticket (kind ty.now))) stack.old }
+    requires fits { Fits (new_ticket_rule env.now ledger.old.books.present ty.now) stack.old }
     requires suits { IsKeyOnTop (plain stack.old) }
-    ensures ends { Steps (ticket_rule env.entry.now ledger.old.books.present (i.ticket (kind ty.now))) stack.old stack.new result }
-    ensures tells { IfOk result (λ _. TellsStep (ticket_rule env.entry.now ledger.old.books.present (i.ticket (kind ty.now))) stack.old ledger.old ledger.new) }
+    ensures ends { Steps (new_ticket_rule env.entry.now ledger.old.books.present ty.now) stack.old stack.new result }
+    ensures tells { IfOk result (λ _. TellsStep (new_ticket_rule env.entry.now ledger.old.books.present ty.now) stack.old ledger.old ledger.new) }
     ensures keeps { KeepsBooks ledger.old.books ledger.new.books }
 {
     let content = take_key(alloc, stack)?;
@@ -109,7 +106,7 @@ fn pair_of(alloc: Global, first: Value, second: Value) -> Result<Value, Memory>
 
 // What a ticket tells: its issuer, its content and its amount.
 fn parts_of(alloc: Global, ticket: &Ticket) -> Result<Value, Memory>
-    ensures { IfOk result (λ v. (big : Sight) → seen big v ≡ both (bytes (place_bytes ticket.now.id.issuer)) (both (datum ticket.now.id.content) (number ticket.now.amount))) }
+    ensures { IfOk result (λ v. (big : Sight) → seen big v ≡ ticket_parts ticket.now) }
 {
     let content = content_value(alloc, &ticket.id.content)?;
     let inner = pair_of(alloc, content, Value::Number(ticket.amount))?;
@@ -174,8 +171,8 @@ fn split_ticket(
 ) -> Result<(), StepError>
     requires fits { (e : Environment) × (total : Identity → ℤ) × Fits (ticket_step e total i.split_ticket) stack.old }
     requires ready { IsReady ledger.old.books.present (ticket_stake i.split_ticket (plain stack.old)) }
-    ensures ends { (e : Environment) (total : Identity → ℤ) → Steps (ticket_step e total i.split_ticket) stack.old stack.new result }
-    ensures tells { IfOk result (λ _. (e : Environment) (total : Identity → ℤ) → TellsStep (ticket_step e total i.split_ticket) stack.old ledger.old ledger.new) }
+    ensures ends { StepsAnywhere i.split_ticket stack.old stack.new result }
+    ensures tells { IfOk result (λ _. TellsAnywhere i.split_ticket stack.old ledger.old ledger.new) }
     ensures keeps { KeepsBooks ledger.old.books ledger.new.books }
 {
     let Some(top) = pop(stack) else {
@@ -221,8 +218,8 @@ fn join_tickets(
     requires fits { (e : Environment) × (total : Identity → ℤ) × Fits (ticket_step e total i.join_tickets) stack.old }
     requires suits { SuitsTickets i.join_tickets (plain stack.old) }
     requires ready { IsReady ledger.old.books.present (ticket_stake i.join_tickets (plain stack.old)) }
-    ensures ends { (e : Environment) (total : Identity → ℤ) → Steps (ticket_step e total i.join_tickets) stack.old stack.new result }
-    ensures tells { IfOk result (λ _. (e : Environment) (total : Identity → ℤ) → TellsStep (ticket_step e total i.join_tickets) stack.old ledger.old ledger.new) }
+    ensures ends { StepsAnywhere i.join_tickets stack.old stack.new result }
+    ensures tells { IfOk result (λ _. TellsAnywhere i.join_tickets stack.old ledger.old ledger.new) }
     ensures keeps { KeepsBooks ledger.old.books ledger.new.books }
 {
     let (first, second) = take_tickets(stack)?;

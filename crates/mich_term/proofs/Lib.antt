@@ -1,3 +1,4 @@
+pub mod Comparable
 pub mod Each
 pub mod Ends
 pub mod Faithful

@@ -1,28 +1,6 @@
--- Whether tickets and big maps are in a value.
+-- Whether tickets are in a value.
 use Rattle.std.specs.Prelude.{Bool, true, false, ◌||◌}
 use Rattle.rules_data.specs.values.Val.{Val, some, left, right, both, list, table, big_table, ticket, Vals, no_val, more_vals, Pairs, no_pair, more_pairs}
-
--- whether a ticket or a big map is
-abbrev mutual
-  pub holds : Val → Bool
-  holds (some v) = holds v
-  holds (left v) = holds v
-  holds (right v) = holds v
-  holds (both v w) = holds v || holds w
-  holds (list vs) = any_holds vs
-  holds (table ps) = any_entry_holds ps
-  holds (big_table ps) = true
-  holds (ticket issuer kind content amount) = true
-  holds _ = false
-
-  pub any_holds : Vals → Bool
-  any_holds no_val = false
-  any_holds (more_vals v vs) = holds v || any_holds vs
-
-  -- keys hold none
-  pub any_entry_holds : Pairs → Bool
-  any_entry_holds no_pair = false
-  any_entry_holds (more_pairs k v ps) = holds v || any_entry_holds ps
 
 -- whether a ticket is
 abbrev mutual

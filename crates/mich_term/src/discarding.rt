@@ -103,7 +103,7 @@ fn discard_big<B: Burner>(alloc: Global, big: BigMap, burner: &mut B) -> Result<
     ensures tells { IfOk result (λ _. B.told burner.new ≡ B.told burner.old ++ pair_tickets (big_pairs big)) }
     ensures stays_ready { IfOk result (λ _. (l : List Held) → B.ready burner.old (pair_tickets (big_pairs big) ++ l) → B.ready burner.new l) }
 {
-    for (key, change) in big.overlay.into_vec() {
+    for (key, change) in big.overlay.into_entries() {
         drop(key);
         let Some(value) = change else {
             continue;

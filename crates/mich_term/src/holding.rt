@@ -1,52 +1,28 @@
-// Tickets and big maps in values.
-ghost use Rattle.std.specs.Prelude.{◌≡◌};
+// Tickets in values.
+ghost use Rattle.std.specs.Prelude.{◌≡◌, false, IsTrue};
 ghost use Rattle.mich_term.specs.ValueView.{big_pairs, pairs, val, vals};
-ghost use Rattle.mich_term.specs.Holding.{any_carries, any_entry_carries, any_entry_holds, any_holds, carries, holds};
+ghost use Rattle.mich_term.specs.Holding.{any_carries, any_entry_carries, carries};
 
 use crate::chain::Chain;
 use crate::table::Table;
 use crate::value::{BigMap, Value};
 
-/// Whether a ticket or a big map is in a value. Takes no memory.
-#[tactic(auto, using(crate::proofs::Overlays::table_is))]
-#[cycle(holding)]
-pub fn holds(value: &Value) -> bool
-    ensures { result ≡ holds (val value.now) }
+// Whether a value has no parts and is no ticket.
+fn is_plain(value: &Value) -> bool
+    ensures { IsTrue result → carries (val value.now) ≡ false }
 {
-    match value {
-        Value::Some(x) | Value::Left(x) | Value::Right(x) => holds(x.get()),
-        Value::Pair(x, y) => holds(x.get()) || holds(y.get()),
-        Value::List(xs) => list_holds(xs.get()),
-        Value::Map(entries) => table_holds(entries.get()),
-        Value::BigMap(_) | Value::Ticket(_) => true,
-        _ => false,
-    }
-}
-
-#[cycle(holding)]
-fn list_holds(values: &Chain<Value>) -> bool
-    ensures { result ≡ any_holds (vals values.now) }
-{
-    let mut found = false;
-    for value in values.as_reversed_slice() {
-        let more = holds(value);
-        found = more || found;
-    }
-    found
-}
-
-#[tactic(auto, using(crate::proofs::Held::or_next))]
-#[cycle(holding)]
-fn table_holds(table: &Table<Value>) -> bool
-    ensures { result ≡ any_entry_holds (pairs table.now) }
-{
-    let mut found = false;
-    for (key, value) in table.iter() {
-        let _key = key;
-        let more = holds(value);
-        found = found || more;
-    }
-    found
+    matches!(
+        value,
+        Value::Unit
+            | Value::Bool(_)
+            | Value::Number(_)
+            | Value::Text(_)
+            | Value::Bytes(_)
+            | Value::None
+            | Value::Set(_)
+            | Value::Lambda(_, _)
+            | Value::Operation(_)
+    )
 }
 
 /// Whether a ticket is in a value. Takes no memory.
@@ -57,7 +33,11 @@ pub fn carries(value: &Value) -> bool
 {
     match value {
         Value::Some(x) | Value::Left(x) | Value::Right(x) => carries(x.get()),
-        Value::Pair(x, y) => carries(x.get()) || carries(y.get()),
+        Value::Pair(x, y) => {
+            let first = x.get();
+            let second = y.get();
+            (!is_plain(first) && carries(first)) || (!is_plain(second) && carries(second))
+        }
         Value::List(xs) => list_carries(xs.get()),
         Value::Map(entries) => table_carries(entries.get()),
         Value::BigMap(big) => puts_ticket(big.get()),
@@ -72,7 +52,7 @@ fn list_carries(values: &Chain<Value>) -> bool
 {
     let mut found = false;
     for value in values.as_reversed_slice() {
-        let more = carries(value);
+        let more = !is_plain(value) && carries(value);
         found = more || found;
     }
     found
@@ -86,7 +66,7 @@ fn table_carries(table: &Table<Value>) -> bool
     let mut found = false;
     for (key, value) in table.iter() {
         let _key = key;
-        let more = carries(value);
+        let more = !is_plain(value) && carries(value);
         found = found || more;
     }
     found
@@ -99,10 +79,10 @@ pub fn puts_ticket(big: &BigMap) -> bool
     ensures { result ≡ any_entry_carries (big_pairs big.now) }
 {
     let mut found = false;
-    for (key, change) in big.overlay.as_slice() {
+    for (key, change) in big.overlay.iter() {
         let _key = key;
         if let Some(value) = change {
-            let more = carries(value);
+            let more = !is_plain(value) && carries(value);
             found = found || more;
         }
     }

@@ -25,7 +25,7 @@ pub use comparing::compare_values;
 pub use datum::{Datum, compare, copy_datum};
 pub use discarding::discard;
 pub use elements::Elements;
-pub use holding::{carries, holds, puts_ticket};
+pub use holding::{carries, puts_ticket};
 pub use laws::{equal_order_means_equal, order_is_lawful};
 pub use same::{same_datum, same_id};
 pub use table::Table;

@@ -8,7 +8,7 @@ use crate::datum::{Datum, copy_datum};
 use crate::elements::Elements;
 use crate::table::Table;
 use crate::ticket::Ticket;
-use mich_base::{Bytes, Link, Memory, Node, Rows, Share, Shared, Text};
+use mich_base::{Bytes, Link, Memory, Node, Share, Shared, Text};
 use std::alloc::Global;
 
 /// A value that scripts work on (Michelson reference, "Types").
@@ -46,7 +46,7 @@ pub struct BigMap {
     /// The number of its base. None where it has none.
     pub base: Option<u64>,
     /// What was put at a key, or None where the base's entry was taken away.
-    pub overlay: Rows<(Datum, Option<Value>)>,
+    pub overlay: Table<Option<Value>>,
 }
 
 /// An equal value, its tickets too, in constant time: the one call that copies tickets. Memory where there is no room for it.
@@ -119,18 +119,36 @@ fn shadow_table(alloc: Global, table: &Table<Value>) -> Result<Table<Value>, Mem
     Ok(copies)
 }
 
+// An equal change.
+fn shadow_change(alloc: Global, change: &Option<Value>) -> Result<Option<Value>, Memory>
+    ensures { IfOk result (λ c. c ≡ change.now) }
+{
+    match change {
+        Some(value) => Ok(Some(shadow(alloc, value)?)),
+        None => Ok(None),
+    }
+}
+
+#[tactic(auto, using(crate::proofs::Ends::table_step))]
+fn shadow_changes(
+    alloc: Global,
+    changes: &Table<Option<Value>>,
+) -> Result<Table<Option<Value>>, Memory>
+    ensures { IfOk result (λ t. t ≡ changes.now) }
+{
+    let mut copies = Table::new(alloc);
+    for (key, change) in changes.iter() {
+        let new_key = copy_datum(alloc, key)?;
+        let new_change = shadow_change(alloc, change)?;
+        copies.insert(new_key, new_change)?;
+    }
+    Ok(copies)
+}
+
 fn shadow_big(alloc: Global, big: &BigMap) -> Result<BigMap, Memory>
     ensures { IfOk result (λ b. b ≡ big.now) }
 {
-    let mut overlay = Rows::new(alloc);
-    for (key, change) in big.overlay.as_slice() {
-        let new_key = copy_datum(alloc, key)?;
-        let new_change = match change {
-            Some(value) => Some(shadow(alloc, value)?),
-            None => None,
-        };
-        overlay.push((new_key, new_change))?;
-    }
+    let overlay = shadow_changes(alloc, &big.overlay)?;
     Ok(BigMap {
         base: big.base,
         overlay,

@@ -1,7 +1,8 @@
 -- Tickets that come in the place of others.
-use Rattle.std.proofs.Common.{◌≡◌, ℕ, ℤ, List, Some, refl, sym, ap, ◌∙◌, subst}
+use Rattle.std.proofs.Common.{◌≡◌, ℕ, ℤ, Bool, true, false, List, [], Some, refl, sym, ap, ◌∙◌, subst, arith}
 use Rattle.std.specs.Prelude.{pos, neg_ℤ, ◌+ℤ◌, ◌≤ℤ◌, if◌then◌else◌}
 use Rattle.std.specs.Str.{bytes_eq}
+use Rattle.std.proofs.lemmas.Int.{ints}
 use Rattle.std.proofs.lemmas.Slice.Eq.{bytes_eq-Decides}
 use Rattle.std.specs.declared.option.Option.{Option}
 use Rattle.rules_data.specs.values.Tickets.{Identity, Held, tickets}
@@ -42,3 +43,22 @@ pub replaces_stored : (owner : List ℕ) (b between new : Books) (o : Option Con
     → Leaves owner (tickets (val c.storage)) b between → Enters owner after between new → Replaces owner (stored_tickets o) after b new
 replaces_stored owner b between new o c after e l n =
     record { between = between; left = subst (λ (x : Option Contract). Leaves owner (stored_tickets x) b between) e l; entered = n }
+
+-- ---- no tickets in the place of none
+
+no_more : (c : Bool) (x : ℤ) → x ≡ x +ℤ (if c then pos 0 else pos 0)
+no_more true x = omega (arith, ints)
+no_more false x = omega (arith, ints)
+
+none_left : (owner : List ℕ) (b : Books) → Leaves owner [] b b
+none_left owner b = record { held = λ j o. no_more (bytes_eq o owner) (held_of b j o); totals = λ j. refl; listed = refl }
+
+none_entered : (owner : List ℕ) (b : Books) → Enters owner [] b b
+none_entered owner b = record { held = λ j o. no_more (bytes_eq o owner) (held_of b j o); totals = λ j. refl; listed = refl }
+
+pub replaces_none : (owner : List ℕ) (b : Books) (before after : List Held) → before ≡ [] → after ≡ [] → Replaces owner before after b b
+replaces_none owner b before after p q = record {
+  between = b;
+  left = subst (λ (ts : List Held). Leaves owner ts b b) (sym p) (none_left owner b);
+  entered = subst (λ (ts : List Held). Enters owner ts b b) (sym q) (none_entered owner b);
+}

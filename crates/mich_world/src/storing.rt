@@ -1,5 +1,5 @@
 // Contracts that are made, and storages that are kept.
-ghost use Rattle.std.specs.Prelude.{◌≡◌, ◌≤◌, true, false, is_some, IfOk, OnErr, OnOk};
+ghost use Rattle.std.specs.Prelude.{◌≡◌, ◌≤◌, true, false, [], is_some, IfOk, OnErr, OnOk};
 ghost use Rattle.rules_data.specs.values.Tickets.{tickets};
 ghost use Rattle.mich_term.specs.Layers.{AreFormed};
 ghost use Rattle.mich_bigmap.specs.Layers.{HasBases};
@@ -136,6 +136,61 @@ impl World {
     {
         let mark = self.mark();
         if self.put_storage(alloc, hash, storage).is_err() {
+            self.undo_to(mark);
+            return Err(Memory);
+        }
+        Ok(())
+    }
+
+    #[tactic(auto, using(mich_base::proofs::undo_lemmas::ForCallers::keeps_same, crate::proofs::Marks::keeps_parts, crate::proofs::Replacing::replaces_none))]
+    // A contract has a new storage, and neither it nor the one before holds tickets. After Memory the world has only writes that can be
+    // taken back.
+    fn put_plain(&mut self, alloc: Global, hash: &[u8; 20], storage: Value) -> Result<(), Memory>
+        requires there { is_some (contract_at self.old.funds.present hash.now) ≡ true }
+        requires before { stored_tickets (contract_at self.old.funds.present hash.now) ≡ [] }
+        requires after { tickets (val storage) ≡ [] }
+        requires formed { AreFormed storage }
+        requires based { HasBases self.old.store.bases.present storage }
+        ensures commits { IfOk result (λ _. Commits hash.now storage self.old self.new) }
+        ensures supply { OnOk result (total self.new.funds.present ≡ total self.old.funds.present) }
+        ensures keeps { KeepsWorld self.old self.new }
+    {
+        let Some(contract) = self.funds.contract(hash) else {
+            unreachable!();
+        };
+        let storage = settle_all(
+            alloc,
+            &mut self.store,
+            storage,
+            &contract.script.get().storage,
+        )?;
+        self.funds.commit(hash, storage)?;
+        Ok(())
+    }
+
+    #[tactic(auto, using(crate::proofs::Marks::undone_is, crate::proofs::Marks::undone_good, crate::proofs::Marks::same_keeps, crate::proofs::Marks::same_total, crate::proofs::Stored::stored_same, crate::proofs::Stored::stored_committed))]
+    /// Gives a contract that is there a new storage, where neither it nor the storage before holds tickets. It does as `commit` does, and
+    /// doesn't look through the storages for tickets. After Memory the world is unchanged, but for the ledger's list of changes (Octez
+    /// "Operations", transactions).
+    pub fn commit_plain(
+        &mut self,
+        alloc: Global,
+        hash: &[u8; 20],
+        storage: Value,
+    ) -> Result<(), Memory>
+        requires there { is_some (contract_at self.old.funds.present hash.now) ≡ true }
+        requires before { stored_tickets (contract_at self.old.funds.present hash.now) ≡ [] }
+        requires after { tickets (val storage) ≡ [] }
+        requires formed { AreFormed storage }
+        requires based { HasBases self.old.store.bases.present storage }
+        ensures commits { IfOk result (λ _. Commits hash.now storage self.old self.new) }
+        ensures unchanged { OnErr result (IsSame self.old self.new) }
+        ensures supply { total self.new.funds.present ≡ total self.old.funds.present }
+        ensures stored { AreStored self.old → AreStored self.new }
+        ensures keeps { KeepsWorld self.old self.new }
+    {
+        let mark = self.mark();
+        if self.put_plain(alloc, hash, storage).is_err() {
             self.undo_to(mark);
             return Err(Memory);
         }

@@ -1,4 +1,5 @@
 pub mod workload
 pub mod statements
 pub mod course
+pub mod snapshots
 pub mod commands

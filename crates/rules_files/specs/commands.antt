@@ -8,5 +8,7 @@ pub mod Scripts
 pub mod Packs
 pub mod Certificates
 pub mod Audits
+pub mod Snapshots
+pub mod Resuming
 pub mod Commands
 pub mod Promise

@@ -5,7 +5,7 @@ ghost use Rattle.mich_term.specs.TicketView.{held};
 
 use mich_base::{Memory, Rows, Ty};
 use mich_forms::Place;
-use mich_term::{BigMap, Burner, Datum, Ticket, TicketId};
+use mich_term::{BigMap, Burner, Datum, Table, Ticket, TicketId};
 use std::alloc::Global;
 
 // Keeps all that is burnt.
@@ -31,7 +31,7 @@ pub(crate) fn empty(alloc: Global) -> BigMap
 {
     BigMap {
         base: None,
-        overlay: Rows::new(alloc),
+        overlay: Table::new(alloc),
     }
 }
 

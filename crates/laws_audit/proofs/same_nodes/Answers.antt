@@ -1,4 +1,4 @@
-use Rattle.laws_audit.proofs.Same.{trees_decided, identities_decided}
+use Rattle.mich_audit.proofs.Same.{trees_decided, identities_decided}
 use Rattle.laws_audit.proofs.same_nodes.Goals as goal
 
 pub returns : goal.returns

@@ -36,7 +36,7 @@ list_fits : (w : Known) (b : Kind) (ys : List Val) → Each w b ys → AllHave (
 list_fits w b [] h = tt
 list_fits w b (y ∷ ys) h = (h.0, list_fits w b ys h.1)
 
-list_amount : (id : Identity) (ys : List Val) → amount_among id (all_tickets (list_of ys)) ≡ amount_on id ys
+pub list_amount : (id : Identity) (ys : List Val) → amount_among id (all_tickets (list_of ys)) ≡ amount_on id ys
 list_amount id [] = refl
 list_amount id (y ∷ ys) = let h : amount_among id (all_tickets (list_of ys)) ≡ amount_on id ys = list_amount id ys in
     omega (arith, ints, among_append id (tickets y) (all_tickets (list_of ys)))
@@ -47,12 +47,12 @@ values_fit w a b c no_pair ys h i = tt
 values_fit w a b c (more_pairs x y es) [] h i = tt
 values_fit w a b c (more_pairs x y es) (z ∷ zs) h i = (h.0, i.0, values_fit w a b c es zs h.2 i.1)
 
-values_above : (x : Val) (es : Pairs) (ys : List Val) → AreKeysAbove x es → AreKeysAbove x (with_values es ys)
+pub values_above : (x : Val) (es : Pairs) (ys : List Val) → AreKeysAbove x es → AreKeysAbove x (with_values es ys)
 values_above x no_pair ys h = tt
 values_above x (more_pairs j y es) [] h = tt
 values_above x (more_pairs j y es) (z ∷ zs) h = (h.0, values_above x es zs h.1)
 
-values_increase : (es : Pairs) (ys : List Val) → AreIncreasingKeys es → AreIncreasingKeys (with_values es ys)
+pub values_increase : (es : Pairs) (ys : List Val) → AreIncreasingKeys es → AreIncreasingKeys (with_values es ys)
 values_increase no_pair ys h = tt
 values_increase (more_pairs x y es) [] h = tt
 values_increase (more_pairs x y es) (z ∷ zs) h = (values_above x es zs h.0, values_increase es zs h.1)

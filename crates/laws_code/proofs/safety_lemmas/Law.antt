@@ -49,8 +49,8 @@ pub never_stuck_from : PartsAreSafe → NeverStuck
 never_stuck_from p t e d A V m small s = kept e m V (tree_type t e.context A) (eval t e d A V m)
     (safe_eval p t small e d A V m s.good (sound e m A V s))
 
-parts : PartsAreSafe
-parts = record {
+pub parts_are_safe : PartsAreSafe
+parts_are_safe = record {
   rows = λ q sq name annots ts. rows_keep decoded_are_small views_keep q sq name annots ts;
   pushes = pushes;
   lambdas = lambdas;
@@ -62,7 +62,7 @@ parts = record {
 }
 
 pub never_stuck : NeverStuck
-never_stuck = never_stuck_from parts
+never_stuck = never_stuck_from parts_are_safe
 
 left_well : (e : Surroundings) (m : Tally) (V : List Val) (t : Typing) (o : Outcome) →
     KeepsFrom (seen e) m.issued m.changes V t o → LeavesWell e m t o
@@ -75,4 +75,4 @@ left_well e m V (bad l) o k = tt
 pub code_leaves_well : CodeLeavesWell
 code_leaves_well t e d A V m small s =
     left_well e m V (tree_type t e.context A) (eval t e d A V m)
-    (safe_eval parts t small e d A V m s.good (sound e m A V s))
+    (safe_eval parts_are_safe t small e d A V m s.good (sound e m A V s))

@@ -55,14 +55,14 @@ packable_duplicable _ h = cc
 
 -- ---- they hold no tickets
 
-nothing_and : (x y : Val) → tickets x ≡ [] → tickets y ≡ [] → tickets (v.both x y) ≡ []
+pub nothing_and : (x y : Val) → tickets x ≡ [] → tickets y ≡ [] → tickets (v.both x y) ≡ []
 nothing_and x y f g = ap (λ ts. ts ++ tickets y) f ∙ g
 
-all_nothing : (P : Val → Type 0) → ((x : Val) → P x → tickets x ≡ []) → (xs : Vals) → AllHave P xs → all_tickets xs ≡ []
+pub all_nothing : (P : Val → Type 0) → ((x : Val) → P x → tickets x ≡ []) → (xs : Vals) → AllHave P xs → all_tickets xs ≡ []
 all_nothing P f no_val h = refl
 all_nothing P f (more_vals x xs) h = ap (λ ts. ts ++ all_tickets xs) (f x h.0) ∙ all_nothing P f xs h.1
 
-pairs_nothing : (P Q : Val → Type 0) → ((x : Val) → Q x → tickets x ≡ []) → (es : Pairs) → AllEntriesHave P Q es →
+pub pairs_nothing : (P Q : Val → Type 0) → ((x : Val) → Q x → tickets x ≡ []) → (es : Pairs) → AllEntriesHave P Q es →
     pair_tickets es ≡ []
 pairs_nothing P Q f no_pair h = refl
 pairs_nothing P Q f (more_pairs x y es) h = ap (λ ts. ts ++ pair_tickets es) (f y h.1) ∙ pairs_nothing P Q f es h.2

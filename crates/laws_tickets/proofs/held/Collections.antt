@@ -15,7 +15,7 @@ use Rattle.rules_code.specs.steps.Changes.{amount_in, amount_among}
 use Rattle.rules_code.specs.evaluation.Items.{elements, entries, list_of, with_values, rebuilt}
 use Rattle.laws_code.specs.evaluation.Laws.{amount_on}
 use Rattle.laws_data.proofs.amounts.ForCallers.{among_append}
-use Rattle.laws_code.proofs.control.ForCallers.{each_element, each_entry}
+use Rattle.laws_code.proofs.control.ForCallers.{each_element, each_entry, list_amount, values_above, values_increase}
 use Rattle.laws_tickets.proofs.held.Values.{of_each, one_kind_positive}
 
 -- ---- what is taken out
@@ -32,26 +32,10 @@ list_fits : (w : Known) (b : Kind) (ys : List Val) → AllByRecursion (Fits w b)
 list_fits w b [] h = tt
 list_fits w b (y ∷ ys) h = (h.0, list_fits w b ys h.1)
 
-list_amount : (id : Identity) (ys : List Val) → amount_among id (all_tickets (list_of ys)) ≡ amount_on id ys
-list_amount id [] = refl
-list_amount id (y ∷ ys) =
-    let h : amount_among id (all_tickets (list_of ys)) ≡ amount_on id ys = list_amount id ys in
-    omega (arith, ints, among_append id (tickets y) (all_tickets (list_of ys)))
-
 values_fit : (w : Known) (a b c : Kind) (es : Pairs) (ys : List Val) → AllEntriesHave (Fits w a) (Fits w b) es → AllByRecursion (Fits w c) ys → AllEntriesHave (Fits w a) (Fits w c) (with_values es ys)
 values_fit w a b c no_pair ys h i = tt
 values_fit w a b c (more_pairs x y es) [] h i = tt
 values_fit w a b c (more_pairs x y es) (z ∷ zs) h i = (h.0, i.0, values_fit w a b c es zs h.2 i.1)
-
-values_above : (x : Val) (es : Pairs) (ys : List Val) → AreKeysAbove x es → AreKeysAbove x (with_values es ys)
-values_above x no_pair ys h = tt
-values_above x (more_pairs j y es) [] h = tt
-values_above x (more_pairs j y es) (z ∷ zs) h = (h.0, values_above x es zs h.1)
-
-values_increase : (es : Pairs) (ys : List Val) → AreIncreasingKeys es → AreIncreasingKeys (with_values es ys)
-values_increase no_pair ys h = tt
-values_increase (more_pairs x y es) [] h = tt
-values_increase (more_pairs x y es) (z ∷ zs) h = (values_above x es zs h.0, values_increase es zs h.1)
 
 values_amount : (id : Identity) (w : Known) (c : Kind) (es : Pairs) (ys : List Val) → AllByRecursion (Fits w c) ys → amount_among id (pair_tickets (with_values es ys)) ≤ℤ amount_on id ys
 values_amount id w c no_pair ys h = one_kind_positive id w c ys h

@@ -22,26 +22,13 @@ use Rattle.laws_code.specs.evaluation.Laws as here
 use Rattle.laws_code.proofs.evaluation_lemmas.ForCallers.{eval_is}
 use Rattle.laws_code.specs.stacks.Sound.{seen, AllTypes, Sound, After, KeepsFrom}
 use Rattle.laws_code.proofs.typed.ForCallers.{Types, contexts}
-use Rattle.laws_code.proofs.control.ForCallers.{tree_types, PartsAreSafe, safe_eval}
-use Rattle.laws_code.proofs.literals.ForCallers.{lambdas, lambda_recs, pushes, applies}
-use Rattle.laws_code.proofs.safety_lemmas.ForCallers.{rows_keep, decoded_are_small, views_keep, selves, creates}
+use Rattle.laws_code.proofs.control.ForCallers.{tree_types, safe_eval}
+use Rattle.laws_code.proofs.safety_lemmas.ForCallers.{parts_are_safe}
 use Rattle.laws_tickets.specs.totals.Agreement.{Agrees, SeesAgreement}
 use Rattle.laws_tickets.specs.totals.Totals as ticket
 use Rattle.laws_tickets.proofs.totals.ForCallers.{on_cons, issued_cons, fitting_agrees, all_fitting_agree, script_is, outline_typed}
 use Rattle.laws_tickets.specs.runs.Laws.{KeepsTotal}
 use Rattle.laws_tickets.proofs.runs_lemmas.ForCallers.{totals}
-
-parts : PartsAreSafe
-parts = record {
-  rows = λ q sq name annots ts. rows_keep decoded_are_small views_keep q sq name annots ts;
-  pushes = pushes;
-  lambdas = lambdas;
-  lambda_recs = lambda_recs;
-  applies = applies;
-  selves = selves;
-  creates = creates;
-  contexts = contexts;
-}
 
 -- ---- amounts in both words
 
@@ -99,13 +86,13 @@ pub node_leaves : (e : Surroundings) (d : ℕ) (t : Tree) (A M B : List Kind) (V
 node_leaves e d t A M B V W m n charged small leads good sound same =
     let whole : eval t e d A V m ≡ stack B W n = eval_is (node t) e charged d A V m ∙ same in
     leaves e m V (tree_type t e.context A) M B W n leads (tree_types t e.context (contexts e good) A sound.types)
-    (subst (KeepsFrom (seen e) m.issued m.changes V (tree_type t e.context A)) whole (safe_eval parts t small e d A V m good sound))
+    (subst (KeepsFrom (seen e) m.issued m.changes V (tree_type t e.context A)) whole (safe_eval parts_are_safe t small e d A V m good sound))
     (subst (KeepsTotal V m) whole (totals t e d A V m (sees e good) (all_fitting_agree (known e.contract_at m.issued) A V (all_well A sound.types) sound.fit)))
 
 pub node_sound : (e : Surroundings) (d : ℕ) (t : Tree) (A M : List Kind) (V : List Val) (m : Tally) → size t < 2 ^ 32 → Leads (tree_type t e.context A) M → IsGood e →
     Sound (seen e) m.issued m.changes A V → eval t e d A V m ≡ stuck → ⊥
 node_sound e d t A M V m small leads good sound same =
-    by (tree_type t e.context A) leads (subst (KeepsFrom (seen e) m.issued m.changes V (tree_type t e.context A)) same (safe_eval parts t small e d A V m good sound))
+    by (tree_type t e.context A) leads (subst (KeepsFrom (seen e) m.issued m.changes V (tree_type t e.context A)) same (safe_eval parts_are_safe t small e d A V m good sound))
   where
     by : (x : Typing) → Leads x M → KeepsFrom (seen e) m.issued m.changes V x stuck → ⊥
     by (goes B) l h = h

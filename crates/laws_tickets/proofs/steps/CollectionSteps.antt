@@ -22,9 +22,10 @@ use Rattle.rules_code.specs.steps.Step.{discarding, kept, optional}
 use Rattle.rules_code.specs.steps.Sets.{has_element, element_count, entry_count}
 use Rattle.rules_code.specs.steps.Collections.{set_with, on_option, updated, exchanged, collection_step}
 use Rattle.laws_tickets.specs.totals.Agreement.{Agrees, AllAgree}
-use Rattle.laws_tickets.proofs.totals.ForCallers.{same_agrees, comparable_duplicable, nothing_in, nothing_compared, IsFine, step_limit, KeepsStep, KeepsChange, keeps_same, keeps_discarding, keeps_wrong, change_where, one_for}
+use Rattle.laws_tickets.proofs.totals.ForCallers.{same_agrees, nothing_in, nothing_compared, IsFine, step_limit, KeepsStep, KeepsChange, keeps_same, keeps_discarding, keeps_wrong, change_where, one_for}
 use Rattle.laws_data.proofs.amounts.ForCallers.{OptionHas, value_has}
 use Rattle.laws_tickets.proofs.steps.MapSteps.{set_with_all, IsMap, Holds, update_keeps, exchange_keeps, same_option, discarded_amount}
+use Rattle.laws_code.proofs.stacks.ForCallers.{comparable_duplicable}
 
 -- ---- all
 

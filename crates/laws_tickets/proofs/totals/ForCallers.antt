@@ -4,7 +4,7 @@ pub use Rattle.laws_tickets.proofs.totals.Amounts.{Balances, balanced_total, bur
 pub use Rattle.laws_tickets.proofs.totals.Arguments.{AllFound, HasAttribute, and_then_both, type_argument_all}
 pub use Rattle.laws_tickets.proofs.totals.Kept.{KeepsChange, KeepsStep, agree_append, agree_drop, agree_get, agree_take, change_map, change_then, change_where, keeps_discarding, keeps_same, keeps_wrong, one_for, step_limit, step_some, step_where}
 pub use Rattle.laws_tickets.proofs.totals.Literals.{AllRead, IsBare, simple_bare}
-pub use Rattle.laws_tickets.proofs.totals.Nothing.{all_fitting_agree, comparable_duplicable, fitting_agrees, nothing_compared, nothing_in, nothing_packed, nothing_pushed}
+pub use Rattle.laws_tickets.proofs.totals.Nothing.{all_fitting_agree, fitting_agrees, nothing_compared, nothing_in, nothing_packed, nothing_pushed}
 pub use Rattle.laws_tickets.proofs.totals.Paths.{EntriesLead, LeadsTo, found_leads, leads_well, wrapped_agrees}
 pub use Rattle.laws_tickets.proofs.totals.Read.{read_agrees}
 pub use Rattle.laws_tickets.proofs.totals.Returned.{issued_cons, returned_amount}

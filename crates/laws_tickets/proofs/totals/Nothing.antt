@@ -2,8 +2,6 @@
 use Rattle.std.proofs.Common.{◌≡◌, List, true, [], ◌∷◌, ◌++◌, refl, ap, ◌∙◌}
 use Rattle.std.specs.List.{AllByRecursion}
 use Rattle.std.proofs.lemmas.Bool.{and_parts, and_from}
-use Rattle.rules_data.specs.declared.types.Simple.{Simple}
-use Rattle.rules_data.specs.declared.types.Simple.TheVariants as s
 use Rattle.rules_data.specs.types.Kind.{Kind}
 use Rattle.rules_data.specs.types.Kind as k
 use Rattle.rules_data.specs.types.Attributes.{comparable, pushable, packable, duplicable}
@@ -14,60 +12,9 @@ use Rattle.rules_data.specs.values.Forms.{has_simple_form, AllHave, AllEntriesHa
 use Rattle.rules_code.specs.typing.Fits.{Known, Fits, AllFit}
 use Rattle.laws_data.specs.types.Laws.{IsWellFormed}
 use Rattle.laws_tickets.specs.totals.Agreement.{Agrees, AllAgree}
+use Rattle.laws_code.proofs.stacks.ForCallers.{all_have, all_nothing, comparable_duplicable, entries_have, nothing_and, packable_duplicable, pairs_nothing, pushable_duplicable, simple_none}
 
--- ---- types whose values can be copied
-
-pub comparable_duplicable : (a : Kind) → comparable a ≡ true → duplicable a ≡ true
-comparable_duplicable (k.simple x) h = refl
-comparable_duplicable (k.option a) h = comparable_duplicable a h
-comparable_duplicable (k.or a b) h =
-    and_from _ _ (comparable_duplicable a (and_parts _ _ h).0) (comparable_duplicable b (and_parts _ _ h).1)
-comparable_duplicable (k.pair a b) h =
-    and_from _ _ (comparable_duplicable a (and_parts _ _ h).0) (comparable_duplicable b (and_parts _ _ h).1)
-comparable_duplicable _ h = cc
-
-pub pushable_duplicable : (a : Kind) → pushable a ≡ true → duplicable a ≡ true
-pushable_duplicable (k.simple x) h = refl
-pushable_duplicable (k.option a) h = pushable_duplicable a h
-pushable_duplicable (k.or a b) h =
-    and_from _ _ (pushable_duplicable a (and_parts _ _ h).0) (pushable_duplicable b (and_parts _ _ h).1)
-pushable_duplicable (k.pair a b) h =
-    and_from _ _ (pushable_duplicable a (and_parts _ _ h).0) (pushable_duplicable b (and_parts _ _ h).1)
-pushable_duplicable (k.list a) h = pushable_duplicable a h
-pushable_duplicable (k.set a) h = pushable_duplicable a h
-pushable_duplicable (k.map a b) h =
-    and_from _ _ (pushable_duplicable a (and_parts _ _ h).0) (pushable_duplicable b (and_parts _ _ h).1)
-pushable_duplicable (k.lambda a b) h = refl
-pushable_duplicable _ h = cc
-
-pub packable_duplicable : (a : Kind) → packable a ≡ true → duplicable a ≡ true
-packable_duplicable (k.simple x) h = refl
-packable_duplicable (k.option a) h = packable_duplicable a h
-packable_duplicable (k.or a b) h =
-    and_from _ _ (packable_duplicable a (and_parts _ _ h).0) (packable_duplicable b (and_parts _ _ h).1)
-packable_duplicable (k.pair a b) h =
-    and_from _ _ (packable_duplicable a (and_parts _ _ h).0) (packable_duplicable b (and_parts _ _ h).1)
-packable_duplicable (k.list a) h = packable_duplicable a h
-packable_duplicable (k.set a) h = packable_duplicable a h
-packable_duplicable (k.map a b) h =
-    and_from _ _ (packable_duplicable a (and_parts _ _ h).0) (packable_duplicable b (and_parts _ _ h).1)
-packable_duplicable (k.lambda a b) h = refl
-packable_duplicable (k.contract a) h = refl
-packable_duplicable _ h = cc
-
--- ---- they hold no tickets
-
-nothing_and : (x y : Val) → tickets x ≡ [] → tickets y ≡ [] → tickets (v.both x y) ≡ []
-nothing_and x y f g = ap (λ ts. ts ++ tickets y) f ∙ g
-
-all_nothing : (P : Val → Type 0) → ((x : Val) → P x → tickets x ≡ []) → (xs : Vals) → AllHave P xs → all_tickets xs ≡ []
-all_nothing P f no_val h = refl
-all_nothing P f (more_vals x xs) h = ap (λ ts. ts ++ all_tickets xs) (f x h.0) ∙ all_nothing P f xs h.1
-
-pairs_nothing : (P Q : Val → Type 0) → ((x : Val) → Q x → tickets x ≡ []) → (es : Pairs) → AllEntriesHave P Q es →
-    pair_tickets es ≡ []
-pairs_nothing P Q f no_pair h = refl
-pairs_nothing P Q f (more_pairs x y es) h = ap (λ ts. ts ++ pair_tickets es) (f y h.1) ∙ pairs_nothing P Q f es h.2
+-- ---- types whose values can be copied hold no tickets
 
 pub nothing_in : (a : Kind) (x : Val) → duplicable a ≡ true → Agrees a x → tickets x ≡ []
 nothing_in (k.simple z) x d h = h
@@ -99,33 +46,8 @@ nothing_packed a x c h = nothing_in a x (packable_duplicable a c) h
 
 -- ---- values that fit
 
-simple_nothing : (z : Simple) (x : Val) → has_simple_form z x ≡ true → tickets x ≡ []
-simple_nothing s.Unit v.unit h = refl
-simple_nothing s.Bool (v.truth b) h = refl
-simple_nothing s.Int (v.number n) h = refl
-simple_nothing s.Timestamp (v.number n) h = refl
-simple_nothing s.Nat (v.number n) h = refl
-simple_nothing s.Mutez (v.number n) h = refl
-simple_nothing s.String (v.text b) h = refl
-simple_nothing s.Bytes (v.bytes b) h = refl
-simple_nothing s.KeyHash (v.bytes b) h = refl
-simple_nothing s.Key (v.bytes b) h = refl
-simple_nothing s.Signature (v.bytes b) h = refl
-simple_nothing s.ChainId (v.bytes b) h = refl
-simple_nothing s.Address (v.bytes b) h = refl
-simple_nothing _ _ h = cc
-
-pub all_have : (P Q : Val → Type 0) → ((x : Val) → P x → Q x) → (xs : Vals) → AllHave P xs → AllHave Q xs
-all_have P Q f no_val h = tt
-all_have P Q f (more_vals x xs) h = (f x h.0, all_have P Q f xs h.1)
-
-pub all_entries_have : (P Q P' Q' : Val → Type 0) → ((x : Val) → P x → P' x) → ((x : Val) → Q x → Q' x) → (es : Pairs) →
-    AllEntriesHave P Q es → AllEntriesHave P' Q' es
-all_entries_have P Q P' Q' f g no_pair h = tt
-all_entries_have P Q P' Q' f g (more_pairs x y es) h = (f x h.0, g y h.1, all_entries_have P Q P' Q' f g es h.2)
-
 pub fitting_agrees : (w : Known) (a : Kind) (x : Val) → IsWellFormed a → Fits w a x → Agrees a x
-fitting_agrees w (k.simple z) x i h = simple_nothing z x h
+fitting_agrees w (k.simple z) x i h = simple_none z x h
 fitting_agrees w k.operation (v.operation n) i h = tt
 fitting_agrees w (k.option a) v.nothing i h = tt
 fitting_agrees w (k.option a) (v.some x) i h = fitting_agrees w a x i h
@@ -136,13 +58,13 @@ fitting_agrees w (k.list a) (v.list xs) i h = all_have (Fits w a) (Agrees a) (λ
 fitting_agrees w (k.set a) (v.set xs) i h = (i.0, all_have (Fits w a) (Agrees a) (λ x g. fitting_agrees w a x i.1 g) xs h.0)
 fitting_agrees w (k.map a b) (v.table es) i h = (
   i.0,
-  all_entries_have (Fits w a) (Fits w b) (Agrees a) (Agrees b) (λ x g. fitting_agrees w a x i.1 g)
+  entries_have (Fits w a) (Fits w b) (Agrees a) (Agrees b) (λ x g. fitting_agrees w a x i.1 g)
       (λ x g. fitting_agrees w b x i.2 g) es h.0,
   h.1,
 )
 fitting_agrees w (k.big_map a b) (v.big_table es) i h = (
   i.0,
-  all_entries_have (Fits w a) (Fits w b) (Agrees a) (Agrees b) (λ x g. fitting_agrees w a x i.2 g)
+  entries_have (Fits w a) (Fits w b) (Agrees a) (Agrees b) (λ x g. fitting_agrees w a x i.2 g)
       (λ x g. fitting_agrees w b x i.3 g) es h.0,
   h.1,
 )

@@ -5,17 +5,15 @@ use Rattle.std.specs.List.{All}
 use Rattle.std.proofs.lemmas.Bool.{and_parts}
 use Rattle.std.proofs.lemmas.Int.{ints}
 use Rattle.std.proofs.lemmas.List.Elements.{All-nil, All-cons, All-head, All-tail, All-append}
-use Rattle.rules_data.specs.declared.types.Simple.{Simple}
-use Rattle.rules_data.specs.declared.types.Simple.TheVariants as s
 use Rattle.rules_data.specs.types.Kind.{Kind}
-use Rattle.rules_data.specs.types.Kind as k
-use Rattle.rules_data.specs.values.Val.{Val, Vals, no_val, more_vals, Pairs, no_pair, more_pairs}
+use Rattle.rules_data.specs.values.Val.{Val}
 use Rattle.rules_data.specs.values.Val as v
-use Rattle.rules_data.specs.values.Tickets.{Identity, Held, tickets, all_tickets, pair_tickets}
-use Rattle.rules_data.specs.values.Forms.{has_simple_form, AllHave, AllEntriesHave, is_ticket_amount}
+use Rattle.rules_data.specs.values.Tickets.{Identity, Held, tickets}
+use Rattle.rules_data.specs.values.Forms.{is_ticket_amount}
 use Rattle.rules_code.specs.typing.Fits.{Known, Fits}
 use Rattle.rules_code.specs.steps.Changes.{Change, minted, burnt, identity_of, is_alike, amount_of, amount_among, amount_in, minted_in, burnt_in}
 use Rattle.rules_world.specs.world.Forms.{IsTicket, IsChange}
+use Rattle.laws_code.proofs.stacks.ForCallers.{tickets_good}
 
 -- ---- sums
 
@@ -81,51 +79,6 @@ minted_positive id (minted t ∷ cs) h = sum_positive (amount_of id t) (minted_i
     (of_positive id t ((All-head IsChange (minted t) cs h).0, (All-head IsChange (minted t) cs h).1)) (minted_positive id cs (All-tail IsChange (minted t) cs h))
 
 -- ---- the tickets in a value that fits
-
-pub simple_none : (u : Simple) (x : Val) → has_simple_form u x ≡ true → tickets x ≡ []
-simple_none s.Unit v.unit h = refl
-simple_none s.Bool (v.truth b) h = refl
-simple_none s.Int (v.number n) h = refl
-simple_none s.Timestamp (v.number n) h = refl
-simple_none s.Nat (v.number n) h = refl
-simple_none s.Mutez (v.number n) h = refl
-simple_none s.String (v.text b) h = refl
-simple_none s.Bytes (v.bytes b) h = refl
-simple_none s.KeyHash (v.bytes b) h = refl
-simple_none s.Key (v.bytes b) h = refl
-simple_none s.Signature (v.bytes b) h = refl
-simple_none s.ChainId (v.bytes b) h = refl
-simple_none s.Address (v.bytes b) h = refl
-simple_none u x h = absurd cc
-
-all_good : (P : Val → Type 0) → ((x : Val) → P x → All IsTicket (tickets x)) → (xs : Vals) → AllHave P xs →
-    All IsTicket (all_tickets xs)
-all_good P f no_val h = All-nil IsTicket
-all_good P f (more_vals x xs) h = All-append IsTicket (tickets x) (all_tickets xs) (f x h.0) (all_good P f xs h.1)
-
-pairs_good : (P Q : Val → Type 0) → ((x : Val) → Q x → All IsTicket (tickets x)) → (es : Pairs) → AllEntriesHave P Q es →
-    All IsTicket (pair_tickets es)
-pairs_good P Q f no_pair h = All-nil IsTicket
-pairs_good P Q f (more_pairs x y es) h = All-append IsTicket (tickets y) (pair_tickets es) (f y h.1) (pairs_good P Q f es h.2)
-
--- have their form
-pub tickets_good : (w : Known) (a : Kind) (x : Val) → Fits w a x → All IsTicket (tickets x)
-tickets_good w (k.simple z) x h = rw (simple_none z x h) (All-nil IsTicket)
-tickets_good w k.operation (v.operation n) h = All-nil IsTicket
-tickets_good w (k.option a) v.nothing h = All-nil IsTicket
-tickets_good w (k.option a) (v.some x) h = tickets_good w a x h
-tickets_good w (k.or a b) (v.left x) h = tickets_good w a x h
-tickets_good w (k.or a b) (v.right x) h = tickets_good w b x h
-tickets_good w (k.pair a b) (v.both x y) h = All-append IsTicket (tickets x) (tickets y) (tickets_good w a x h.0)
-    (tickets_good w b y h.1)
-tickets_good w (k.list a) (v.list xs) h = all_good (Fits w a) (λ x g. tickets_good w a x g) xs h
-tickets_good w (k.set a) (v.set xs) h = All-nil IsTicket
-tickets_good w (k.map a b) (v.table es) h = pairs_good (Fits w a) (Fits w b) (λ x g. tickets_good w b x g) es h.0
-tickets_good w (k.big_map a b) (v.big_table es) h = pairs_good (Fits w a) (Fits w b) (λ x g. tickets_good w b x g) es h.0
-tickets_good w (k.lambda a b) (v.lambda t r) h = All-nil IsTicket
-tickets_good w (k.contract a) (v.bytes b) h = All-nil IsTicket
-tickets_good w (k.ticket a) (v.ticket issuer kind content amount) h = All-cons IsTicket _ [] (h.3, h.2) (All-nil IsTicket)
-tickets_good w _ _ h = absurd h
 
 pub in_positive : (id : Identity) (w : Known) (a : Kind) (x : Val) → Fits w a x → pos 0 ≤ℤ amount_in id x
 in_positive id w a x h = among_positive id (tickets x) (tickets_good w a x h)

@@ -1,5 +1,5 @@
 -- What the proofs of the crates above may cite of this crate.
-pub use Rattle.laws_world.proofs.accounts.Amounts.{among_positive, burnt_append, burnt_positive, in_both, in_positive, minted_append, minted_positive, simple_none, ticket_positive, tickets_good}
+pub use Rattle.laws_world.proofs.accounts.Amounts.{among_positive, burnt_append, burnt_positive, in_both, in_positive, minted_append, minted_positive, ticket_positive}
 pub use Rattle.laws_world.proofs.accounts.Entries.{all_found, all_in, all_insert, lookup_insert, one_in, sorted_insert, sum_insert}
 pub use Rattle.laws_world.proofs.accounts.Environments.{environment_good}
 pub use Rattle.laws_world.proofs.accounts.Holdings.{AreHoldings, credited_held, debited_held, held_positive, with_amount_form}

@@ -8,17 +8,14 @@ use Rattle.std.proofs.lemmas.List.Elements.{All-weaker}
 use Rattle.rules_text.specs.nodes.Tree.{Tree}
 use Rattle.rules_data.specs.forms.Spelling.{default_name, spelled_address, place_of, entrypoint_of, is_implicit}
 use Rattle.rules_data.specs.types.Kind.{Kind}
-use Rattle.rules_data.specs.types.Kind as k
-use Rattle.rules_data.specs.values.Val.{Val, Vals, no_val, more_vals, Pairs, no_pair, more_pairs}
-use Rattle.rules_data.specs.values.Val as v
-use Rattle.rules_data.specs.values.Forms.{AllHave, AllEntriesHave}
-use Rattle.rules_code.specs.typing.Fits.{Known, Fits}
+use Rattle.rules_data.specs.values.Val.{Val}
 use Rattle.rules_code.specs.evaluation.Surroundings.{Contract}
 use Rattle.rules_code.specs.evaluation.Operations.{Operation, transfer, origination, event}
 use Rattle.rules_code.specs.evaluation.Contracts.{Lookup, outline_in, entry_in, hash_in, has_kind, is_taken_by_account, chosen_entrypoint, takes, address_where, contract_named, is_contract_of}
 use Rattle.rules_world.specs.world.World.{World, contract_at}
 use Rattle.rules_world.specs.world.Outcomes.{Waiting, ordered, issued}
 use Rattle.rules_world.specs.world.Good.{known_with, FitsIn, Stores, IsGoodContract, IsGoodOperation, IsGoodWaiting}
+use Rattle.laws_code.proofs.stacks.ForCallers.{fits_grow}
 
 -- each contract is there too, with its script
 abbrev pub Extends : Lookup → Lookup → Type 0
@@ -69,51 +66,11 @@ module _ (l m : Lookup) (more : Extends l m) where
   pub contract_more : (a : Kind) (address : List ℕ) → is_contract_of l a address ≡ true → is_contract_of m a address ≡ true
   contract_more a address h = named_more (place_of address) a (chosen_entrypoint (entrypoint_of address) default_name) h
 
--- ---- values that fit
-
-all_have : (P Q : Val → Type 0) → ((x : Val) → P x → Q x) → (xs : Vals) → AllHave P xs → AllHave Q xs
-all_have P Q f no_val h = tt
-all_have P Q f (more_vals x xs) h = (f x h.0, all_have P Q f xs h.1)
-
-entries_have : (P Q R S : Val → Type 0) → ((x : Val) → P x → R x) → ((x : Val) → Q x → S x) → (es : Pairs) →
-    AllEntriesHave P Q es → AllEntriesHave R S es
-entries_have P Q R S f g no_pair h = tt
-entries_have P Q R S f g (more_pairs x y es) h = (f x h.0, g y h.1, entries_have P Q R S f g es h.2)
-
-pub record Knows (w u : Known) : Type 1 where
-  pub contracts : (b : List ℕ) (a : Kind) → w.is_contract b a → u.is_contract b a
-  pub issued : (n : ℕ) → w.is_issued n → u.is_issued n
-
-pub fits_more : (w u : Known) → Knows w u → (a : Kind) (x : Val) → Fits w a x → Fits u a x
-fits_more w u g (k.simple s) x h = h
-fits_more w u g k.operation (v.operation n) h = g.issued n h
-fits_more w u g (k.option a) v.nothing h = tt
-fits_more w u g (k.option a) (v.some x) h = fits_more w u g a x h
-fits_more w u g (k.or a b) (v.left x) h = fits_more w u g a x h
-fits_more w u g (k.or a b) (v.right x) h = fits_more w u g b x h
-fits_more w u g (k.pair a b) (v.both x y) h = (fits_more w u g a x h.0, fits_more w u g b y h.1)
-fits_more w u g (k.list a) (v.list xs) h = all_have (Fits w a) (Fits u a) (fits_more w u g a) xs h
-fits_more w u g (k.set a) (v.set xs) h = (all_have (Fits w a) (Fits u a) (fits_more w u g a) xs h.0, h.1)
-fits_more w u g (k.map a b) (v.table es) h = (
-  entries_have (Fits w a) (Fits w b) (Fits u a) (Fits u b) (fits_more w u g a)
-      (fits_more w u g b) es h.0,
-  h.1,
-)
-fits_more w u g (k.big_map a b) (v.big_table es) h = (
-  entries_have (Fits w a) (Fits w b) (Fits u a) (Fits u b)
-      (fits_more w u g a) (fits_more w u g b) es h.0,
-  h.1,
-)
-fits_more w u g (k.lambda a b) (v.lambda t r) h = h
-fits_more w u g (k.contract a) (v.bytes b) h = (h.0, g.contracts b a h.1)
-fits_more w u g (k.ticket a) (v.ticket issuer kind content amount) h = (h.0, fits_more w u g a content h.1, h.2, h.3)
-fits_more w u g _ _ h = absurd h
-
 -- ---- worlds
 
 module _ (w x : World) (more : Extends (contract_at w) (contract_at x)) where
   pub fits_in_more : (a : Kind) (y : Val) → FitsIn w a y → FitsIn x a y
-  fits_in_more a y h = fits_more (known_with w []) (known_with x [])
+  fits_in_more a y h = fits_grow (known_with w []) (known_with x [])
       (record { contracts = λ b a g. contract_more (contract_at w) (contract_at x) more a b g; issued = λ n g. g }) a y h
 
   pub stores_more : (t : Tree) (y : Val) → Stores w t y → Stores x t y

@@ -24,7 +24,8 @@ use Rattle.rules_world.specs.world.RunLaws.{amount_returned}
 use Rattle.rules_world.specs.world.Forms.{IsTicket}
 use Rattle.rules_world.specs.world.Good.{known_with, IsGoodOperation, IsGoodWaiting, amount_waiting}
 use Rattle.laws_world.specs.runs.Going.{orders, KeepsGoing}
-use Rattle.laws_world.proofs.accounts.ForCallers.{simple_none, tickets_good, among_positive}
+use Rattle.laws_world.proofs.accounts.ForCallers.{among_positive}
+use Rattle.laws_code.proofs.stacks.ForCallers.{simple_none, tickets_good}
 
 -- ---- their tickets
 

@@ -10,7 +10,8 @@ use Rattle.mich_data.specs.View.{all_pending}
 use Rattle.mich_data.proofs.ForCallers.{left_at, sizes_at}
 use Rattle.mich_outline.specs.View.{outline_of}
 use Rattle.mich_cert.proofs.Creates.{in_view, no_create, of_none}
-use Rattle.mich_cert.proofs.Items.{read_within, items_room, items_size, items_failed, items_step, items_end}
+use Rattle.mich_check.proofs.PushTyping.{items_room, items_size}
+use Rattle.mich_cert.proofs.Items.{read_within, items_failed, items_step, items_end}
 use Rattle.mich_cert.proofs.Outlines.{outline_within}
 use Rattle.mich_cert.proofs.Pushes.{no_push_type, push_type_fault}
 use Rattle.mich_cert.proofs.Rests.{rest_unowned, rest_stopped, rest_step, rest_end}

@@ -5,7 +5,8 @@ use Rattle.mich_base.specs.View.{tree, trees}
 use Rattle.mich_outline.specs.View.{outline_of, view_of}
 use Rattle.mich_data.specs.View.{all_pending, pending}
 use Rattle.mich_cert.specs.Entries.{all_entries, context}
-use Rattle.mich_cert.specs.Pushed.{largest, pending_walk, reach}
+use Rattle.mich_check.specs.Pending.{largest, reach}
+use Rattle.mich_cert.specs.Pushed.{pending_walk}
 use Rattle.mich_cert.specs.Scripts.{bodies_largest, views_largest, views_reach, views_walk}
 use Rattle.mich_cert.specs.Walk.{rest_of}
 use Rattle.mich_cert.proofs.+follow.Given as goal

@@ -29,7 +29,7 @@ use Rattle.mich_control.specs.declared.error.CheckError.{CheckError}
 use Rattle.mich_control.specs.declared.error.CheckError.TheVariants as error
 use Rattle.mich_control.proofs.Forms.{formed}
 use Rattle.mich_control.proofs.Shifts.{fault_is}
-use Rattle.mich_cert.specs.telling.Scripts.{Origin, originated, IsBehind}
+use Rattle.mich_check.specs.Scripts.{Origin, originated, IsBehind}
 use Rattle.mich_cert.specs.telling.Told.{Adds}
 use Rattle.mich_cert.specs.telling.Walk.{FollowsApp, IsScript, app_entries, script_entries}
 use Rattle.mich_cert.specs.declared.telling.told.Told.{Told}

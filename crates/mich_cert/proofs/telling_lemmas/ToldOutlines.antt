@@ -17,7 +17,8 @@ use Rattle.mich_outline.specs.declared.outline.Outline.{Outline as CodeOutline}
 use Rattle.mich_outline.specs.declared.outline.View.{View as Item}
 use Rattle.mich_cert.specs.telling.Walk.{code_entries, views_entries, outline_entries, found_entries, script_entries, views_reach}
 use Rattle.mich_cert.proofs.SectionPlaces.{FoundHas, Stands, TypedStand, OutlineStands, outline_stands}
-use Rattle.mich_cert.proofs.Standing.{body_told, ends_within}
+use Rattle.mich_check.proofs.PushTyping.{ends_within}
+use Rattle.mich_cert.proofs.Standing.{body_told}
 use Rattle.mich_cert.proofs.telling_lemmas.ToldScripts.{script_by}
 
 module _ (T : List Teller) (from base : ℕ) where

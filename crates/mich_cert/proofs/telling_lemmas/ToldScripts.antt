@@ -30,7 +30,7 @@ use Rattle.mich_control.specs.Answers.{IsFault}
 use Rattle.mich_control.specs.declared.error.CheckError.{CheckError}
 use Rattle.mich_control.specs.declared.error.CheckError.TheVariants as error
 use Rattle.mich_control.proofs.Shifts.{body_at}
-use Rattle.mich_cert.specs.telling.Scripts.{AreEnds}
+use Rattle.mich_check.specs.Scripts.{AreEnds}
 use Rattle.mich_cert.specs.telling.Told.{Adds}
 use Rattle.mich_cert.specs.telling.Walk.{Confirms, IsOutline, IsScript, code_entries, views_entries, found_entries, script_entries, views_fault, views_reach}
 use Rattle.mich_cert.specs.declared.telling.told.Told.{Told}

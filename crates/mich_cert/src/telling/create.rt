@@ -9,11 +9,11 @@ ghost use Rattle.mich_control.specs.View.{context};
 ghost use Rattle.mich_overload.specs.View.{kinds};
 ghost use Rattle.mich_cert.specs.telling.Walk.{FollowsApp};
 
-use crate::telling::creating::{origination, stack_behind};
 use crate::telling::nodes::After;
 use crate::telling::scripts::tell_script;
 use crate::telling::told::Told;
 use mich_base::{App, Rows, Ty};
+use mich_check::{origination, stack_behind};
 use mich_control::{CheckError, Place, is_view};
 use std::alloc::Global;
 

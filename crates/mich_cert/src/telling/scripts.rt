@@ -12,10 +12,10 @@ ghost use Rattle.mich_control.specs.View.{context};
 ghost use Rattle.mich_outline.specs.View.{outline_of, view_of};
 ghost use Rattle.mich_cert.specs.telling.Walk.{Confirms, IsOutline, IsScript, code_entries, script_entries, views_entries, views_fault, views_reach};
 
-use crate::telling::ends::{Ends, code_ends, view_ends};
 use crate::telling::nodes::tell_body;
 use crate::telling::told::Told;
 use mich_base::{Node, Rows, Ty, copy_type};
+use mich_check::{Ends, code_ends, view_ends};
 use mich_control::{CheckError, Place, ends_in, only};
 use mich_outline::{Outline, TypingError, View, read_outline};
 use std::alloc::Global;

@@ -1,11 +1,11 @@
 use Rattle.std.proofs.Common.{rules, arith, ◌+◌, subst, ap, sym, ◌∙◌}
-use Rattle.std.specs.Prelude.{Err}
+use Rattle.std.specs.Prelude.{IfOk, Result, Ok, Err}
 use Rattle.rules_text.specs.nodes.Tree.{prim, size, sizes}
 use Rattle.rules_code.specs.typing.Typing.{shift}
 use Rattle.rules_code.specs.typing.Nodes.{tree_type, trees_type}
 use Rattle.mich_base.specs.TypeView.{kind}
 use Rattle.mich_base.specs.View.{tree, trees}
-use Rattle.mich_data.proofs.ForCallers.{sizes_at}
+use Rattle.mich_data.proofs.ForCallers.{left_end, sizes_at}
 use Rattle.mich_overload.specs.View.{kinds}
 use Rattle.mich_control.specs.View.{context}
 use Rattle.rules_code.specs.typing.Literals.{fault_of_bodies}
@@ -27,91 +27,102 @@ use Rattle.mich_check.proofs.CreateTyping.{created, create_script, shared_typed,
 use Rattle.mich_check.proofs.ScriptTyping.{Reached, code_size, reached_none, script_typed, views_end, views_fault, views_largest, views_size, views_step, whole_good}
 use Rattle.mich_check.proofs.+check.Goals as goal
 
+-- what holds whatever a result is
+whatever : {T E P : Type 0} (r : Result T E) → P → IfOk r (λ _. P)
+whatever (Ok x) p = p
+whatever (Err e) p = tt
+
 pub nodes::check_block-check_node-requires : goal.nodes::check_block-check_node-requires
 nodes::check_block-check_node-requires t c =
     let v = c.loop-node.invariant in
     let s = left_size _ _ _ c.loop-node-test.true c.node-item.is in
     (omega (arith, s, v.room, v.forward, c.decreases, c.requires), omega (arith, s, v.room, v.forward, c.requires))
 
-pub nodes::check_block-returns-in_err-made : goal.nodes::check_block-returns-in_err-made
-nodes::check_block-returns-in_err-made t c =
+pub nodes::check_block-returns-in_err-made-clause-typed : goal.nodes::check_block-returns-in_err-made-clause-typed
+nodes::check_block-returns-in_err-made-clause-typed t c =
     let v = c.loop-node.invariant in
     let fault : IsFault (shift c.args.at (trees_type (trees c.args.nodes.now) (context c.args.place) (kinds c.args.types))) c.in_err-made.field-0.0 =
-    block_fault _ _ _ c.loop-node-test.true c.node-item.is _ _ _ c.in-Some.is _ _ _ v.same _ c.in_err-made.ensures in
+    block_fault _ _ _ c.loop-node-test.true c.node-item.is _ _ _ c.in-Some.is _ _ _ v.same _ c.in_err-made.ensures.typed in
     search (rules, fault)
 
 pub nodes::check_block-loop-node-preserved : goal.nodes::check_block-loop-node-preserved
 nodes::check_block-loop-node-preserved t c =
     let v = c.loop-node.invariant in
     record {
-      same = block_step _ _ _ c.loop-node-test.true c.node-item.is _ _ _ c.in-Some.is _ _ _ v.same _ _ c.behind-next.ensures c.in_ok-made.ensures.0;
-      completes = block_code _ _ _ c.loop-node-test.true c.node-item.is _ _ _ c.in-Some.is _ _ _ _ _ _ c.in_ok-push.ensures.pushed v.completes c.in_ok-made.ensures.1;
-      forward = omega (arith, v.forward, c.behind-next.ensures);
-      room = sizes_at _ _ _ _ _ _ c.loop-node-test.true c.node-item.is v.room c.behind-next.ensures;
+      same = block_step _ _ _ c.loop-node-test.true c.node-item.is _ _ _ c.in-Some.is _ _ _ v.same _ _ c.in_ok-made.ensures.ends c.in_ok-made.ensures.typed.0;
+      completes = block_code _ _ _ c.loop-node-test.true c.node-item.is _ _ _ c.in-Some.is _ _ _ _ _ _ c.in_ok-push.ensures.pushed v.completes c.in_ok-made.ensures.typed.1;
+      forward = omega (arith, v.forward, c.in_ok-made.ensures.ends);
+      room = sizes_at _ _ _ _ _ _ c.loop-node-test.true c.node-item.is v.room c.in_ok-made.ensures.ends;
     }
 
-pub nodes::check_block-returns : goal.nodes::check_block-returns
-nodes::check_block-returns t c =
+pub nodes::check_block-returns-clause-typed : goal.nodes::check_block-returns-clause-typed
+nodes::check_block-returns-clause-typed t c =
     let v = c.loop-node.invariant in (
       block_end _ _ c.loop-node-test.false _ _ _ _ _ v.same,
       block_whole _ _ c.loop-node-test.false _ _ _ _ _ _ c.in_ok-code.ensures v.completes,
     )
 
-pub nodes::check_branch-returns-in_err-one_body : goal.nodes::check_branch-returns-in_err-one_body
-nodes::check_branch-returns-in_err-one_body t c =
+pub nodes::check_block-returns-clause-ends : goal.nodes::check_block-returns-clause-ends
+nodes::check_block-returns-clause-ends t c =
+    let v = c.loop-node.invariant in
+    let z = ap sizes (left_end _ _ c.loop-node-test.false) in
+    omega (arith, v.room, z)
+
+pub nodes::check_branch-returns-in_err-one_body-clause-typed : goal.nodes::check_branch-returns-in_err-one_body-clause-typed
+nodes::check_branch-returns-in_err-one_body-clause-typed t c =
     let st = rw c.in-Some-2.is at c.in_ok-first.ensures in
     let fault : IsFault (shift c.args.at (tree_type (prim c.args.app.now.name c.args.app.now.annots (trees c.args.app.now.args)) (context c.args.place) (kinds c.args.types))) c.in_err-one_body.field-0.0 =
-    branch_one _ _ _ _ _ _ _ c.requires.form _ _ _ _ c.in-Some.ensures st _ c.in_err-one_body.ensures in
+    branch_one _ _ _ _ _ _ _ c.requires.form _ _ _ _ c.in-Some.ensures st _ c.in_err-one_body.ensures.typed in
     search (rules, fault)
 
-pub nodes::check_branch-returns-in_err-other_body : goal.nodes::check_branch-returns-in_err-other_body
-nodes::check_branch-returns-in_err-other_body t c =
+pub nodes::check_branch-returns-in_err-other_body-clause-typed : goal.nodes::check_branch-returns-in_err-other_body-clause-typed
+nodes::check_branch-returns-in_err-other_body-clause-typed t c =
     let st = rw c.in-Some-2.is at c.in_ok-first.ensures in
     let fault : IsFault (shift c.args.at (tree_type (prim c.args.app.now.name c.args.app.now.annots (trees c.args.app.now.args)) (context c.args.place) (kinds c.args.types))) c.in_err-other_body.field-0.0 =
-    branch_other _ _ _ _ _ _ _ c.requires.form _ _ _ _ c.in-Some.ensures st _ _ c.behind.ensures c.in_ok-one_body.ensures.1 _ c.in_err-other_body.ensures in
+    branch_other _ _ _ _ _ _ _ c.requires.form _ _ _ _ c.in-Some.ensures st _ _ c.in_ok-one_body.ensures.ends c.in_ok-one_body.ensures.typed.1 _ c.in_err-other_body.ensures.typed in
     search (rules, fault)
 
-pub nodes::check_branch-returns-in_err-after : goal.nodes::check_branch-returns-in_err-after
-nodes::check_branch-returns-in_err-after t c =
+pub nodes::check_branch-returns-in_err-after-clause-typed : goal.nodes::check_branch-returns-in_err-after-clause-typed
+nodes::check_branch-returns-in_err-after-clause-typed t c =
     let st = rw c.in-Some-2.is at c.in_ok-first.ensures in
     let fault : IsFault (shift c.args.at (tree_type (prim c.args.app.now.name c.args.app.now.annots (trees c.args.app.now.args)) (context c.args.place) (kinds c.args.types))) c.in_err-after.field-0.0 =
-    branch_join _ _ _ _ _ _ _ c.requires.form _ _ _ _ c.in-Some.ensures st _ _ c.behind.ensures c.in_ok-one_body.ensures.1 _ c.in_ok-other_body.ensures.1 _ c.in_err-after.ensures in
+    branch_join _ _ _ _ _ _ _ c.requires.form _ _ _ _ c.in-Some.ensures st _ _ c.in_ok-one_body.ensures.ends c.in_ok-one_body.ensures.typed.1 _ c.in_ok-other_body.ensures.typed.1 _ c.in_err-after.ensures in
     search (rules, fault)
 
-pub nodes::check_branch-returns : goal.nodes::check_branch-returns
-nodes::check_branch-returns t c =
+pub nodes::check_branch-returns-clause-typed : goal.nodes::check_branch-returns-clause-typed
+nodes::check_branch-returns-clause-typed t c =
     let st = rw c.in-Some-2.is at c.in_ok-first.ensures in
-    let one = c.in_ok-one_body.ensures in
-    let other = c.in_ok-other_body.ensures in
-    branch_made _ _ _ _ _ _ _ c.requires.form _ _ _ _ c.in-Some.ensures st _ _ c.behind.ensures one.1 _ other.1 _ _ _ _ c.in_ok-after.ensures c.branch_instr.ensures one.0 one.2 other.0 other.2
+    let one = c.in_ok-one_body.ensures.typed in
+    let other = c.in_ok-other_body.ensures.typed in
+    branch_made _ _ _ _ _ _ _ c.requires.form _ _ _ _ c.in-Some.ensures st _ _ c.in_ok-one_body.ensures.ends one.1 _ other.1 _ _ _ _ c.in_ok-after.ensures c.branch_instr.ensures one.0 one.2 other.0 other.2
 
-pub nodes::check_node-returns-in_err-body-in-Seq : goal.nodes::check_node-returns-in_err-body-in-Seq
-nodes::check_node-returns-in_err-body-in-Seq t c =
+pub nodes::check_node-returns-in_err-body-in-Seq-clause-typed : goal.nodes::check_node-returns-in_err-body-in-Seq-clause-typed
+nodes::check_node-returns-in_err-body-in-Seq-clause-typed t c =
     let fault : IsFault (shift c.args.at (tree_type (tree c.args.node.now) (context c.args.place) (kinds c.args.types))) c.in_err-body-in-Seq.field-0.0 =
-    fault_is _ _ _ (seq_at _ _ _ _ _ (ap tree c.in-Seq.is ∙ tree_seq _)) c.in_err-body-in-Seq.ensures in
+    fault_is _ _ _ (seq_at _ _ _ _ _ (ap tree c.in-Seq.is ∙ tree_seq _)) c.in_err-body-in-Seq.ensures.typed in
     search (rules, fault)
 
-pub nodes::check_node-returns-in_ok-body-in-Seq : goal.nodes::check_node-returns-in_ok-body-in-Seq
-nodes::check_node-returns-in_ok-body-in-Seq t c =
-    let h = c.in_ok-body-in-Seq.ensures in
+pub nodes::check_node-returns-in_ok-body-in-Seq-clause-typed : goal.nodes::check_node-returns-in_ok-body-in-Seq-clause-typed
+nodes::check_node-returns-in_ok-body-in-Seq-clause-typed t c =
+    let h = c.in_ok-body-in-Seq.ensures.typed in
     (seq_at _ _ _ _ _ h.0 ∙ h.1, seq_made _ _ _ _ _ _ h.0 (code_seq _) h.2)
 
-pub nodes::check_loop-returns-in_err-body : goal.nodes::check_loop-returns-in_err-body
-nodes::check_loop-returns-in_err-body t c =
+pub nodes::check_loop-returns-in_err-body-clause-typed : goal.nodes::check_loop-returns-in_err-body-clause-typed
+nodes::check_loop-returns-in_err-body-clause-typed t c =
     let st = rw c.in-Some-2.is at c.in_ok-turning.ensures in
     let fault : IsFault (shift c.args.at (tree_type (prim c.args.app.now.name c.args.app.now.annots (trees c.args.app.now.args)) (context c.args.place) (kinds c.args.types))) c.in_err-body.field-0.0 =
-    loop_body _ _ _ _ _ _ _ c.requires.form _ _ c.in-Some.ensures st _ c.in_err-body.ensures in
+    loop_body _ _ _ _ _ _ _ c.requires.form _ _ c.in-Some.ensures st _ c.in_err-body.ensures.typed in
     search (rules, fault)
 
-pub nodes::check_loop-returns-then-not-ends_in : goal.nodes::check_loop-returns-then-not-ends_in
-nodes::check_loop-returns-then-not-ends_in t c =
+pub nodes::check_loop-returns-then-not-ends_in-clause-typed : goal.nodes::check_loop-returns-then-not-ends_in-clause-typed
+nodes::check_loop-returns-then-not-ends_in-clause-typed t c =
     let st = rw c.in-Some-2.is at c.in_ok-turning.ensures in
-    loop_other _ _ _ _ _ _ _ c.requires.form _ _ c.in-Some.ensures st _ c.in_ok-body.ensures.1 (sym c.if-not-ends_in.true ∙ c.ends_in.ensures)
+    loop_other _ _ _ _ _ _ _ c.requires.form _ _ c.in-Some.ensures st _ c.in_ok-body.ensures.typed.1 (sym c.if-not-ends_in.true ∙ c.ends_in.ensures)
 
-pub nodes::check_loop-returns : goal.nodes::check_loop-returns
-nodes::check_loop-returns t c =
+pub nodes::check_loop-returns-clause-typed : goal.nodes::check_loop-returns-clause-typed
+nodes::check_loop-returns-clause-typed t c =
     let st = rw c.in-Some-2.is at c.in_ok-turning.ensures in
-    let b = c.in_ok-body.ensures in
+    let b = c.in_ok-body.ensures.typed in
     loop_behind _ _ _ _ _ _ _ c.requires.form _ _ c.in-Some.ensures st _ b.1 _ c.in_ok-after.ensures _ _ (sym c.if-not-ends_in.false ∙ c.ends_in.ensures) c.loop_instr.ensures b.0 b.2
 
 -- ---- DIP
@@ -122,66 +133,86 @@ nodes::check_dip-check_body-requires t c =
     let b = c.in_ok-dip.ensures.behind in
     (omega (arith, w, b, c.decreases, c.requires.fits), omega (arith, w, b, c.requires.fits))
 
-pub nodes::check_dip-returns-in_err-dip : goal.nodes::check_dip-returns-in_err-dip
-nodes::check_dip-returns-in_err-dip t c =
+pub nodes::check_dip-returns-in_err-dip-clause-typed : goal.nodes::check_dip-returns-in_err-dip-clause-typed
+nodes::check_dip-returns-in_err-dip-clause-typed t c =
     let fault : IsFault (shift c.args.at (tree_type (prim c.args.app.now.name c.args.app.now.annots (trees c.args.app.now.args)) (context c.args.place) (kinds c.args.types))) c.in_err-dip.field-0.0 =
     dip_read _ _ _ _ _ _ c.requires.form _ c.in_err-dip.ensures.read in
     search (rules, fault)
 
-pub nodes::check_dip-returns-in_err-body : goal.nodes::check_dip-returns-in_err-body
-nodes::check_dip-returns-in_err-body t c =
+pub nodes::check_dip-returns-in_err-body-clause-typed : goal.nodes::check_dip-returns-in_err-body-clause-typed
+nodes::check_dip-returns-in_err-body-clause-typed t c =
     let s = rw c.in-Some.is at c.in_ok-upper.ensures in
     let fault : IsFault (shift c.args.at (tree_type (prim c.args.app.now.name c.args.app.now.annots (trees c.args.app.now.args)) (context c.args.place) (kinds c.args.types))) c.in_err-body.field-0.0 =
-    dip_body _ _ _ _ _ _ c.requires.form _ _ _ _ c.in_ok-dip.ensures.read c.counted.ensures _ _ s.0 s.1 s.2 _ c.in_err-body.ensures in
+    dip_body _ _ _ _ _ _ c.requires.form _ _ _ _ c.in_ok-dip.ensures.read c.counted.ensures _ _ s.0 s.1 s.2 _ c.in_err-body.ensures.typed in
     search (rules, fault)
 
-pub nodes::check_dip-returns : goal.nodes::check_dip-returns
-nodes::check_dip-returns t c =
+pub nodes::check_dip-returns-clause-typed : goal.nodes::check_dip-returns-clause-typed
+nodes::check_dip-returns-clause-typed t c =
     let s = rw c.in-Some.is at c.in_ok-upper.ensures in
-    let b = c.in_ok-body.ensures in
+    let b = c.in_ok-body.ensures.typed in
     dip_made _ _ _ _ _ _ c.requires.form _ _ _ _ c.in_ok-dip.ensures.read c.counted.ensures _ _ s.0 s.1 s.2 _ b.0 b.1 b.2 _ c.dipped.ensures
+
+pub nodes::check_dip-returns-clause-ends : goal.nodes::check_dip-returns-clause-ends
+nodes::check_dip-returns-clause-ends t c =
+    let w = c.in_ok-dip.ensures.within in
+    let e = c.in_ok-body.ensures.ends in
+    whatever c.dipped.result (omega (arith, w, e))
 
 -- ---- MAP
 
-pub nodes::check_map-returns-in_err-body : goal.nodes::check_map-returns-in_err-body
-nodes::check_map-returns-in_err-body t c =
+pub nodes::check_map-returns-in_err-body-clause-typed : goal.nodes::check_map-returns-in_err-body-clause-typed
+nodes::check_map-returns-in_err-body-clause-typed t c =
     let st = rw c.in-Some-2.is at c.in_ok-mapping.ensures in
     let fault : IsFault (shift c.args.at (tree_type (prim c.args.app.now.name c.args.app.now.annots (trees c.args.app.now.args)) (context c.args.place) (kinds c.args.types))) c.in_err-body.field-0.0 =
-    map_body _ _ _ _ _ _ c.requires.form _ _ c.in-Some.ensures st _ c.in_err-body.ensures in
+    map_body _ _ _ _ _ _ c.requires.form _ _ c.in-Some.ensures st _ c.in_err-body.ensures.typed in
     search (rules, fault)
 
-pub nodes::check_map-returns : goal.nodes::check_map-returns
-nodes::check_map-returns t c =
+pub nodes::check_map-returns-clause-typed : goal.nodes::check_map-returns-clause-typed
+nodes::check_map-returns-clause-typed t c =
     let st = rw c.in-Some-2.is at c.in_ok-mapping.ensures in
-    let b = c.in_ok-body.ensures in
+    let b = c.in_ok-body.ensures.typed in
     map_made _ _ _ _ _ _ c.requires.form _ _ c.in-Some.ensures st _ b.0 b.1 b.2 _ c.mapped.ensures
+
+pub nodes::check_map-returns-clause-ends : goal.nodes::check_map-returns-clause-ends
+nodes::check_map-returns-clause-ends t c =
+    let s = ap (λ ns. sizes (trees ns)) c.in-Some.ensures in
+    let e = c.in_ok-body.ensures.ends in
+    whatever c.mapped.result (omega (arith, s, e))
 
 -- ---- LAMBDA
 
-pub nodes::check_lambda-returns-in_err-arrow : goal.nodes::check_lambda-returns-in_err-arrow
-nodes::check_lambda-returns-in_err-arrow t c =
+pub nodes::check_lambda-returns-in_err-arrow-clause-typed : goal.nodes::check_lambda-returns-in_err-arrow-clause-typed
+nodes::check_lambda-returns-in_err-arrow-clause-typed t c =
     let fault : IsFault (shift c.args.at (tree_type (prim c.args.app.now.name c.args.app.now.annots (trees c.args.app.now.args)) (context c.args._place) (kinds c.args.types))) c.in_err-arrow.field-0.0 =
     lambda_types _ _ _ _ _ _ _ c.requires.form _ _ _ c.in-Some.ensures _ c.in_err-arrow.ensures in
     search (rules, fault)
 
-pub nodes::check_lambda-returns-in_err-begins : goal.nodes::check_lambda-returns-in_err-begins
-nodes::check_lambda-returns-in_err-begins t c =
+pub nodes::check_lambda-returns-in_err-begins-clause-typed : goal.nodes::check_lambda-returns-in_err-begins-clause-typed
+nodes::check_lambda-returns-in_err-begins-clause-typed t c =
     let fault : IsFault (shift c.args.at (tree_type (prim c.args.app.now.name c.args.app.now.annots (trees c.args.app.now.args)) (context c.args._place) (kinds c.args.types))) c.in_err-begins.field-0.0 =
     lambda_begun _ _ _ _ _ _ _ c.requires.form _ _ _ c.in-Some.ensures _ _ c.in_ok-arrow.ensures _ c.in_err-begins.ensures in
     search (rules, fault)
 
-pub nodes::check_lambda-returns-in_err-body : goal.nodes::check_lambda-returns-in_err-body
-nodes::check_lambda-returns-in_err-body t c =
+pub nodes::check_lambda-returns-in_err-body-clause-typed : goal.nodes::check_lambda-returns-in_err-body-clause-typed
+nodes::check_lambda-returns-in_err-body-clause-typed t c =
     let g = c.in_ok-begins.ensures in
     let fault : IsFault (shift c.args.at (tree_type (prim c.args.app.now.name c.args.app.now.annots (trees c.args.app.now.args)) (context c.args._place) (kinds c.args.types))) c.in_err-body.field-0.0 =
-    lambda_body _ _ _ _ _ _ _ c.requires.form _ _ _ c.in-Some.ensures _ _ c.in_ok-arrow.ensures _ _ _ g.0 g.1 c.behind.ensures c.behind-place.ensures _ c.in_err-body.ensures in
+    lambda_body _ _ _ _ _ _ _ c.requires.form _ _ _ c.in-Some.ensures _ _ c.in_ok-arrow.ensures _ _ _ g.0 g.1 c.behind.ensures c.behind-place.ensures _ c.in_err-body.ensures.typed in
     search (rules, fault)
 
-pub nodes::check_lambda-returns : goal.nodes::check_lambda-returns
-nodes::check_lambda-returns t c =
+pub nodes::check_lambda-returns-clause-typed : goal.nodes::check_lambda-returns-clause-typed
+nodes::check_lambda-returns-clause-typed t c =
     let g = c.in_ok-begins.ensures in
-    let b = c.in_ok-body.ensures in
+    let b = c.in_ok-body.ensures.typed in
     lambda_is _ _ _ _ _ _ _ c.requires.form _ _ _ c.in-Some.ensures _ _ c.in_ok-arrow.ensures _ _ _ g.0 g.1 c.behind.ensures c.behind-place.ensures _ b.0 b.1 b.2 _ c.lambda_made.ensures
+
+pub nodes::check_lambda-returns-clause-ends : goal.nodes::check_lambda-returns-clause-ends
+nodes::check_lambda-returns-clause-ends t c =
+    let s = ap (λ ns. sizes (trees ns)) c.in-Some.ensures in
+    let e = c.in_ok-body.ensures.ends in
+    let p = c.behind.ensures in
+    let q = c.behind-place.ensures in
+    whatever c.lambda_made.result (omega (arith, s, e, p, q))
 
 -- ---- PUSH
 
@@ -319,5 +350,5 @@ scripts::check_views-returns t c = views_end _ _ c.as_slice-view-items.result.no
 
 pub scripts::check_whole-returns-then-ends_in : goal.scripts::check_whole-returns-then-ends_in
 scripts::check_whole-returns-then-ends_in t c =
-    let b = c.in_ok-made.ensures in
+    let b = c.in_ok-made.ensures.typed in
     whole_good c.args.body.at (tree c.args.body.node.now) (context c.args.place) (kind c.args.ends.begins) (kind c.args.ends.ends) _ c.in_ok-begins.ensures _ _ b.1 c.in_ok-last.ensures _ b.0 (sym c.ends_in.ensures ∙ c.if-ends_in.true) b.2

@@ -1,5 +1,5 @@
 -- Literals of a world and arguments of entrypoints (Michelson reference, "Entrypoints").
-use Rattle.std.specs.Prelude.{◌≡◌, ℕ, List, map, Result, Ok, Err}
+use Rattle.std.specs.Prelude.{◌≡◌, ℕ, List, map, Result, Ok, Err, Bool}
 use Rattle.std.specs.List.{AllByRecursion}
 use Rattle.rules_text.specs.nodes.Tree.{Tree}
 use Rattle.rules_code.specs.instructions.Arguments.{Found, found, fault}
@@ -8,7 +8,7 @@ use Rattle.rules_data.specs.types.Entrypoints.{Entry}
 use Rattle.rules_data.specs.values.Val.{Val}
 use Rattle.rules_world.specs.world.Arguments.{literal_in}
 use Rattle.rules_world.specs.world.Targets.{Target, met, missing, search}
-use Rattle.rules_world.specs.world.World.{World as PlainWorld}
+use Rattle.rules_world.specs.world.World.{World as PlainWorld, contract_at}
 use Rattle.mich_control.specs.declared.error.CheckError.{CheckError}
 use Rattle.mich_control.specs.declared.error.CheckError.TheVariants as error
 use Rattle.mich_data.specs.Whole.{IsWhole}
@@ -22,10 +22,17 @@ use Rattle.mich_world.specs.World.{World}
 use Rattle.mich_world.specs.declared.contract.Contract.{Contract}
 use Rattle.mich_literals.specs.declared.arguments.arguments.ArgumentError.{ArgumentError}
 use Rattle.mich_literals.specs.declared.arguments.arguments.ArgumentError.TheVariants as argument
+use Rattle.rules_code.specs.evaluation.Contracts.{is_contract_of}
+use Rattle.rules_data.specs.types.Kind.{Kind}
+use Rattle.mich_world.specs.Standing.{StandsFor}
 
 -- the script of each contract is typed
 abbrev pub HasTypedScripts : World → Type 0
 HasTypedScripts v = AllByRecursion (λ c. IsTypedScript c.1.script) v.funds.present.contracts
+
+-- whether a contract of this type is at an address, in whatever world this one stands for
+abbrev pub TellsContract : World → Kind → List ℕ → Bool → Type 0
+TellsContract v a address b = (w : PlainWorld) → StandsFor v w → b ≡ is_contract_of (contract_at w) a address
 
 -- the entrypoints of a contract
 abbrev pub entries_in : Contract → List Entry

@@ -6,7 +6,7 @@ ghost use Rattle.rules_code.specs.evaluation.Contracts.{Lookup, is_contract_of, 
 ghost use Rattle.rules_data.specs.forms.Spelling.{contract_place, implicit_place, spelled_address};
 ghost use Rattle.rules_data.specs.types.Entrypoints.{find_entry};
 ghost use Rattle.rules_world.specs.world.Arguments.{false_claim, literal_in};
-ghost use Rattle.rules_world.specs.world.World.{World as PlainWorld, contract_at};
+ghost use Rattle.rules_world.specs.world.World.{World as PlainWorld};
 ghost use Rattle.mich_base.specs.TypeView.{kind};
 ghost use Rattle.mich_base.specs.View.{tree};
 ghost use Rattle.mich_data.specs.View.{all_pending};
@@ -14,7 +14,7 @@ ghost use Rattle.mich_data.specs.Whole.{IsWhole};
 ghost use Rattle.mich_forms.specs.Spelled.{address_bytes};
 ghost use Rattle.mich_term.specs.Layers.{AreFormed};
 ghost use Rattle.mich_world.specs.Standing.{StandsFor};
-ghost use Rattle.mich_literals.specs.arguments.Arguments.{HasTypedScripts, IsIn, entries_in};
+ghost use Rattle.mich_literals.specs.arguments.Arguments.{HasTypedScripts, IsIn, TellsContract, entries_in};
 
 use mich_base::{Node, Rows, Ty};
 use mich_check::{CheckError, check_literal};
@@ -54,7 +54,7 @@ fn account_takes(who: KeyHash, name: Entrypoint, ty: &Ty) -> bool
 // Whether the contract of these 20 bytes is there and does.
 fn contract_takes(world: &World, hash: [u8; 20], name: Entrypoint, ty: &Ty) -> bool
     requires { HasTypedScripts world.now }
-    ensures { (w : PlainWorld) → StandsFor world.now w → result ≡ is_contract_of (contract_at w) (kind ty.now) (spelled_address (contract_place hash) name) }
+    ensures { TellsContract world.now (kind ty.now) (spelled_address (contract_place hash) name) result }
 {
     match world.contract(&hash) {
         Some(contract) => has_entrypoint(contract, &name, ty),
@@ -65,7 +65,7 @@ fn contract_takes(world: &World, hash: [u8; 20], name: Entrypoint, ty: &Ty) -> b
 // Whether an address is one of a contract of a type, or of an account that takes it.
 fn is_contract_of(world: &World, ty: &Ty, address: &Address) -> bool
     requires { HasTypedScripts world.now }
-    ensures { (w : PlainWorld) → StandsFor world.now w → result ≡ is_contract_of (contract_at w) (kind ty.now) (address_bytes address.now) }
+    ensures { TellsContract world.now (kind ty.now) (address_bytes address.now) result }
 {
     match address.place {
         Place::Implicit(who) => account_takes(who, address.entrypoint, ty),

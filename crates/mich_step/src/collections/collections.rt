@@ -1,12 +1,12 @@
 // The group of collections.
-ghost use Rattle.std.specs.Prelude.{◌≡◌, ◌++◌, List, IfOk, false};
-ghost use Rattle.rules_data.specs.values.Tickets.{Held};
+ghost use Rattle.std.specs.Prelude.{◌≡◌, ◌++◌, IfOk, false};
 ghost use Rattle.rules_code.specs.steps.Collections.{collection_step};
 ghost use Rattle.mich_overload.specs.View.{collection_row};
 ghost use Rattle.mich_overload.specs.Steps.{is_on_big_map};
 ghost use Rattle.mich_stack.specs.Views.{plain};
 ghost use Rattle.mich_stack.specs.Ends.{Fits, Ends, gone};
 ghost use Rattle.mich_stack.specs.Given.{Gives};
+ghost use Rattle.mich_step.specs.Burners.{StaysReady};
 ghost use Rattle.mich_step.specs.collections.Keys.{SuitsCollections};
 
 use crate::collections::maps::{
@@ -61,7 +61,7 @@ pub fn collection_step<B: Burner>(
     requires ready { B.ready burner.old (gone (collection_step (collection_row row.now) (plain stack.old))) }
     ensures ends { Ends (collection_step (collection_row row.now)) stack.old stack.new result }
     ensures tells { IfOk result (λ _. B.told burner.new ≡ B.told burner.old ++ gone (collection_step (collection_row row.now) (plain stack.old))) }
-    ensures stays_ready { IfOk result (λ _. (l : List Held) → B.ready burner.old (gone (collection_step (collection_row row.now) (plain stack.old)) ++ l) → B.ready burner.new l) }
+    ensures stays_ready { IfOk result (λ _. StaysReady B.ready burner.old burner.new (gone (collection_step (collection_row row.now) (plain stack.old)))) }
 {
     match give_collections(alloc, row, stack) {
         Ok(given) => {

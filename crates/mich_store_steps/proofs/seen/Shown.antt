@@ -1,14 +1,14 @@
 -- The sight of a store that holds no tickets shows in each big map the tickets that lie in it.
 use Rattle.std.proofs.Common.{◌≡◌, ℕ, Bool, true, false, List, [], ◌∷◌, ◌++◌, map, reverse, Some, None, refl, sym, ap, ◌∙◌, subst}
-use Rattle.std.specs.Prelude.{is_some, if◌then◌else◌}
+use Rattle.std.specs.Prelude.{is_some}
 use Rattle.std.specs.declared.option.Option.{Option}
 use Rattle.std.specs.declared.cmp.Ordering.{Ordering}
 use Rattle.std.specs.declared.cmp.Ordering.TheVariants.{Less, Equal, Greater}
-use Rattle.std.specs.Ordering.{match_ordering, is_eq}
+use Rattle.std.specs.Ordering.{match_ordering}
 use Rattle.std.specs.Map.{keys_of}
 use Rattle.std.proofs.lemmas.Bool.{and_parts}
 use Rattle.rules_data.specs.values.Order.{order}
-use Rattle.rules_data.specs.values.Tables.{with_value, without_key}
+use Rattle.rules_data.specs.values.Tables.{with_value}
 use Rattle.rules_data.specs.values.Tickets.{Held, tickets, all_tickets, pair_tickets}
 use Rattle.rules_data.specs.values.Val.{Val, Vals, Pairs, no_val, more_vals, no_pair, more_pairs, some, left, right, both, list, table, big_table}
 use Rattle.rules_data.specs.big_maps.Changes.{written, changed}
@@ -23,7 +23,7 @@ use Rattle.mich_term.specs.declared.value.BigMap.{BigMap, roll-BigMap}
 use Rattle.mich_bigmap.specs.Bases.{Bases, entries_in}
 use Rattle.mich_bigmap.specs.Standing.{change_step}
 use Rattle.mich_bigmap.specs.Ticketless.{HoldNoTickets}
-use Rattle.mich_bigmap.proofs.ForCallers.{none_in, none_in_store}
+use Rattle.mich_bigmap.proofs.ForCallers.{none_in, none_in_store, none_with, none_without, nothing_of}
 use Rattle.mich_stack.specs.Views.{Sight, seen}
 use Rattle.mich_step.specs.Shown.{as_entries, shown, all_shown, entries_shown, ShowsTickets}
 use Rattle.mich_store_steps.specs.seen.Sights.{Seen, is_less, are_above, are_increasing, all_put, is_none, bare_well, puts_well, is_layer, seen_where, sight}
@@ -58,32 +58,6 @@ alike_tickets : (x y : Val) → shown x ≡ shown y → tickets x ≡ tickets y
 alike_tickets x y e = sym (tickets_shown x) ∙ ap tickets e ∙ tickets_shown y
 
 -- ---- one level
-
-nothing_of : (xs ys : List Held) → xs ++ ys ≡ [] → (xs ≡ []) × (ys ≡ [])
-nothing_of [] ys h = (refl, h)
-nothing_of (x ∷ xs) ys h = cc
-
-both_nothing : (xs ys : List Held) → xs ≡ [] → ys ≡ [] → xs ++ ys ≡ []
-both_nothing xs ys h k = (λ i. h i ++ k i)
-
-none_with : (k x : Val) (ps : Pairs) → tickets x ≡ [] → pair_tickets ps ≡ [] → pair_tickets (with_value k x ps) ≡ []
-none_with k x no_pair t h = both_nothing (tickets x) [] t refl
-none_with k x (more_pairs j w ps) t h =
-    let parts = nothing_of (tickets w) (pair_tickets ps) h in
-    (elim (order k j) as (λ o. pair_tickets (match_ordering o (more_pairs k x (more_pairs j w ps)) (more_pairs j x ps) (more_pairs j w (with_value k x ps))) ≡ []) [
-      | Less ↦ both_nothing (tickets x) (tickets w ++ pair_tickets ps) t h
-      | Equal ↦ both_nothing (tickets x) (pair_tickets ps) t parts.1
-      | Greater ↦ both_nothing (tickets w) (pair_tickets (with_value k x ps)) parts.0 (none_with k x ps t parts.1)
-    ])
-
-none_without : (k : Val) (ps : Pairs) → pair_tickets ps ≡ [] → pair_tickets (without_key k ps) ≡ []
-none_without k no_pair h = refl
-none_without k (more_pairs j w ps) h =
-    let parts = nothing_of (tickets w) (pair_tickets ps) h in
-    (elim (is_eq (order k j)) as (λ b. pair_tickets (if b then ps else more_pairs j w (without_key k ps)) ≡ []) [
-      | true ↦ parts.1
-      | false ↦ both_nothing (tickets w) (pair_tickets (without_key k ps)) parts.0 (none_without k ps parts.1)
-    ])
 
 -- changes that put no ticket
 none_changed : (cs : Seen) (ps : Pairs) → pair_tickets (puts cs) ≡ [] → pair_tickets ps ≡ [] → pair_tickets (changed (map change_step cs) ps) ≡ []

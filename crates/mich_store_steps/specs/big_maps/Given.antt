@@ -1,7 +1,7 @@
 -- How instructions on big maps end, where big maps are seen in a store.
 use Rattle.std.specs.Prelude.{◌≡◌, List, ◌∷◌, Option, option_map, option_to_list, Result, Ok, Err}
 use Rattle.rules_data.specs.values.Val.{Val, Pairs}
-use Rattle.rules_data.specs.values.Tables.{with_value}
+use Rattle.rules_data.specs.values.Tables.{value_at, with_value}
 use Rattle.rules_data.specs.values.Tickets.{tickets}
 use Rattle.rules_code.specs.instructions.Straight.{CollectionRow}
 use Rattle.rules_code.specs.instructions.Straight as i
@@ -30,6 +30,10 @@ seen_in bs v = seen (sight bs) v
 
 abbrev pub values_in : Bases → List Value → List Val
 values_in bs vs = values (sight bs) vs
+
+-- the value at a key of a big map
+abbrev pub value_seen_at : Bases → Datum → BigMap → Option Val
+value_seen_at bs k m = value_at (datum k) (entries_seen bs m)
 
 -- the entries of a big map with this value at a key
 abbrev pub entries_with : Bases → Datum → Value → BigMap → Pairs

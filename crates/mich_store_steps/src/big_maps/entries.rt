@@ -11,12 +11,12 @@ ghost use Rattle.mich_term.specs.ValueView.{val};
 ghost use Rattle.mich_term.specs.declared.value.Value.{Value};
 ghost use Rattle.mich_term.specs.declared.value.BigMap.{out-BigMap};
 ghost use Rattle.mich_store_steps.specs.seen.Sights.{is_plain, sight};
-ghost use Rattle.mich_store_steps.specs.big_maps.Given.{entries_changed, entries_seen, entries_with, seen_in};
+ghost use Rattle.mich_store_steps.specs.big_maps.Given.{entries_changed, entries_seen, entries_with, seen_in, value_seen_at};
 ghost use Rattle.mich_store_steps.specs.big_maps.Operands.{AreEntries};
 
-use mich_base::{Memory, Rows};
+use mich_base::Memory;
 use mich_bigmap::{Store, erase, get, unshared, write};
-use mich_term::{BigMap, Datum, Value, carries};
+use mich_term::{BigMap, Datum, Table, Value, carries};
 use std::alloc::Global;
 
 // A big map without entries.
@@ -25,7 +25,7 @@ pub(crate) fn no_entries(alloc: Global) -> BigMap
 {
     BigMap {
         base: None,
-        overlay: Rows::new(alloc),
+        overlay: Table::new(alloc),
     }
 }
 
@@ -33,7 +33,7 @@ pub(crate) fn no_entries(alloc: Global) -> BigMap
 pub(crate) fn found<'a>(store: &'a Store, big: &'a BigMap, key: &Datum) -> Option<&'a Value>
     requires { AreEntries (entries_seen store.now.bases.present big.now) }
     ensures alone { option_map (λ v. val v.now) result ≡ value_at (datum key.now) (entries_seen store.now.bases.present big.now) }
-    ensures in_store { option_map (λ v. seen_in store.now.bases.present v.now) result ≡ value_at (datum key.now) (entries_seen store.now.bases.present big.now) }
+    ensures in_store { option_map (λ v. seen_in store.now.bases.present v.now) result ≡ value_seen_at store.now.bases.present key.now big.now }
 {
     get(store, big, key)
 }
@@ -80,7 +80,7 @@ fn put(
     requires entries { AreEntries (entries_seen store.now.bases.present big.old) }
     requires plain { is_plain (seen_in store.now.bases.present value) ≡ true }
     requires shows { (vs : List Value) → ShowsTickets (sight store.now.bases.present) vs }
-    ensures old { IfOk result (λ old. option_map (seen_in store.now.bases.present) old ≡ value_at (datum key) (entries_seen store.now.bases.present big.old)) }
+    ensures old { IfOk result (λ old. option_map (seen_in store.now.bases.present) old ≡ value_seen_at store.now.bases.present key big.old) }
     ensures new { OnOk result (entries_seen store.now.bases.present big.new ≡ entries_with store.now.bases.present key value big.old) }
     ensures base { carries (val value) ≡ false → (out-BigMap big.new).base ≡ (out-BigMap big.old).base }
 {
@@ -98,7 +98,7 @@ fn take(
 ) -> Result<Option<Value>, Memory>
     requires entries { AreEntries (entries_seen store.now.bases.present big.old) }
     requires shows { (vs : List Value) → ShowsTickets (sight store.now.bases.present) vs }
-    ensures old { IfOk result (λ old. option_map (seen_in store.now.bases.present) old ≡ value_at (datum key.now) (entries_seen store.now.bases.present big.old)) }
+    ensures old { IfOk result (λ old. option_map (seen_in store.now.bases.present) old ≡ value_seen_at store.now.bases.present key.now big.old) }
     ensures new { OnOk result (entries_seen store.now.bases.present big.new ≡ without_key (datum key.now) (entries_seen store.now.bases.present big.old)) }
 {
     let old = erase(alloc, store, big, key)?;
@@ -116,7 +116,7 @@ pub(crate) fn exchanged(
     requires entries { AreEntries (entries_seen store.now.bases.present big.old) }
     requires shows { (vs : List Value) → ShowsTickets (sight store.now.bases.present) vs }
     requires plain { IfSome new (λ v. is_plain (seen_in store.now.bases.present v) ≡ true) }
-    ensures old { IfOk result (λ old. option_map (seen_in store.now.bases.present) old ≡ value_at (datum key) (entries_seen store.now.bases.present big.old)) }
+    ensures old { IfOk result (λ old. option_map (seen_in store.now.bases.present) old ≡ value_seen_at store.now.bases.present key big.old) }
     ensures new { OnOk result (entries_seen store.now.bases.present big.new ≡ entries_changed store.now.bases.present key new big.old) }
 {
     match new {

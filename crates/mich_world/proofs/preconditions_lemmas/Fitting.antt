@@ -23,7 +23,8 @@ use Rattle.rules_world.specs.world.Runs.{Finished}
 use Rattle.rules_world.specs.world.RunLaws.{amount_returned}
 use Rattle.rules_world.specs.world.Targets.{Target}
 use Rattle.rules_world.specs.world.World.{World as PlainWorld, contract_at as plain_contract_at}
-use Rattle.laws_world.proofs.accounts.ForCallers.{tickets_good, among_positive, burnt_positive, all_found}
+use Rattle.laws_world.proofs.accounts.ForCallers.{among_positive, burnt_positive, all_found}
+use Rattle.laws_code.proofs.stacks.ForCallers.{tickets_good}
 use Rattle.laws_world.specs.runs.RunEnds.{IsFinished}
 use Rattle.laws_world.proofs.runs.ForCallers.{operation_good}
 use Rattle.mich_bigmap.specs.Bases.{Bases}

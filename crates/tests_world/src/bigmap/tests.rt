@@ -6,7 +6,7 @@ ghost use Rattle.mich_bigmap.specs.Formed.{IsFormed};
 use crate::support::{Recorder, empty, identity};
 use mich_base::{Link, Memory, Rows};
 use mich_bigmap::{Store, flat, get, put, release, settle, take};
-use mich_term::{BigMap, Datum, Ticket, Value, abandon, shadow};
+use mich_term::{BigMap, Datum, Table, Ticket, Value, abandon, shadow};
 use std::alloc::Global;
 use std::test::Fail;
 
@@ -154,8 +154,8 @@ fn tickets(alloc: Global, amount: i128) -> Result<Value, Memory> {
 
 // A big map of its own with 5 tickets at 1.
 fn of_tickets(alloc: Global) -> Result<BigMap, Memory> {
-    let mut overlay = Rows::new(alloc);
-    overlay.push((Datum::Number(1), Some(tickets(alloc, 5)?)))?;
+    let mut overlay = Table::new(alloc);
+    overlay.insert(Datum::Number(1), Some(tickets(alloc, 5)?))?;
     Ok(BigMap {
         base: None,
         overlay,

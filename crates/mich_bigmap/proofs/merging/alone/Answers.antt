@@ -1,11 +1,23 @@
-use Rattle.std.proofs.Common.{List, ap, ◌∙◌}
+use Rattle.std.proofs.Common.{List, refl, sym, ap, ◌∙◌}
 use Rattle.rules_data.specs.big_maps.Changes.{changed}
 use Rattle.mich_term.specs.ValueView.{pairs}
 use Rattle.mich_term.specs.declared.datum.Datum.{Datum}
 use Rattle.mich_term.specs.declared.value.Value.{Value}
 use Rattle.mich_bigmap.specs.Bases.{seen}
 use Rattle.mich_bigmap.proofs.Overwriting.{put_entries, put_increasing, put_puts}
+use Rattle.mich_bigmap.proofs.Plain.{alone_is}
+use Rattle.mich_bigmap.proofs.Putting.{all_put}
 use Rattle.mich_bigmap.proofs.merging.alone.Goals as goal
+
+-- they are left as they are
+pub returns-then-only_put : goal.returns-then-only_put
+returns-then-only_put c =
+    let all = all_put c.args.changes (sym c.only_put.ensures.only ∙ c.if-only_put.true) in
+    record {
+      entries = refl;
+      increasing = c.only_put.ensures.increasing;
+      puts = sym (alone_is c.args.changes all c.only_put.ensures.increasing);
+    }
 
 pub returns : goal.returns
 returns c =

@@ -1,7 +1,8 @@
-use Rattle.std.proofs.Common.{◌≡◌, ◌++◌, drop, map, reverse, take}
+use Rattle.std.proofs.Common.{◌≡◌, ◌++◌, map, reverse, take}
 use Rattle.std.specs.Map.Iter.{deref_pair}
 use Rattle.mich_base.specs.View.{tree}
 use Rattle.mich_term.specs.ValueView.{vals, pairs, put_pairs, big_pairs}
+use Rattle.mich_term.specs.declared.value.BigMap.{out-BigMap}
 use Rattle.mich_data.specs.Written.{element_trees, entry_trees}
 use Rattle.mich_data.proofs.writing.+write.Given as goal
 
@@ -15,4 +16,7 @@ invariant-table_node-loop-key l = record {
 }
 
 abbrev pub invariant-big_node-loop-key : goal.invariant-big_node-loop-key
-invariant-big_node-loop-key l = map tree l.nodes ++ entry_trees (put_pairs (drop l.key-index l.key-items)) ≡ entry_trees (big_pairs l.big)
+invariant-big_node-loop-key l = record {
+  written : map tree l.nodes ++ entry_trees (put_pairs l.key-iterator) ≡ entry_trees (big_pairs l.big);
+  place : map deref_pair l.yielded ++ l.key-iterator ≡ (out-BigMap l.big).overlay;
+}

@@ -1,6 +1,5 @@
 -- The tickets of the value that an entry puts are told before those of the entries behind it.
 use Rattle.std.proofs.Common.{rules, ◌≡◌, List, [], ◌∷◌, ◌++◌, append_assoc, subst, sym, ap, ◌∙◌}
-use Rattle.std.specs.Vec.Iter.{into_iter_items}
 use Rattle.rules_data.specs.values.Tickets.{Held, tickets, pair_tickets}
 use Rattle.mich_term.specs.ValueView.{val, put_pairs}
 use Rattle.mich_term.proofs.Overlays.{put_tickets}
@@ -10,8 +9,8 @@ pub discard_big-loop-key-preserved : goal.discard_big-loop-key-preserved
 discard_big-loop-key-preserved g t c =
     let told = g.B.Burner.told in
     let ready = g.B.Burner.ready in
-    let iter = into_iter_items c.loop-key.key-iterator in
-    let rest = into_iter_items c.next.new.self in
+    let iter = c.loop-key.key-iterator in
+    let rest = c.next.new.self in
     let here = tickets (val c.in-Some-change.value) in
     let behind = pair_tickets (put_pairs rest) in
     let first : iter ≡ (c.in-Some.key, c.in-Some.change) ∷ rest = search rules in

@@ -27,10 +27,10 @@ invariant-discard_table-loop-value g l =
 
 abbrev pub invariant-discard_big-loop-key : goal.invariant-discard_big-loop-key
 invariant-discard_big-loop-key g l =
-    let left = pair_tickets (put_pairs (into_iter_items l.key-iterator)) in
+    let left = pair_tickets (put_pairs l.key-iterator) in
     record {
       told : g.B.Burner.told l.burner ++ left ≡ g.B.Burner.told l.fn.burner ++ pair_tickets (big_pairs l.fn.big);
       ready : g.B.Burner.ready l.burner left;
       stays : (m : List Held) → g.B.Burner.ready l.fn.burner (pair_tickets (big_pairs l.fn.big) ++ m) → g.B.Burner.ready l.burner (left ++ m);
-      place : l.yielded ++ into_iter_items l.key-iterator ≡ (out-BigMap l.fn.big).overlay;
+      place : l.yielded ++ l.key-iterator ≡ (out-BigMap l.fn.big).overlay;
     }

@@ -1,7 +1,8 @@
-use Rattle.std.proofs.Common.{◌≡◌, ◌++◌, drop, reverse, take, map}
+use Rattle.std.proofs.Common.{◌≡◌, ◌++◌, reverse, take, map}
 use Rattle.std.specs.Prelude.{◌||◌}
 use Rattle.std.specs.Map.Iter.{deref_pair}
 use Rattle.mich_term.specs.Holding.{any_carries, any_entry_carries}
+use Rattle.mich_term.specs.declared.value.BigMap.{out-BigMap}
 use Rattle.mich_term.specs.ValueView.{vals, pairs, put_pairs, big_pairs}
 use Rattle.mich_term.proofs.holding.+carrying.Given as goal
 
@@ -15,5 +16,7 @@ invariant-table_carries-loop-key l = record {
 }
 
 abbrev pub invariant-puts_ticket-loop-key : goal.invariant-puts_ticket-loop-key
-invariant-puts_ticket-loop-key l =
-    (l.found || any_entry_carries (put_pairs (drop l.key-index l.key-items))) ≡ any_entry_carries (big_pairs l.big)
+invariant-puts_ticket-loop-key l = record {
+  same : (l.found || any_entry_carries (put_pairs l.key-iterator)) ≡ any_entry_carries (big_pairs l.big);
+  place : map deref_pair l.yielded ++ l.key-iterator ≡ (out-BigMap l.big).overlay;
+}

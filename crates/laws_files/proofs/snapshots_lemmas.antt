@@ -1,0 +1,12 @@
+pub mod ContentTypes
+pub mod Fields
+pub mod Fitting
+pub mod Gives
+pub mod GivesParts
+pub mod Loads
+pub mod Made
+pub mod MadeParts
+pub mod Parts
+pub mod Sixteen
+pub mod Sorted
+pub mod Values
