@@ -10,6 +10,7 @@ ghost use Rattle.mich_interpreter.specs.Ends.{Comes, Carries, Spends};
 ghost use Rattle.mich_interpreter.specs.Calls.{capturing};
 
 use crate::act::{Act, Failed};
+use crate::applied::applied_body;
 use crate::calls::pop_lambda;
 use crate::paying::pay_capped;
 use crate::stack::{pop, push};
@@ -115,7 +116,16 @@ pub(crate) fn act_apply(
         return Ok(Act::Failed(Failed::OutOfGas));
     }
     let (body, recursive) = pop_lambda(&mut m.stack);
-    let made = applied_node(alloc, captured, rest, ret, &value, body.get(), recursive)?;
+    let literal = value_node(alloc, &value)?;
+    let made = applied_node(
+        alloc,
+        captured,
+        rest,
+        ret,
+        &value,
+        body.get().node(),
+        recursive,
+    )?;
     if !size_within(&made, APPLIED_SIZE) {
         return Ok(Act::Failed(Failed::SizeLimit));
     }
@@ -123,6 +133,17 @@ pub(crate) fn act_apply(
         return Ok(Act::Failed(Failed::DepthLimit));
     }
     let shared = Shared::new(alloc, made)?;
-    push(&mut m.stack, Value::Lambda(shared, false))?;
+    let taken = applied_body(
+        alloc,
+        captured,
+        rest,
+        ret,
+        &value,
+        &literal,
+        body.get(),
+        recursive,
+        shared,
+    )?;
+    push(&mut m.stack, Value::Lambda(taken, false))?;
     Ok(Act::On)
 }

@@ -27,13 +27,10 @@ use Rattle.mich_base.specs.declared.ty.Ty.{Ty}
 use Rattle.mich_base.specs.TypeView.{kind}
 use Rattle.mich_base.specs.View.{tree, trees}
 use Rattle.mich_check.specs.Pending.{IsFaulty, IsRead, called_fault, item_fault, moved}
-use Rattle.mich_check.proofs.PushTyping.{called_item, items_fault, push_made}
+use Rattle.mich_check.proofs.PushTyping.{called_item, items_fault, push_goes}
 use Rattle.mich_data.specs.View.{pending, all_pending}
 use Rattle.mich_data.specs.declared.pending.Pending.{Pending as Item}
 use Rattle.mich_data.specs.declared.pending.Pending.TheVariants as item
-use Rattle.mich_instr.specs.Code.{Code}
-use Rattle.mich_instr.specs.Code as made
-use Rattle.mich_instr.specs.Plain.{bare}
 use Rattle.mich_instr.specs.Typed.{HasForm}
 use Rattle.mich_outline.proofs.ForCallers.{argument_from}
 use Rattle.mich_control.specs.Answers.{typing, ends_in, inside, IsFault}
@@ -220,9 +217,9 @@ module _ (at : ℕ) (c : Context) (name : List ℕ) (annots : List (List ℕ)) (
       ∙ ap (λ e. of_blocks (tellers ts (at + 1)) (literal_blocks e)) reads_there
       ∙ pending_told ts at ps (second (tree v) (tree w) ps (bodies_stand a (1 + size (tree v)) (tree w) x ps reads_there))
 
-  pub push_told : (old new : Told) → (moved at (fault_of_bodies ps) ≡ None) × Adds old new (pending_entries at ps) → (o : Option (List Ty)) (j : Code) →
-      typing o ≡ goes (a ∷ S) → j ≡ made.push a (bare (tree v)) (tree w) → FollowsApp at c name annots (trees ns) S old new (Ok o)
-  push_told old new h o j g m = (
-    (push_made at c name annots ns S form v w two a q of there x ps reads o j h.0 g m).0,
+  pub push_told : (old new : Told) → (moved at (fault_of_bodies ps) ≡ None) × Adds old new (pending_entries at ps) → (o : Option (List Ty)) →
+      typing o ≡ goes (a ∷ S) → FollowsApp at c name annots (trees ns) S old new (Ok o)
+  push_told old new h o g = (
+    push_goes at c name annots ns S form v w two a q of there x ps reads o h.0 g,
     subst (Adds old new) (sym entries_are) h.1,
   )

@@ -64,7 +64,7 @@ pub(crate) fn tell_push(
     let ty = type_with(alloc, Attribute::Pushable, written, at + 1)?;
     let pending = pending_of(alloc, &ty, literal, behind(written, 1), at)?;
     tell_pending(alloc, &pending, at, told)?;
-    let made = push_made(alloc, ty, written, literal, types)?;
+    let made = push_made(alloc, ty, written, literal, Rows::new(alloc), types)?;
     Ok(made.after)
 }
 

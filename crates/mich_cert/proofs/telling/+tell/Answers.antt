@@ -256,7 +256,7 @@ pub literals::tell_push-returns : goal.literals::tell_push-returns
 literals::tell_push-returns t c =
     let r = c.in_ok-pending.ensures.read in
     let m = c.in_ok-made.ensures in
-    push_told _ _ _ _ _ _ c.requires.form _ _ c.in-Some.ensures _ _ c.in_ok-ty.ensures c.behind.ensures r.0 _ r.1 _ _ c.in_ok-tell_pending.ensures _ _ m.after m.code
+    push_told _ _ _ _ _ _ c.requires.form _ _ c.in-Some.ensures _ _ c.in_ok-ty.ensures c.behind.ensures r.0 _ r.1 _ _ c.in_ok-tell_pending.ensures _ m.after
 
 pub literals::tell_pending-returns-in_err-tell_item : goal.literals::tell_pending-returns-in_err-tell_item
 literals::tell_pending-returns-in_err-tell_item t c =

@@ -1,5 +1,15 @@
+use Rattle.std.proofs.Common.{sym, ap, ◌∙◌, subst}
+use Rattle.std.specs.Prelude.{Some}
+use Rattle.rules_data.specs.types.Kind.{Kind}
+use Rattle.rules_data.specs.types.Kind as k
+use Rattle.rules_code.specs.evaluation.Given.{value_of}
 use Rattle.mich_base.specs.TypeView.{kind}
 use Rattle.mich_base.specs.View.{tree}
+use Rattle.mich_instr.specs.View.{codes}
+use Rattle.mich_check.proofs.HeldTyping.{all_held}
+use Rattle.mich_interpreter.specs.Literals.{HoldsLiteral}
+use Rattle.mich_interpreter.proofs.Held.{kind_lambda, literal_of}
+use Rattle.mich_interpreter.proofs.Located.{value_there}
 use Rattle.mich_interpreter.proofs.Pushed.{pushed_is, simple_is}
 use Rattle.mich_interpreter.proofs.Spelled.{simple_there}
 use Rattle.mich_interpreter.proofs.giving.literal_value.Goals as goal
@@ -10,6 +20,30 @@ simple_literal-requires c = simple_there c.in-Some.simple (kind c.args.ty.now) (
 pub returns-in-Some : goal.returns-in-Some
 returns-in-Some c = λ big at.
     simple_is c.in-Some.simple (kind c.args.ty.now) (tree c.args.literal.now) c.in_ok-value.value c.in-Some.ensures c.requires.pushed c.in_ok-value.ensures.value c.in_ok-value.ensures.simple big at
+
+pub only_lambda-requires : goal.only_lambda-requires
+only_lambda-requires c =
+    let l = c.requires.lambdas in
+    let a = kind c.get-in-Lambda.result.now in
+    let r = kind c.get-in-Lambda-2.result.now in
+    let same = ap kind c.in-Lambda.is ∙ kind_lambda c.in-Lambda.arg c.in-Lambda.ret ∙ sym (λ i. k.lambda (kind (c.get-in-Lambda.ensures i)) (kind (c.get-in-Lambda-2.ensures i))) in (
+      l.1,
+      literal_of a r l.0 (tree c.args.literal.now) (codes c.args.lambdas.now)
+          (subst (λ (b : Kind). HoldsLiteral l.0 b (tree c.args.literal.now) (codes c.args.lambdas.now)) same (l.1, l.2, l.3, l.4)),
+    )
+
+pub returns-in-Lambda : goal.returns-in-Lambda
+returns-in-Lambda c = λ big at.
+    let l = c.requires.lambdas in
+    let a = kind c.get-in-Lambda.result.now in
+    let r = kind c.get-in-Lambda-2.result.now in
+    let same = ap kind c.in-Lambda.is ∙ kind_lambda c.in-Lambda.arg c.in-Lambda.ret ∙ sym (λ i. k.lambda (kind (c.get-in-Lambda.ensures i)) (kind (c.get-in-Lambda-2.ensures i))) in
+    let is = literal_of a r l.0 (tree c.args.literal.now) (codes c.args.lambdas.now)
+    (subst (λ (b : Kind). HoldsLiteral l.0 b (tree c.args.literal.now) (codes c.args.lambdas.now)) same (l.1, l.2, l.3, l.4)) in
+    value_there (kind c.args.ty.now) at l.0 (tree c.args.literal.now) ∙ ap value_of l.3 ∙ ap Some (sym (c.only_lambda.ensures l.1 is big))
+
+pub held_bodies-requires : goal.held_bodies-requires
+held_bodies-requires c = all_held _ _ c.requires.lambdas.4
 
 pub returns-in-Ok : goal.returns-in-Ok
 returns-in-Ok c = λ big at.

@@ -6,7 +6,7 @@ use Rattle.mich_data.specs.Answers.{IsFault}
 use Rattle.mich_data.specs.View.{all_pending}
 use Rattle.mich_data.proofs.Formed.{formed}
 use Rattle.mich_data.proofs.Steps.{with_nothing}
-use Rattle.mich_data.proofs.reading.read_value_at.Goals as goal
+use Rattle.mich_data.proofs.reading.read_value_with.Goals as goal
 
 pub returns-in_err-value-clause-literal : goal.returns-in_err-value-clause-literal
 returns-in_err-value-clause-literal c =

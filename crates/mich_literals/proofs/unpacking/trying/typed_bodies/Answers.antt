@@ -7,7 +7,7 @@ use Rattle.mich_data.specs.View.{all_pending}
 use Rattle.mich_data.specs.declared.pending.Pending.{Pending}
 use Rattle.mich_literals.specs.unpacking.Pending.{AreBodies}
 use Rattle.mich_literals.proofs.unpacking_lemmas.Items.{bodies_here, passes_on, fails_here, all_passed}
-use Rattle.mich_literals.proofs.unpacking.trying.all_pass.Goals as goal
+use Rattle.mich_literals.proofs.unpacking.trying.typed_bodies.Goals as goal
 
 pub loop-item-init : goal.loop-item-init
 loop-item-init c =

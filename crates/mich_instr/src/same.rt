@@ -25,9 +25,9 @@ fn same_texts(a: &Texts, b: &Texts) -> bool
     true
 }
 
-// Whether two nodes are equal, with their annotations.
+/// Whether two nodes are equal, with their annotations; takes no memory. Equal ones may be taken for different.
 #[cycle(same)]
-pub(crate) fn same_node(a: &Node, b: &Node) -> bool
+pub fn same_node(a: &Node, b: &Node) -> bool
     ensures { IsTrue result → a.now ≡ b.now }
 {
     match a {

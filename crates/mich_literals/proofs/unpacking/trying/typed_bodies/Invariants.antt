@@ -4,7 +4,7 @@ use Rattle.std.specs.Vec.Iter.{into_iter_items}
 use Rattle.rules_code.specs.typing.Literals.{fault_of_bodies}
 use Rattle.mich_data.specs.View.{all_pending}
 use Rattle.mich_literals.specs.unpacking.Pending.{AreBodies}
-use Rattle.mich_literals.proofs.unpacking.trying.all_pass.Given as goal
+use Rattle.mich_literals.proofs.unpacking.trying.typed_bodies.Given as goal
 
 abbrev pub invariant-loop-item : goal.invariant-loop-item
 invariant-loop-item l = record {

@@ -1,7 +1,7 @@
 // Operations that were issued.
-use crate::instr::Script;
 use mich_base::{Shared, Text, Ty};
 use mich_forms::{Address, KeyHash};
+use mich_instr::Script;
 use mich_term::Value;
 
 /// An operation that code issued, with its number: how many were issued before it in its group (Octez "operations",

@@ -6,8 +6,8 @@ use Rattle.mich_base.specs.TypeView.{kind}
 use Rattle.mich_forms.specs.Spelled.{address_bytes}
 use Rattle.mich_term.specs.ValueView.{val}
 use Rattle.mich_instr.specs.View.{script_node}
-use Rattle.mich_instr.specs.declared.issued.Issued.{Issued}
-use Rattle.mich_instr.specs.declared.issued.Issued.TheVariants as i
+use Rattle.mich_ops.specs.declared.issued.Issued.{Issued}
+use Rattle.mich_ops.specs.declared.issued.Issued.TheVariants as i
 
 abbrev pub numbered : ℕ → Operation → rules.Issued
 numbered n operation = record { number = n; operation = operation }
