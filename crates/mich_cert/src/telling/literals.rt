@@ -120,7 +120,8 @@ fn tell_called(
     ensures { Confirms (called_fault at (kind arg.now) (kind ret.now) recursive (tree node.now)) (called_entries at (kind arg.now) (kind ret.now) recursive (tree node.now)) told.old told.new result }
 {
     let types = call_types(alloc, arg, ret, recursive)?;
-    let after = tell_body(alloc, node, at, Place::Lambda, types, told)?;
+    let mut end = at;
+    let after = tell_body(alloc, node, at, Place::Lambda, types, told, &mut end)?;
     let ends = only(alloc, ret)?;
     if !ends_in(&after, &ends) {
         return Err(CheckError::IllTyped(at));
