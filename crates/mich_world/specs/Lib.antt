@@ -6,6 +6,7 @@ pub mod Kept
 pub mod Laws
 pub mod Lending
 pub mod Marks
+pub mod Restoring
 pub mod Standing
 pub mod Storages
 pub mod World

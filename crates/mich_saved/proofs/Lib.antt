@@ -1,0 +1,11 @@
+pub mod Cuts
+pub mod Fronts
+pub mod Gathered
+pub mod Levels
+pub mod Lines
+pub mod Links
+pub mod Nothings
+pub mod Passes
+pub mod Placed
+pub mod Storages
+pub mod Writings

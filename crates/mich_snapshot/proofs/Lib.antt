@@ -1,0 +1,4 @@
+pub mod Faults
+pub mod KeptHeads
+pub mod Leaves
+pub mod Scripts
