@@ -7,7 +7,7 @@ use Rattle.std.proofs.lemmas.Bool.Decides.{Decides-eqb}
 use Rattle.std.specs.Ordering.{is_eq}
 use Rattle.rules_text.specs.nodes.Tree.{Tree, int, str, bytes, prim, seq, more}
 use Rattle.rules_text.specs.text.Printed.{printed}
-use Rattle.rules_data.specs.values.Val.{Val, is_comparable}
+use Rattle.rules_data.specs.values.Val.{is_comparable}
 use Rattle.rules_data.specs.values.Val as v
 use Rattle.rules_data.specs.values.Canonical.{canonical}
 use Rattle.rules_data.specs.values.Tickets.{Identity}

@@ -1,11 +1,11 @@
 -- The loop over the bodies in a literal, at the places of a slice.
-use Rattle.std.proofs.Common.{◌≡◌, ℕ, suc, ◌+◌, ◌<◌, ◌≤◌, Option, Some, None, List, [], ◌∷◌, drop, length, get_or, sym, ap, ◌∙◌, subst, drop-cons, add-one, arith}
+use Rattle.std.proofs.Common.{◌≡◌, ℕ, ◌+◌, ◌<◌, ◌≤◌, Option, Some, None, List, drop, length, get_or, sym, ap, ◌∙◌}
 use Rattle.std.specs.Prelude.{option_and_then}
 use Rattle.std.proofs.lemmas.List.{drop_all}
 use Rattle.rules_text.specs.nodes.Tree.{Tree, size}
 use Rattle.rules_data.specs.types.Kind.{Kind}
 use Rattle.rules_data.specs.values.Val.{Val}
-use Rattle.rules_data.specs.values.Literals.{Pending, body, claim, Literal, good, bad, read}
+use Rattle.rules_data.specs.values.Literals.{Pending, Literal, good, bad, read}
 use Rattle.rules_code.specs.certificates.Derivation.{Entry}
 use Rattle.mich_data.specs.View.{pending, all_pending}
 use Rattle.mich_data.specs.declared.pending.Pending.{Pending as Item}

@@ -1,5 +1,5 @@
 // The walk over the bodies of an instruction, by its form.
-ghost use Rattle.std.specs.Prelude.{◌≡◌, ◌+◌, ◌<◌, ◌^◌, IfOk, option_map};
+ghost use Rattle.std.specs.Prelude.{◌≡◌, ◌+◌, ◌<◌, ◌^◌, IfOk, IfSome, option_map};
 ghost use Rattle.rules_text.specs.nodes.Tree.{size, sizes};
 ghost use Rattle.mich_base.specs.TypeView.{kind};
 ghost use Rattle.mich_base.specs.View.{tree, trees};
@@ -15,7 +15,6 @@ use crate::table::{begins, branch_begins, leaves, mapped, written};
 use crate::told::{Place, is_end, joined, loop_ends, told};
 use crate::words::same_types;
 use mich_base::{Memory, Node, Nodes, Primitive, Ty};
-use mich_types::behind;
 use std::alloc::Global;
 
 #[cycle(follow)]
@@ -28,14 +27,16 @@ pub(crate) fn branch<'e>(
     place: Place<'_>,
     before: &[Ty],
     entries: &'e [Entry],
+    end: &mut u32,
 ) -> Result<Option<&'e [Entry]>, Memory>
     requires { at + size (tree one.now) + size (tree other.now) < 2 ^ 32 }
-    ensures { IfOk result (λ r. entries_past r ≡ branch_walk primitive (tree one.now) (tree other.now) at (context place.entry) (kinds before.now) (all_entries entries.now)) }
+    ensures walked { IfOk result (λ r. entries_past r ≡ branch_walk primitive (tree one.now) (tree other.now) at (context place.entry) (kinds before.now) (all_entries entries.now)) }
+    ensures ends { IfOk result (λ r. IfSome r (λ _. end.new ≡ at + size (tree one.now) + size (tree other.now))) }
 {
-    let Some(first) = body(alloc, one, at, place, entries)? else {
+    let Some(first) = body(alloc, one, at, place, entries, end)? else {
         return Ok(None);
     };
-    let Some(second) = body(alloc, other, behind(one, at), place, first.rest)? else {
+    let Some(second) = body(alloc, other, *end, place, first.rest, end)? else {
         return Ok(None);
     };
     if branch_begins(primitive, before, first.begins, second.begins)
@@ -56,11 +57,13 @@ pub(crate) fn turning<'e>(
     place: Place<'_>,
     before: &[Ty],
     entries: &'e [Entry],
+    end: &mut u32,
 ) -> Result<Option<&'e [Entry]>, Memory>
     requires { at + size (tree node.now) < 2 ^ 32 }
-    ensures { IfOk result (λ r. entries_past r ≡ loop_walk primitive (tree node.now) at (context place.entry) (kinds before.now) (all_entries entries.now)) }
+    ensures walked { IfOk result (λ r. entries_past r ≡ loop_walk primitive (tree node.now) at (context place.entry) (kinds before.now) (all_entries entries.now)) }
+    ensures ends { IfOk result (λ r. IfSome r (λ _. end.new ≡ at + size (tree node.now))) }
 {
-    let Some(inner) = body(alloc, node, at, place, entries)? else {
+    let Some(inner) = body(alloc, node, at, place, entries, end)? else {
         return Ok(None);
     };
     let Some(after) = told(inner.rest) else {
@@ -85,11 +88,13 @@ pub(crate) fn dip<'e>(
     place: Place<'_>,
     before: &[Ty],
     entries: &'e [Entry],
+    end: &mut u32,
 ) -> Result<Option<&'e [Entry]>, Memory>
     requires { at + size (tree node.now) < 2 ^ 32 }
-    ensures { IfOk result (λ r. entries_past r ≡ dip_walk count (tree node.now) at (context place.entry) (kinds before.now) (all_entries entries.now)) }
+    ensures walked { IfOk result (λ r. entries_past r ≡ dip_walk count (tree node.now) at (context place.entry) (kinds before.now) (all_entries entries.now)) }
+    ensures ends { IfOk result (λ r. IfSome r (λ _. end.new ≡ at + size (tree node.now))) }
 {
-    let Some(inner) = body(alloc, node, at, place, entries)? else {
+    let Some(inner) = body(alloc, node, at, place, entries, end)? else {
         return Ok(None);
     };
     let Some(ends) = inner.ends else {
@@ -113,11 +118,13 @@ pub(crate) fn map<'e>(
     place: Place<'_>,
     before: &[Ty],
     entries: &'e [Entry],
+    end: &mut u32,
 ) -> Result<Option<&'e [Entry]>, Memory>
     requires { at + size (tree node.now) < 2 ^ 32 }
-    ensures { IfOk result (λ r. entries_past r ≡ map_walk (tree node.now) at (context place.entry) (kinds before.now) (all_entries entries.now)) }
+    ensures walked { IfOk result (λ r. entries_past r ≡ map_walk (tree node.now) at (context place.entry) (kinds before.now) (all_entries entries.now)) }
+    ensures ends { IfOk result (λ r. IfSome r (λ _. end.new ≡ at + size (tree node.now))) }
 {
-    let Some(inner) = body(alloc, node, at, place, entries)? else {
+    let Some(inner) = body(alloc, node, at, place, entries, end)? else {
         return Ok(None);
     };
     let Some(ends) = inner.ends else {
@@ -142,11 +149,13 @@ pub(crate) fn sequence<'e>(
     place: Place<'_>,
     before: &[Ty],
     entries: &'e [Entry],
+    end: &mut u32,
 ) -> Result<Option<&'e [Entry]>, Memory>
     requires { at + 1 + sizes (trees nodes.now) < 2 ^ 32 }
-    ensures { IfOk result (λ r. entries_past r ≡ sequence_walk (trees nodes.now) at (context place.entry) (kinds before.now) (all_entries entries.now)) }
+    ensures walked { IfOk result (λ r. entries_past r ≡ sequence_walk (trees nodes.now) at (context place.entry) (kinds before.now) (all_entries entries.now)) }
+    ensures ends { IfOk result (λ r. IfSome r (λ _. end.new ≡ at + (sizes (trees nodes.now) + 1))) }
 {
-    let Some(inner) = block(alloc, nodes, at, place, entries)? else {
+    let Some(inner) = block(alloc, nodes, at, place, entries, end)? else {
         return Ok(None);
     };
     if same_types(before, inner.begins) && is_end(inner.ends, told(inner.rest)) {
@@ -167,11 +176,13 @@ pub(crate) fn lambda<'e>(
     at: u32,
     before: &[Ty],
     entries: &'e [Entry],
+    end: &mut u32,
 ) -> Result<Option<&'e [Entry]>, Memory>
     requires { at + size (tree node.now) < 2 ^ 32 }
-    ensures { IfOk result (λ r. entries_past r ≡ lambda_walk recursive (kind arg.now) (kind ret.now) (tree node.now) at (kinds before.now) (all_entries entries.now)) }
+    ensures walked { IfOk result (λ r. entries_past r ≡ lambda_walk recursive (kind arg.now) (kind ret.now) (tree node.now) at (kinds before.now) (all_entries entries.now)) }
+    ensures ends { IfOk result (λ r. IfSome r (λ _. end.new ≡ at + size (tree node.now))) }
 {
-    let Some(inner) = body(alloc, node, at, Place::Lambda, entries)? else {
+    let Some(inner) = body(alloc, node, at, Place::Lambda, entries, end)? else {
         return Ok(None);
     };
     let Some(after) = told(inner.rest) else {

@@ -150,7 +150,8 @@ fn called<'e>(
     requires { at + size (tree node.now) < 2 ^ 32 }
     ensures { IfOk result (λ r. entries_past r ≡ called_walk recursive (kind arg.now) (kind ret.now) (tree node.now) at (all_entries entries.now)) }
 {
-    let Some(inner) = body(alloc, node, at, Place::Lambda, entries)? else {
+    let mut end = at;
+    let Some(inner) = body(alloc, node, at, Place::Lambda, entries, &mut end)? else {
         return Ok(None);
     };
     if call_begins(recursive, arg, ret, inner.begins) && call_ends(arg, ret, inner.ends) {

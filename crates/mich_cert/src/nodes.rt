@@ -1,5 +1,5 @@
 // The walk over the entries of a certificate.
-ghost use Rattle.std.specs.Prelude.{◌≡◌, ◌+◌, ◌<◌, ◌^◌, IfOk, Some, false, option_map};
+ghost use Rattle.std.specs.Prelude.{◌≡◌, ◌+◌, ◌<◌, ◌^◌, IfOk, IfSome, Some, false, option_map};
 ghost use Rattle.rules_text.specs.nodes.Primitives.{primitive_of_name};
 ghost use Rattle.rules_text.specs.nodes.Tree.{size, sizes};
 ghost use Rattle.mich_base.specs.View.{tree, trees};
@@ -18,10 +18,10 @@ use crate::scripts::creates;
 use crate::told::{Confirmed, Ended, Place, last_entry, own_entry, tells_none, told};
 use crate::way::{Way, way_of};
 use mich_base::{App, COUNT_LIMIT, Memory, Node, Nodes, Primitive, Ty, primitive_of_name};
-use mich_types::behind;
+use mich_types::{behind, behind_all};
 use std::alloc::Global;
 
-// The rest of a block whose entries begin with those of its instructions.
+// The rest of a block whose entries begin with those of its instructions; `end` becomes the location behind the block.
 #[cycle(follow)]
 fn rest<'e>(
     alloc: Global,
@@ -29,9 +29,11 @@ fn rest<'e>(
     at: u32,
     place: Place<'_>,
     entries: &'e [Entry],
+    end: &mut u32,
 ) -> Result<Option<Ended<'e>>, Memory>
     requires { at + 1 + sizes (trees nodes.now) < 2 ^ 32 }
-    ensures { IfOk result (λ r. option_map ended_of r ≡ rest_of (trees nodes.now) at (at + 1) (context place.entry) false (all_entries entries.now)) }
+    ensures walked { IfOk result (λ r. option_map ended_of r ≡ rest_of (trees nodes.now) at (at + 1) (context place.entry) false (all_entries entries.now)) }
+    ensures ends { IfOk result (λ r. IfSome r (λ _. end.new ≡ at + (sizes (trees nodes.now) + 1))) }
 {
     let mut left = entries;
     let mut fails = false;
@@ -43,13 +45,14 @@ fn rest<'e>(
         let Some((before, inner)) = own_entry(next, left) else {
             return Ok(None);
         };
-        let Some(past) = instruction(alloc, node, next, place, before, inner)? else {
+        let here = next;
+        let Some(past) = instruction(alloc, node, here, place, before, inner, &mut next)? else {
             return Ok(None);
         };
         left = past;
         fails = tells_none(left);
-        next = behind(node, next);
     }
+    *end = next;
     Ok(last_entry(at, fails, left))
 }
 
@@ -60,24 +63,26 @@ pub(crate) fn block<'e>(
     at: u32,
     place: Place<'_>,
     entries: &'e [Entry],
+    end: &mut u32,
 ) -> Result<Option<Confirmed<'e>>, Memory>
     requires { at + 1 + sizes (trees nodes.now) < 2 ^ 32 }
-    ensures { IfOk result (λ r. option_map confirmed_of r ≡ block_of (trees nodes.now) at (context place.entry) (all_entries entries.now)) }
+    ensures walked { IfOk result (λ r. option_map confirmed_of r ≡ block_of (trees nodes.now) at (context place.entry) (all_entries entries.now)) }
+    ensures ends { IfOk result (λ r. IfSome r (λ _. end.new ≡ at + (sizes (trees nodes.now) + 1))) }
 {
     let Some(begins) = told(entries) else {
         return Ok(None);
     };
-    let Some(end) = rest(alloc, nodes, at, place, entries)? else {
+    let Some(ended) = rest(alloc, nodes, at, place, entries, end)? else {
         return Ok(None);
     };
     Ok(Some(Confirmed {
         begins,
-        ends: end.ends,
-        rest: end.rest,
+        ends: ended.ends,
+        rest: ended.rest,
     }))
 }
 
-// The node at a location as a body.
+// The node at a location as a body; `end` becomes the location behind it.
 #[cycle(follow)]
 pub(crate) fn body<'e>(
     alloc: Global,
@@ -85,17 +90,19 @@ pub(crate) fn body<'e>(
     at: u32,
     place: Place<'_>,
     entries: &'e [Entry],
+    end: &mut u32,
 ) -> Result<Option<Confirmed<'e>>, Memory>
     requires { at + size (tree node.now) < 2 ^ 32 }
-    ensures { IfOk result (λ r. option_map confirmed_of r ≡ body_of (tree node.now) at (context place.entry) (all_entries entries.now)) }
+    ensures walked { IfOk result (λ r. option_map confirmed_of r ≡ body_of (tree node.now) at (context place.entry) (all_entries entries.now)) }
+    ensures ends { IfOk result (λ r. IfSome r (λ _. end.new ≡ at + size (tree node.now))) }
 {
     match node {
-        Node::Seq(nodes) => block(alloc, nodes, at, place, entries),
+        Node::Seq(nodes) => block(alloc, nodes, at, place, entries, end),
         _ => Ok(None),
     }
 }
 
-// The instruction of the node at a location.
+// The instruction of the node at a location; `end` becomes the location behind it.
 #[cycle(follow)]
 fn instruction<'e>(
     alloc: Global,
@@ -104,13 +111,15 @@ fn instruction<'e>(
     place: Place<'_>,
     before: &[Ty],
     entries: &'e [Entry],
+    end: &mut u32,
 ) -> Result<Option<&'e [Entry]>, Memory>
     requires { at + size (tree node.now) < 2 ^ 32 }
-    ensures { IfOk result (λ r. entries_past r ≡ step_of (tree node.now) at (context place.entry) (kinds before.now) (all_entries entries.now)) }
+    ensures walked { IfOk result (λ r. entries_past r ≡ step_of (tree node.now) at (context place.entry) (kinds before.now) (all_entries entries.now)) }
+    ensures ends { IfOk result (λ r. IfSome r (λ _. end.new ≡ at + size (tree node.now))) }
 {
     match node {
-        Node::Prim(app) => application(alloc, app, at, place, before, entries),
-        Node::Seq(nodes) => sequence(alloc, nodes, at, place, before, entries),
+        Node::Prim(app) => application(alloc, app, at, place, before, entries, end),
+        Node::Seq(nodes) => sequence(alloc, nodes, at, place, before, entries, end),
         _ => Ok(None),
     }
 }
@@ -123,23 +132,36 @@ fn application<'e>(
     place: Place<'_>,
     before: &[Ty],
     entries: &'e [Entry],
+    end: &mut u32,
 ) -> Result<Option<&'e [Entry]>, Memory>
     requires { at + 1 + sizes (trees app.now.args) < 2 ^ 32 }
-    ensures { IfOk result (λ r. entries_past r ≡ app_walk (primitive_of_name app.now.name) app.now.annots app.now.args at place.entry before.now entries.now) }
+    ensures walked { IfOk result (λ r. entries_past r ≡ app_walk (primitive_of_name app.now.name) app.now.annots app.now.args at place.entry before.now entries.now) }
+    ensures ends { IfOk result (λ r. IfSome r (λ _. end.new ≡ at + (sizes (trees app.now.args) + 1))) }
 {
     let Some(primitive) = primitive_of_name(&app.name) else {
         return Ok(None);
     };
     match way_of(primitive) {
-        Way::Branch => branches(alloc, primitive, app, at, place, before, entries),
-        Way::Turn => turns(alloc, primitive, app, at, place, before, entries),
-        Way::Dip => dips(alloc, primitive, app, at, place, before, entries),
-        Way::Map => maps(alloc, primitive, app, at, place, before, entries),
-        Way::Lambda => lambdas(alloc, false, primitive, app, at, place, before, entries),
-        Way::LambdaRec => lambdas(alloc, true, primitive, app, at, place, before, entries),
-        Way::Push => pushes(alloc, primitive, app, at, place, before, entries),
-        Way::Create => creates(alloc, primitive, app, at, place, before, entries),
-        Way::Bodiless => bodiless(alloc, primitive, app, place, before, entries),
+        Way::Branch => branches(alloc, primitive, app, at, place, before, entries, end),
+        Way::Turn => turns(alloc, primitive, app, at, place, before, entries, end),
+        Way::Dip => dips(alloc, primitive, app, at, place, before, entries, end),
+        Way::Map => maps(alloc, primitive, app, at, place, before, entries, end),
+        Way::Lambda => lambdas(
+            alloc, false, primitive, app, at, place, before, entries, end,
+        ),
+        Way::LambdaRec => lambdas(alloc, true, primitive, app, at, place, before, entries, end),
+        Way::Push => {
+            *end = behind_all(&app.args, at + 1);
+            pushes(alloc, primitive, app, at, place, before, entries)
+        },
+        Way::Create => {
+            *end = behind_all(&app.args, at + 1);
+            creates(alloc, primitive, app, at, place, before, entries)
+        },
+        Way::Bodiless => {
+            *end = behind_all(&app.args, at + 1);
+            bodiless(alloc, primitive, app, place, before, entries)
+        },
     }
 }
 
@@ -153,15 +175,27 @@ fn branches<'e>(
     place: Place<'_>,
     before: &[Ty],
     entries: &'e [Entry],
+    end: &mut u32,
 ) -> Result<Option<&'e [Entry]>, Memory>
     requires fits { at + 1 + sizes (trees app.now.args) < 2 ^ 32 }
     requires way { way_of primitive ≡ way.Branch }
-    ensures { IfOk result (λ r. entries_past r ≡ app_walk (Some primitive) app.now.annots app.now.args at place.entry before.now entries.now) }
+    ensures walked { IfOk result (λ r. entries_past r ≡ app_walk (Some primitive) app.now.annots app.now.args at place.entry before.now entries.now) }
+    ensures ends { IfOk result (λ r. IfSome r (λ _. end.new ≡ at + (sizes (trees app.now.args) + 1))) }
 {
     let Some((one, other)) = app.args.both() else {
         return Ok(None);
     };
-    branch(alloc, primitive, one, other, at + 1, place, before, entries)
+    branch(
+        alloc,
+        primitive,
+        one,
+        other,
+        at + 1,
+        place,
+        before,
+        entries,
+        end,
+    )
 }
 
 // An instruction whose body is a loop's.
@@ -174,15 +208,17 @@ fn turns<'e>(
     place: Place<'_>,
     before: &[Ty],
     entries: &'e [Entry],
+    end: &mut u32,
 ) -> Result<Option<&'e [Entry]>, Memory>
     requires fits { at + 1 + sizes (trees app.now.args) < 2 ^ 32 }
     requires way { way_of primitive ≡ way.Turn }
-    ensures { IfOk result (λ r. entries_past r ≡ app_walk (Some primitive) app.now.annots app.now.args at place.entry before.now entries.now) }
+    ensures walked { IfOk result (λ r. entries_past r ≡ app_walk (Some primitive) app.now.annots app.now.args at place.entry before.now entries.now) }
+    ensures ends { IfOk result (λ r. IfSome r (λ _. end.new ≡ at + (sizes (trees app.now.args) + 1))) }
 {
     let Some(node) = app.args.only() else {
         return Ok(None);
     };
-    turning(alloc, primitive, node, at + 1, place, before, entries)
+    turning(alloc, primitive, node, at + 1, place, before, entries, end)
 }
 
 // DIP.
@@ -195,13 +231,15 @@ fn dips<'e>(
     place: Place<'_>,
     before: &[Ty],
     entries: &'e [Entry],
+    end: &mut u32,
 ) -> Result<Option<&'e [Entry]>, Memory>
     requires fits { at + 1 + sizes (trees app.now.args) < 2 ^ 32 }
     requires way { way_of primitive ≡ way.Dip }
-    ensures { IfOk result (λ r. entries_past r ≡ app_walk (Some primitive) app.now.annots app.now.args at place.entry before.now entries.now) }
+    ensures walked { IfOk result (λ r. entries_past r ≡ app_walk (Some primitive) app.now.annots app.now.args at place.entry before.now entries.now) }
+    ensures ends { IfOk result (λ r. IfSome r (λ _. end.new ≡ at + (sizes (trees app.now.args) + 1))) }
 {
     if let Some(node) = app.args.only() {
-        return dip(alloc, 1, node, at + 1, place, before, entries);
+        return dip(alloc, 1, node, at + 1, place, before, entries, end);
     }
     let Some((first, node)) = app.args.both() else {
         return Ok(None);
@@ -217,6 +255,7 @@ fn dips<'e>(
         place,
         before,
         entries,
+        end,
     )
 }
 
@@ -230,15 +269,17 @@ fn maps<'e>(
     place: Place<'_>,
     before: &[Ty],
     entries: &'e [Entry],
+    end: &mut u32,
 ) -> Result<Option<&'e [Entry]>, Memory>
     requires fits { at + 1 + sizes (trees app.now.args) < 2 ^ 32 }
     requires way { way_of primitive ≡ way.Map }
-    ensures { IfOk result (λ r. entries_past r ≡ app_walk (Some primitive) app.now.annots app.now.args at place.entry before.now entries.now) }
+    ensures walked { IfOk result (λ r. entries_past r ≡ app_walk (Some primitive) app.now.annots app.now.args at place.entry before.now entries.now) }
+    ensures ends { IfOk result (λ r. IfSome r (λ _. end.new ≡ at + (sizes (trees app.now.args) + 1))) }
 {
     let Some(node) = app.args.only() else {
         return Ok(None);
     };
-    map(alloc, node, at + 1, place, before, entries)
+    map(alloc, node, at + 1, place, before, entries, end)
 }
 
 // LAMBDA, or LAMBDA_REC.
@@ -252,10 +293,12 @@ fn lambdas<'e>(
     _place: Place<'_>,
     before: &[Ty],
     entries: &'e [Entry],
+    end: &mut u32,
 ) -> Result<Option<&'e [Entry]>, Memory>
     requires fits { at + 1 + sizes (trees app.now.args) < 2 ^ 32 }
     requires way { way_of primitive ≡ lambda_way recursive }
-    ensures { IfOk result (λ r. entries_past r ≡ app_walk (Some primitive) app.now.annots app.now.args at _place.entry before.now entries.now) }
+    ensures walked { IfOk result (λ r. entries_past r ≡ app_walk (Some primitive) app.now.annots app.now.args at _place.entry before.now entries.now) }
+    ensures ends { IfOk result (λ r. IfSome r (λ _. end.new ≡ at + (sizes (trees app.now.args) + 1))) }
 {
     let Some((first, second, node)) = app.args.three() else {
         return Ok(None);
@@ -267,5 +310,7 @@ fn lambdas<'e>(
         return Ok(None);
     };
     let there = behind(second, behind(first, at + 1));
-    lambda(alloc, recursive, &arg, &ret, node, there, before, entries)
+    lambda(
+        alloc, recursive, &arg, &ret, node, there, before, entries, end,
+    )
 }

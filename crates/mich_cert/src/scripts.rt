@@ -165,7 +165,8 @@ fn code<'e>(
     }
     let place = Place::Main(parameter);
     let at = base + outline.code.at;
-    let Some(inner) = body(alloc, outline.code.node, at, place, entries)? else {
+    let mut end = at;
+    let Some(inner) = body(alloc, outline.code.node, at, place, entries, &mut end)? else {
         return Ok(None);
     };
     if script_begins(&parameter.ty, &outline.storage, inner.begins)
@@ -215,7 +216,8 @@ fn one_view<'e>(
         return Ok(None);
     }
     let at = base + view.body.at;
-    let Some(inner) = body(alloc, view.body.node, at, Place::View, entries)? else {
+    let mut end = at;
+    let Some(inner) = body(alloc, view.body.node, at, Place::View, entries, &mut end)? else {
         return Ok(None);
     };
     if script_begins(&view.input, storage, inner.begins) && view_ends(&view.output, inner.ends) {

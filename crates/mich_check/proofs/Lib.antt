@@ -6,3 +6,6 @@ pub mod LiteralTyping
 pub mod OriginStacks
 pub mod ScriptTyping
 pub mod CreateTyping
+pub mod Readings
+pub mod Sequences
+pub mod HeldTyping

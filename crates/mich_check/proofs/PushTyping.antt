@@ -29,15 +29,16 @@ use Rattle.mich_data.specs.declared.pending.Pending.{Pending as Item}
 use Rattle.mich_overload.specs.View.{kinds}
 use Rattle.mich_outline.proofs.ForCallers.{argument_from}
 use Rattle.mich_instr.specs.Plain.{bare}
-use Rattle.mich_instr.specs.Code.{Code}
+use Rattle.mich_instr.specs.Code.{Code, Codes}
 use Rattle.mich_instr.specs.Code as made
-use Rattle.mich_instr.specs.Typed.{HasForm, IsCode, is_push}
+use Rattle.mich_instr.specs.Typed.{HasForm, IsCode, AreHeld, is_push}
 use Rattle.mich_control.specs.declared.error.CheckError.{CheckError}
 use Rattle.mich_control.specs.declared.error.CheckError.TheVariants as error
 use Rattle.mich_control.specs.Answers.{typing, Leads, ends_in, IsFault, IsFound}
-use Rattle.mich_check.specs.Pending.{reach, largest, moved, IsFaulty, called_fault, item_fault, IsRead}
+use Rattle.mich_check.specs.Pending.{AreSequences, reach, largest, moved, IsFaulty, called_fault, item_fault, IsRead}
 use Rattle.mich_control.proofs.ForCallers.{unshift, fault_is, formed, found_typing, read_as}
 use Rattle.mich_check.proofs.Within.{fault_within}
+use Rattle.mich_check.proofs.Sequences.{read_sequences}
 
 -- ---- where bodies stand
 
@@ -261,17 +262,19 @@ module _ (at : ℕ) (c : Context) (name : List ℕ) (annots : List (List ℕ)) (
             subst P k h
         lead P None B e h = absurd cc
 
-        pub push_made : (o : Option (List Ty)) (j : Code) → moved at (fault_of_bodies ps) ≡ None → typing o ≡ goes (a ∷ S) →
-            j ≡ made.push a (bare (tree v)) (tree w) →
+        pub push_goes : (o : Option (List Ty)) → moved at (fault_of_bodies ps) ≡ None → typing o ≡ goes (a ∷ S) → shift at (tree_type (prim name annots (trees ns)) c S) ≡ typing o
+        push_goes o h g = tries ∙ ap (λ z. shift at (on_found (checked x ps z) (λ y. goes (a ∷ S)))) (no_move at (fault_of_bodies ps) h) ∙ sym g
+
+        pub push_made : (o : Option (List Ty)) (j : Code) (is : Codes) → moved at (fault_of_bodies ps) ≡ None → typing o ≡ goes (a ∷ S) →
+            j ≡ made.push a (bare (tree v)) (tree w) is → (AreSequences ps → AreHeld ps is) →
             (shift at (tree_type (prim name annots (trees ns)) c S) ≡ typing o) × Leads (λ B. IsCode c (prim name annots (trees ns)) j S B) o
-        push_made o j h g m =
-            let k : shift at (tree_type (prim name annots (trees ns)) c S) ≡ typing o =
-            tries ∙ ap (λ z. shift at (on_found (checked x ps z) (λ y. goes (a ∷ S)))) (no_move at (fault_of_bodies ps) h) ∙ sym g in
+        push_made o j is h g m held =
+            let k = push_goes o h g in
             let n : tree_type (prim name annots (more (tree v) (more (tree w) none))) c S ≡ goes (a ∷ S) =
             ap (λ ms. tree_type (prim name annots (trees ms)) c S) (sym two) ∙ unshift at (tree_type (prim name annots (trees ns)) c S) o k ∙ g in (
               k,
               lead (λ B. IsCode c (prim name annots (trees ns)) j S B) o (a ∷ S) g
                   (subst (λ ms. IsCode c (prim name annots (trees ms)) j S (a ∷ S)) (sym two)
                   (subst (λ y. IsCode c (prim name annots (more (tree v) (more (tree w) none))) y S (a ∷ S)) (sym m)
-                  (is_push form (ap (λ (y : Found Kind). and_then y (λ a. found (pushed a))) is_type) n))),
+                  (is_push form (ap (λ (y : Found Kind). and_then y (λ a. found (pushed a))) is_type) n (subst (λ n. read a n (tree w) ≡ good x ps) there reads) (held (read_sequences a q (tree w) x ps reads))))),
             )

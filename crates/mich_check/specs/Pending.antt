@@ -1,6 +1,6 @@
 -- What is still to be tried of literals.
 use Rattle.std.specs.Prelude.{◌≡◌, ℕ, ◌+◌, max, option_map, Bool, List, [], ◌∷◌, Option, Some, None, Result, Ok, Err}
-use Rattle.rules_text.specs.nodes.Tree.{Tree, size}
+use Rattle.rules_text.specs.nodes.Tree.{Tree, seq, size}
 use Rattle.rules_data.specs.types.Kind.{Kind}
 use Rattle.rules_data.specs.values.Val.{Val}
 use Rattle.rules_data.specs.values.Literals.{Pending, body, claim, Literal, good, bad}
@@ -11,6 +11,11 @@ use Rattle.rules_code.specs.typing.Typing.{shift}
 use Rattle.rules_code.specs.typing.Bodies.{body_fault}
 use Rattle.rules_code.specs.typing.Nodes.{tree_type}
 use Rattle.rules_code.specs.typing.Literals.{Checked}
+use Rattle.mich_instr.specs.Body.{inside}
+use Rattle.mich_instr.specs.Code.{Codes}
+use Rattle.mich_instr.specs.Code as made
+use Rattle.mich_instr.specs.View.{code}
+use Rattle.mich_instr.specs.declared.instr.Instr.{Instr}
 use Rattle.mich_term.specs.ValueView.{val}
 use Rattle.mich_data.specs.View.{all_pending}
 use Rattle.mich_data.specs.declared.pending.Read.{Read}
@@ -29,6 +34,17 @@ abbrev pub largest : List Pending → ℕ
 largest [] = 0
 largest (body l a r recursive t ∷ ps) = max (size t) (largest ps)
 largest (claim l b a ∷ ps) = largest ps
+
+-- each body is a sequence
+abbrev pub AreSequences : List Pending → Type 0
+AreSequences [] = Unit {0}
+AreSequences (body l a r recursive t ∷ ps) = (t ≡ seq (inside t)) × AreSequences ps
+AreSequences (claim l b a ∷ ps) = AreSequences ps
+
+-- an instruction, if there is one, as a list
+abbrev pub codes_if : Option Instr → Codes
+codes_if None = made.none
+codes_if (Some i) = made.more (code i) made.none
 
 -- a fault counted from a location
 abbrev pub moved : ℕ → Option ℕ → Option ℕ
@@ -54,6 +70,11 @@ abbrev pub IsRead : ℕ → Literal Val → Result Read CheckError → Type 0
 IsRead at r (Ok x) = r ≡ good (val x.value) (all_pending x.pending)
 IsRead at r (Err (error.IllTyped l)) = (m : ℕ) × (r ≡ bad m) × (l ≡ at + m)
 IsRead at r (Err error.Memory) = Unit {0}
+
+-- what is read has this value
+abbrev pub HasValue : Val → Literal Val → Type 0
+HasValue y (good x ps) = y ≡ x
+HasValue y (bad l) = ⊥
 
 abbrev pub checked : CodeChecked → Checked
 checked c = record { value = val c.value; claims = all_pending c.claims }

@@ -18,7 +18,7 @@ use Rattle.mich_outline.specs.declared.outline.View.{View as Item}
 use Rattle.mich_overload.specs.View.{kinds}
 use Rattle.mich_instr.specs.Code.{Codes, ScriptCode, ViewCode}
 use Rattle.mich_instr.specs.Code as made
-use Rattle.mich_instr.specs.View.{code, codes, script_node, view_code, view_codes}
+use Rattle.mich_instr.specs.View.{codes, script_node, view_code, view_codes}
 use Rattle.mich_instr.specs.Typed.{AreCode, AreViews}
 use Rattle.mich_instr.specs.Scripts.{IsTypedScript}
 use Rattle.mich_instr.specs.declared.instr.Instr.{Instr}
@@ -28,7 +28,7 @@ use Rattle.mich_control.specs.declared.error.CheckError.{CheckError}
 use Rattle.mich_control.specs.declared.error.CheckError.TheVariants as error
 use Rattle.mich_check.specs.declared.ends.Ends.{Ends}
 use Rattle.mich_check.specs.declared.creating.Origin.{Origin as CodeOrigin}
-use Rattle.mich_control.specs.Answers.{typing, inside}
+use Rattle.mich_control.specs.Answers.{inside}
 
 -- ---- bodies of scripts
 

@@ -2,6 +2,5 @@
 mod bodies;
 mod kept;
 mod marks;
-mod same;
 
 pub use bodies::{Bodies, Uses};

@@ -7,14 +7,18 @@ ghost use Rattle.rules_code.specs.typing.Literals.{literal, of_reading};
 ghost use Rattle.mich_base.specs.TypeView.{kind};
 ghost use Rattle.mich_base.specs.View.{tree};
 ghost use Rattle.mich_data.specs.View.{all_pending};
+ghost use Rattle.mich_instr.specs.Body.{AllHeld};
+ghost use Rattle.mich_instr.specs.View.{codes};
+ghost use Rattle.mich_term.specs.ValueView.{val};
 ghost use Rattle.mich_data.specs.Whole.{IsWhole};
 ghost use Rattle.mich_term.specs.Layers.{AreFormed};
-ghost use Rattle.mich_check.specs.Pending.{IsChecked, IsRead, largest, reach};
+ghost use Rattle.mich_check.specs.Pending.{HasValue, IsChecked, IsRead, largest, reach};
 
 use crate::nodes::check_pending;
 use mich_base::{Memory, Node, Rows, Ty};
 use mich_control::CheckError;
-use mich_data::{Pending, Read, ValueError, read_value_at};
+use mich_data::{Pending, Read, ValueError, read_value_at, read_value_with};
+use mich_instr::{Instr, held_bodies};
 use mich_term::Value;
 use std::alloc::Global;
 
@@ -70,6 +74,36 @@ fn claims_of(alloc: Global, pending: Rows<Pending>) -> Result<Rows<Pending>, Mem
     Ok(kept)
 }
 
+// The value of a literal, with these lambdas in it.
+#[tactic(auto, using(crate::proofs::LiteralTyping::same_value, crate::proofs::LiteralTyping::not_bad))]
+fn with_lambdas(
+    alloc: Global,
+    ty: &Ty,
+    node: &Node,
+    at: u32,
+    value: Value,
+    lambdas: &Rows<Instr>,
+) -> Result<Value, Memory>
+    requires fits { at + size (tree node.now) < 2 ^ 32 }
+    requires held { AllHeld (codes lambdas.now) }
+    requires reads { HasValue (val value) (read (kind ty.now) at (tree node.now)) }
+    requires whole { IsWhole (kind ty.now) value }
+    requires formed { IsWellFormed (kind ty.now) → AreFormed value }
+    ensures value { IfOk result (λ v. val v ≡ val value) }
+    ensures whole { IfOk result (λ v. IsWhole (kind ty.now) v) }
+    ensures formed { IfOk result (λ v. IsWellFormed (kind ty.now) → AreFormed v) }
+{
+    if lambdas.is_empty() {
+        return Ok(value);
+    }
+    let bodies = held_bodies(alloc, lambdas)?;
+    match read_value_with(alloc, ty, node, at, bodies) {
+        Ok(read) => Ok(read.value),
+        Err(ValueError::NotOfType(_)) => unreachable!(),
+        Err(ValueError::Memory) => Err(Memory),
+    }
+}
+
 /// The value of a type that a node spells, where each body of a lambda in it goes from its argument's type to its result's,
 /// with the contracts that it names (Michelson reference, "Types", the literals of each). IllTyped has the location of the
 /// first node that doesn't fit, else that of the first fault of the first body that has one; Memory where there is no room. The
@@ -91,10 +125,8 @@ pub fn check_literal_at(alloc: Global, ty: &Ty, node: &Node, at: u32) -> Result<
     ensures formed { IfOk result (λ c. IsWellFormed (kind ty.now) → AreFormed c.value) }
 {
     let read = read_literal(alloc, ty, node, at, 0)?;
-    check_pending(alloc, &read.pending, 0)?;
+    let lambdas = check_pending(alloc, &read.pending, 0)?;
     let claims = claims_of(alloc, read.pending)?;
-    Ok(Checked {
-        value: read.value,
-        claims,
-    })
+    let value = with_lambdas(alloc, ty, node, at, read.value, &lambdas)?;
+    Ok(Checked { value, claims })
 }

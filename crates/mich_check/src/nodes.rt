@@ -1,6 +1,6 @@
 // The check of instructions and blocks.
 ghost use Rattle.std.specs.Prelude.{◌≡◌, ◌+◌, ◌<◌, ◌^◌, [], ◌∷◌, IfOk};
-ghost use Rattle.rules_text.specs.nodes.Tree.{prim, size, sizes};
+ghost use Rattle.rules_text.specs.nodes.Tree.{Trees, none, prim, seq, size, sizes};
 ghost use Rattle.rules_text.specs.nodes.Primitives.{primitive_of_name};
 ghost use Rattle.rules_code.specs.instructions.Forms as f;
 ghost use Rattle.rules_code.specs.instructions.Forms.{form_of};
@@ -11,14 +11,20 @@ ghost use Rattle.mich_base.specs.TypeView.{kind};
 ghost use Rattle.mich_base.specs.View.{tree, trees};
 ghost use Rattle.mich_data.specs.View.{all_pending, pending};
 ghost use Rattle.mich_overload.specs.View.{kinds};
-ghost use Rattle.mich_instr.specs.Typed.{lambda_form};
-ghost use Rattle.mich_check.specs.Pending.{IsFaulty, called_fault, item_fault, moved, reach};
+ghost use Rattle.rules_code.specs.instructions.Context.{lambda};
+ghost use Rattle.rules_code.specs.instructions.Control.{call_kinds};
+ghost use Rattle.mich_instr.specs.Code.{Codes, joined};
+ghost use Rattle.mich_instr.specs.Code as made;
+ghost use Rattle.mich_instr.specs.Typed.{AreCode, AreHeld, lambda_form};
+ghost use Rattle.mich_instr.specs.View.{codes};
+ghost use Rattle.mich_instr.specs.View as view;
+ghost use Rattle.mich_check.specs.Pending.{AreSequences, IsFaulty, called_fault, codes_if, item_fault, moved, reach};
 ghost use Rattle.mich_control.specs.View.{branch_form, context, loop_form};
 ghost use Rattle.mich_control.specs.Answers.{IsBlock, IsBody, IsInstrAt};
 
 use crate::literals::read_literal;
 use crate::scripts::check_create;
-use mich_base::{App, Node, Nodes, Rows, Shared, Ty};
+use mich_base::{App, Memory, Node, Nodes, Rows, Shared, Ty, copy_node, copy_type};
 use mich_control::{
     Body, Branch, CheckError, Form, Loop, Made, Place, begun, behind_loop, branch_instr,
     branch_stacks, call_types, check_bodiless, check_self, check_straight, check_transfer, counted,
@@ -26,9 +32,9 @@ use mich_control::{
     map_stacks, mapped, only, push_made, read_arrow, split_stack, type_with,
 };
 use mich_data::Pending;
-use mich_instr::Instr;
+use mich_instr::{Block, Instr};
 use mich_outline::Attribute;
-use mich_types::behind;
+use mich_types::{behind, behind_all};
 use std::alloc::Global;
 
 // The typed code of a block, whose first instruction is at a location; `end` becomes the location behind the block.
@@ -155,18 +161,6 @@ fn check_app(
             check_create(alloc, app, at, place, types)
         }
     }
-}
-
-// The location behind the nodes of which the first is at a location.
-fn behind_all(nodes: &Nodes, at: u32) -> u32
-    requires { at + sizes (trees nodes.now) < 2 ^ 32 }
-    ensures { result ≡ at + sizes (trees nodes.now) }
-{
-    let mut next = at;
-    for node in nodes.as_slice() {
-        next = behind(node, next);
-    }
-    next
 }
 
 #[cycle(check)]
@@ -328,31 +322,48 @@ fn check_push(
     };
     let ty = type_with(alloc, Attribute::Pushable, written, at + 1)?;
     let read = read_literal(alloc, &ty, literal, behind(written, 1), at)?;
-    check_pending(alloc, &read.pending, at)?;
-    let made = push_made(alloc, ty, written, literal, types)?;
+    let lambdas = check_pending(alloc, &read.pending, at)?;
+    let made = push_made(alloc, ty, written, literal, lambdas, types)?;
     Ok(made)
 }
 
-// Whether the bodies that are pending have no fault, whose locations are counted from one.
+// The bodies that are pending as lambdas with their typed code, in order, where none has a fault. Locations are counted from one.
 #[cycle(check)]
 pub(crate) fn check_pending(
     alloc: Global,
     pending: &Rows<Pending>,
     at: u32,
-) -> Result<(), CheckError>
+) -> Result<Rows<Instr>, CheckError>
     requires { at + reach (all_pending pending.now) < 2 ^ 32 }
-    ensures { IsFaulty (moved at (fault_of_bodies (all_pending pending.now))) result }
+    ensures fault { IsFaulty (moved at (fault_of_bodies (all_pending pending.now))) result }
+    ensures held { IfOk result (λ is. AreSequences (all_pending pending.now) → AreHeld (all_pending pending.now) (codes is)) }
 {
+    let mut lambdas = Rows::new(alloc);
     for item in pending.as_slice() {
-        check_item(alloc, item, at)?;
+        let lambda = check_item(alloc, item, at)?;
+        put_lambda(&mut lambdas, lambda)?;
     }
-    Ok(())
+    Ok(lambdas)
+}
+
+// Puts a lambda, if there is one, behind others.
+fn put_lambda(lambdas: &mut Rows<Instr>, lambda: Option<Instr>) -> Result<(), Memory>
+    ensures { IfOk result (λ _. codes lambdas.new ≡ joined (codes lambdas.old) (codes_if lambda)) }
+{
+    match lambda {
+        Some(instr) => {
+            lambdas.push(instr)?;
+            Ok(())
+        }
+        None => Ok(()),
+    }
 }
 
 #[cycle(check)]
-fn check_item(alloc: Global, item: &Pending, at: u32) -> Result<(), CheckError>
+fn check_item(alloc: Global, item: &Pending, at: u32) -> Result<Option<Instr>, CheckError>
     requires { at + reach (pending item.now ∷ []) < 2 ^ 32 }
-    ensures { IsFaulty (moved at (item_fault (pending item.now))) result }
+    ensures fault { IsFaulty (moved at (item_fault (pending item.now))) result }
+    ensures held { IfOk result (λ o. AreSequences (pending item.now ∷ []) → AreHeld (pending item.now ∷ []) (codes_if o)) }
 {
     match item {
         Pending::Body {
@@ -361,12 +372,54 @@ fn check_item(alloc: Global, item: &Pending, at: u32) -> Result<(), CheckError>
             ret,
             recursive,
             node,
-        } => check_called(alloc, arg, ret, *recursive, node, at + *location),
-        Pending::Claim { .. } => Ok(()),
+        } => {
+            let code = check_called(alloc, arg, ret, *recursive, node, at + *location)?;
+            let lambda = held_lambda(alloc, arg, ret, *recursive, node, code)?;
+            Ok(Some(lambda))
+        }
+        Pending::Claim { .. } => Ok(None),
     }
 }
 
-// Whether the node at a location has no fault as the body of a lambda of these types.
+// A body with its typed code, as LAMBDA with no types written.
+fn held_lambda(
+    alloc: Global,
+    arg: &Ty,
+    ret: &Ty,
+    recursive: bool,
+    node: &Node,
+    code: Block,
+) -> Result<Instr, Memory>
+    ensures { IfOk result (λ i. view.code i ≡ made.lambda recursive (kind arg.now) (kind ret.now) none (tree node.now) (codes code)) }
+{
+    let body = Shared::new(alloc, copy_node(alloc, node)?)?;
+    let arg = copy_type(alloc, arg)?;
+    let ret = copy_type(alloc, ret)?;
+    Ok(Instr::Lambda {
+        recursive,
+        arg,
+        ret,
+        written: Nodes::new(alloc),
+        body,
+        code,
+    })
+}
+
+// The instructions of a sequence, or the one instruction that is none.
+fn block_of(alloc: Global, instr: Instr) -> Result<Block, Memory>
+    ensures { IfOk result (λ b. (is : Codes) → view.code instr ≡ made.seq is → codes b ≡ is) }
+{
+    match instr {
+        Instr::Seq(block) => Ok(block),
+        other => {
+            let mut code = Rows::new(alloc);
+            code.push(other)?;
+            Shared::new(alloc, code)
+        }
+    }
+}
+
+// The typed code of the node at a location as the body of a lambda of these types, where it has no fault.
 #[cycle(check)]
 fn check_called(
     alloc: Global,
@@ -375,17 +428,17 @@ fn check_called(
     recursive: bool,
     node: &Node,
     at: u32,
-) -> Result<(), CheckError>
+) -> Result<Block, CheckError>
     requires { at + size (tree node.now) < 2 ^ 32 }
-    ensures { IsFaulty (called_fault at (kind arg.now) (kind ret.now) recursive (tree node.now)) result }
+    ensures fault { IsFaulty (called_fault at (kind arg.now) (kind ret.now) recursive (tree node.now)) result }
+    ensures code { IfOk result (λ b. (ts : Trees) → tree node.now ≡ seq ts → AreCode lambda ts (codes b) (call_kinds (kind arg.now) (kind ret.now) recursive) (kind ret.now ∷ [])) }
 {
     let types = call_types(alloc, arg, ret, recursive)?;
     let mut end = at;
     let made = check_node(alloc, node, at, Place::Lambda, types, &mut end)?;
     let ends = only(alloc, ret)?;
-    if ends_in(&made.after, &ends) {
-        Ok(())
-    } else {
-        Err(CheckError::IllTyped(at))
+    if !ends_in(&made.after, &ends) {
+        return Err(CheckError::IllTyped(at));
     }
+    Ok(block_of(alloc, made.instr)?)
 }

@@ -50,8 +50,8 @@ pub code_lambda : (recursive : Bool) (arg ret : Ty) (written : List Node) (body 
     code (instr.Lambda recursive arg ret written body is) ≡ made.lambda recursive (kind arg) (kind ret) (trees written) (tree body) (codes is)
 code_lambda recursive arg ret written body is = search (rules, instrs.the_lemmas)
 
-pub code_push : (ty : Ty) (written literal : Node) → code (instr.Push ty written literal) ≡ made.push (kind ty) (tree written) (tree literal)
-code_push ty written literal = search (rules, instrs.the_lemmas)
+pub code_push : (ty : Ty) (written literal : Node) (lambdas : List Instr) → code (instr.Push ty written literal lambdas) ≡ made.push (kind ty) (tree written) (tree literal) (codes lambdas)
+code_push ty written literal lambdas = search (rules, instrs.the_lemmas)
 
 pub code_create : (s : Script) → code (instr.CreateContract s) ≡ made.create_contract (script_code s)
 code_create s = search (rules, instrs.the_lemmas)

@@ -1,6 +1,6 @@
 -- What the answers of the calls say.
 use Rattle.std.specs.Prelude.{◌≡◌, ℕ, Bool, true, List, [], ◌∷◌, Option, Some, None, Result, Ok, Err}
-use Rattle.rules_text.specs.nodes.Tree.{Tree, seq, Trees, none}
+use Rattle.rules_text.specs.nodes.Tree.{Tree, seq, Trees}
 use Rattle.rules_data.specs.types.Kind.{Kind}
 use Rattle.rules_code.specs.instructions.Arguments.{Found, found, fault}
 use Rattle.rules_code.specs.instructions.Same.{same_kinds}
@@ -13,6 +13,7 @@ use Rattle.rules_code.specs.typing.Nodes.{tree_type}
 use Rattle.mich_base.specs.declared.ty.Ty.{Ty}
 use Rattle.mich_overload.specs.View.{kinds}
 use Rattle.mich_instr.specs.View.{code, codes}
+pub use Rattle.mich_instr.specs.Body.{inside}
 use Rattle.mich_instr.specs.Typed.{IsCode, AreCode}
 use Rattle.mich_control.specs.declared.error.CheckError.{CheckError}
 use Rattle.mich_control.specs.declared.error.CheckError.TheVariants as error
@@ -67,11 +68,6 @@ IsInstrAt at c t A r = IsInstr c t A (shift at (tree_type t c A)) r
 abbrev pub IsBlock : Context → Trees → List Kind → Typing → Result Body CheckError → Type 0
 IsBlock c ts A T (Ok b) = (T ≡ typing b.after) × Leads (λ B. AreCode c ts (codes b.code) A B) b.after
 IsBlock c ts A T (Err e) = IsFault T e
-
--- the instructions in a sequence
-abbrev pub inside : Tree → Trees
-inside (seq ts) = ts
-inside t = none
 
 -- the typing of a node as a body gives this code
 abbrev pub IsBody : Context → Tree → List Kind → Typing → Result Body CheckError → Type 0

@@ -1,5 +1,5 @@
 -- Keys in increasing order, and one behind them.
-use Rattle.std.proofs.Common.{◌≡◌, ◌-◌, true, Option, Some, None, List, [], ◌∷◌, ◌++◌, option_map, length, Bor, refl, ap, ◌∙◌, subst, arith}
+use Rattle.std.proofs.Common.{◌≡◌, ◌-◌, true, Option, Some, None, List, [], ◌∷◌, ◌++◌, option_map, length, Bor, refl, ap, ◌∙◌, arith}
 use Rattle.std.specs.Prelude.{slice_get}
 use Rattle.std.specs.declared.cmp.Ordering.{Ordering}
 use Rattle.std.specs.declared.cmp.Ordering.TheVariants.{Less, Equal, Greater}
@@ -7,7 +7,7 @@ use Rattle.std.specs.Ordering.{is_lt}
 use Rattle.std.specs.Map.{keys_of}
 use Rattle.std.specs.List.{AllByRecursion}
 use Rattle.std.specs.List.Sorted.{IsStrictlySortedBy}
-use Rattle.std.proofs.lemmas.Bool.{and_parts, and_from}
+use Rattle.std.proofs.lemmas.Bool.{and_parts}
 use Rattle.rules_data.specs.values.Val.{Val, is_comparable}
 use Rattle.rules_data.specs.values.Literals.{is_behind}
 use Rattle.mich_term.specs.View.{datum}

@@ -14,10 +14,12 @@ use crate::error::ValueError;
 use crate::pending::Pending;
 use crate::reading::Reading;
 use crate::words::{Word, word_of_name};
-use mich_base::{Node, Shared, Ty, copy_node, copy_type};
+use mich_base::{Memory, Node, Rows, Shared, Ty, copy_node, copy_type};
 use mich_forms::Address;
+use mich_instr::{Body, same_node};
 use mich_term::Value;
 use mich_types::behind;
+use std::alloc::Global;
 
 impl Reading {
     pub(crate) fn read_lambda(
@@ -60,17 +62,17 @@ impl Reading {
         let Node::Seq(_) = node else {
             return Err(ValueError::NotOfType(self.next));
         };
-        let kept = Shared::new(self.alloc, copy_node(self.alloc, node)?)?;
-        let body = Pending::Body {
+        let body = body_of(self.alloc, &mut self.bodies, node)?;
+        let pending = Pending::Body {
             location: self.next,
             arg: copy_type(self.alloc, arg)?,
             ret: copy_type(self.alloc, ret)?,
             recursive,
             node: copy_node(self.alloc, node)?,
         };
-        self.pending.push(body)?;
+        self.pending.push(pending)?;
         self.next = behind(node, self.next);
-        Ok(Value::Lambda(kept, recursive))
+        Ok(Value::Lambda(body, recursive))
     }
 
     pub(crate) fn read_contract(&mut self, ty: &Ty, node: &Node) -> Result<Value, ValueError>
@@ -94,6 +96,23 @@ impl Reading {
         self.next += 1;
         Ok(value)
     }
+}
+
+// The last of these bodies, which is taken, where it is of an equal node, or else one without typed code.
+fn body_of(
+    alloc: Global,
+    bodies: &mut Rows<Shared<Body>>,
+    node: &Node,
+) -> Result<Shared<Body>, Memory>
+    ensures { IfOk result (λ b. b ≡ node.now) }
+{
+    if let Some(body) = bodies.pop() {
+        if same_node(body.get().node(), node) {
+            return Ok(body);
+        }
+    }
+    let kept = Shared::new(alloc, copy_node(alloc, node)?)?;
+    Body::plain(alloc, kept)
 }
 
 #[tactic(auto, using(crate::proofs::Spellings::addressed))]

@@ -14,6 +14,6 @@ mod writing;
 
 pub use error::ValueError;
 pub use pending::{Pending, Read};
-pub use reading::{read_value, read_value_at};
+pub use reading::{read_value, read_value_at, read_value_with};
 pub use simple::simple_value;
 pub use writing::value_node;

@@ -13,7 +13,8 @@ ghost use Rattle.mich_term.specs.Layers.{AreFormed};
 use crate::error::ValueError;
 use crate::pending::{Pending, Read};
 use crate::simple::simple_value;
-use mich_base::{Node, Rows, Ty};
+use mich_base::{Node, Rows, Shared, Ty};
+use mich_instr::Body;
 use mich_term::Value;
 use rules_data::types::Simple;
 use std::alloc::Global;
@@ -38,10 +39,28 @@ pub fn read_value_at(alloc: Global, ty: &Ty, node: &Node, at: u32) -> Result<Rea
     ensures whole { IfOk result (λ r. IsWhole (kind ty.now) r.value) }
     ensures formed { IfOk result (λ r. IsWellFormed (kind ty.now) → AreFormed r.value) }
 {
+    read_value_with(alloc, ty, node, at, Rows::new(alloc))
+}
+
+/// The same with bodies for its lambdas, in pre-order: each lambda gets the next of them, with its typed code, where that is of an
+/// equal node.
+pub fn read_value_with(
+    alloc: Global,
+    ty: &Ty,
+    node: &Node,
+    at: u32,
+    bodies: Rows<Shared<Body>>,
+) -> Result<Read, ValueError>
+    requires { at + size (tree node.now) < 2 ^ 32 }
+    ensures literal { IsLiteral (read (kind ty.now) at (tree node.now)) result }
+    ensures whole { IfOk result (λ r. IsWhole (kind ty.now) r.value) }
+    ensures formed { IfOk result (λ r. IsWellFormed (kind ty.now) → AreFormed r.value) }
+{
     let mut reading = Reading {
         alloc,
         next: at,
         pending: Rows::new(alloc),
+        bodies: last_first(bodies),
     };
     let value = reading.read(ty, node)?;
     Ok(Read {
@@ -50,13 +69,22 @@ pub fn read_value_at(alloc: Global, ty: &Ty, node: &Node, at: u32) -> Result<Rea
     })
 }
 
-// How far reading is: the location of the node that is read next, and what is still to be tried of those before it. Each
-// method reads the node, or the nodes, at that location, and goes on behind them.
+// The same bodies from the last one on.
+fn last_first(bodies: Rows<Shared<Body>>) -> Rows<Shared<Body>> {
+    let mut items = bodies.into_vec();
+    items.reverse();
+    Rows::from_vec(items)
+}
+
+// How far reading is: the location of the node that is read next, what is still to be tried of those before it, and bodies for
+// the lambdas to come, the last for the next one. Each method reads the node, or the nodes, at that location, and goes on behind
+// them.
 #[derive(Debug, Drop)]
 pub(crate) struct Reading {
     pub(crate) alloc: Global,
     pub(crate) next: u32,
     pub(crate) pending: Rows<Pending>,
+    pub(crate) bodies: Rows<Shared<Body>>,
 }
 
 impl Reading {

@@ -40,7 +40,7 @@ pub fn value_node(alloc: Global, value: &Value) -> Result<Node, Memory>
         Value::Set(elements) => set_node(alloc, elements.get()),
         Value::Map(table) => table_node(alloc, table.get()),
         Value::BigMap(big) => big_node(alloc, big.get()),
-        Value::Lambda(body, recursive) => lambda_node(alloc, body.get(), *recursive),
+        Value::Lambda(body, recursive) => lambda_node(alloc, body.get().node(), *recursive),
         Value::Operation(_) => Ok(Node::Seq(Nodes::new(alloc))),
         Value::Ticket(ticket) => ticket_node(alloc, ticket.get()),
     }

@@ -4,7 +4,7 @@ pub use Rattle.mich_frames.proofs.Calls.{apply_acts, apply_broke, apply_deep, ap
 pub use Rattle.mich_frames.proofs.Creating.{create_acts, create_broke, create_over, create_top}
 pub use Rattle.mich_frames.proofs.Ends.{all_done, call_ends, enters, meets_next, rest_depth, rest_ends, starts, too_deep, under_ends, view_ends, view_top}
 pub use Rattle.mich_frames.proofs.Fine.{lambda_below, sound_here, stock_positive}
-pub use Rattle.mich_frames.proofs.Given.{lambda_acts, lambda_broke, push_acts, push_broke, push_pushable, push_reads, self_acts, self_broke}
+pub use Rattle.mich_frames.proofs.Given.{lambda_acts, lambda_broke, push_acts, push_broke, push_holds, push_pushable, push_reads, self_acts, self_broke}
 pub use Rattle.mich_frames.proofs.Items.{each_broke, each_end, each_opens, iter_acts, iter_broke, iter_top}
 pub use Rattle.mich_frames.proofs.Loops.{left_turn_opens, left_turns_broke, left_turns_end, left_turns_top, loop_acts, loop_broke, loop_left_acts, loop_left_broke, loop_left_top, loop_right_acts, loop_right_broke, loop_top, turn_opens, turns_broke, turns_end, turns_top}
 pub use Rattle.mich_frames.proofs.Made.{Case, FineCase, form_is, meets_by, meets_fine}

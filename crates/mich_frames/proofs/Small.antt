@@ -33,11 +33,11 @@ mutual
 
 module _ {fs : List Frame} {u : Around} {V : List Val} {m : Tally} {d : ℕ} {Z : List Kind} {o : Outcome} where
   -- the type and the literal together
-  pub push_small : {a : Kind} {w x : Tree} → MeetsAt (made.push a w x) fs u V m d Z o → 1 + size w + size x < 2 ^ 32
-  push_small {a = a} {w = w} {x = x} h = by a w x h.pending h.context h.node h.types h.next h.fine h.rests h.depth h.same h.typed h.small h.holds
+  pub push_small : {a : Kind} {w x : Tree} {is : Codes} → MeetsAt (made.push a w x is) fs u V m d Z o → 1 + size w + size x < 2 ^ 32
+  push_small {a = a} {w = w} {x = x} {is = is} h = by a w x is h.pending h.context h.node h.types h.next h.fine h.rests h.depth h.same h.typed h.small h.holds
     where
-      by : (a : Kind) (w x : Tree) → FineCase (made.push a w x) fs u V m d Z o (1 + size w + size x < 2 ^ 32)
-      by _ _ x ps c _ _ _ (is_push {t = y} form found_is goes_is) rests depth same typed small holds = let e = size_bare y in omega (arith, e, small)
+      by : (a : Kind) (w x : Tree) (is : Codes) → FineCase (made.push a w x is) fs u V m d Z o (1 + size w + size x < 2 ^ 32)
+      by _ _ x _ ps c _ _ _ (is_push {t = y} form found_is goes_is reads held) rests depth same typed small holds = let e = size_bare y in omega (arith, e, small)
 
   pub lambda_small : {recursive : Bool} {a r : Kind} {written : Trees} {body : Tree} {is : Codes} → MeetsAt (made.lambda recursive a r written body is) fs u V m d Z o → size body < 2 ^ 32
   lambda_small {recursive = recursive} {a = a} {r = r} {written = written} {body = body} {is = is} h =

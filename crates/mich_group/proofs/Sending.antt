@@ -12,10 +12,10 @@ use Rattle.mich_forms.specs.Spelled.{address_bytes}
 use Rattle.mich_bigmap.specs.Bases.{Bases}
 use Rattle.mich_bigmap.specs.Extended.{Extends}
 use Rattle.mich_bigmap.proofs.ForCallers.{based_later, val_later}
-use Rattle.mich_instr.specs.Issued.{numbered}
+use Rattle.mich_ops.specs.Issued.{numbered}
 use Rattle.mich_instr.specs.View.{script_node}
-use Rattle.mich_instr.specs.declared.issued.Issued.{Issued}
-use Rattle.mich_instr.specs.declared.issued.Issued.TheVariants as i
+use Rattle.mich_ops.specs.declared.issued.Issued.{Issued}
+use Rattle.mich_ops.specs.declared.issued.Issued.TheVariants as i
 use Rattle.mich_machine.specs.Calls.{issued_in, IsHanded}
 use Rattle.mich_operations.specs.Going.{issued_by, KeepsContracts}
 use Rattle.mich_base.specs.Counted.{IsNotEmpty}

@@ -60,7 +60,7 @@ stepped s w waiting others op gas left counts v old new a ss before after e i se
 }
 
 -- those that wait then
-pub sent_now : (u v : World) (by : List ℕ) (emitted : List Rattle.mich_instr.specs.declared.issued.Issued.Issued) (ss now : List Sent) → now ≡ ss ++ reverse (map (sent_by by) emitted) →
+pub sent_now : (u v : World) (by : List ℕ) (emitted : List Rattle.mich_ops.specs.declared.issued.Issued.Issued) (ss now : List Sent) → now ≡ ss ++ reverse (map (sent_by by) emitted) →
     Extends u.store.bases.present v.store.bases.present → AreHanded u ss →
     all_sent v.store.bases.present now ≡ map (Rattle.mich_operations.specs.Going.issued_by v.store.bases.present by) emitted ++ all_sent u.store.bases.present ss
 sent_now u v by emitted ss now e x h =

@@ -7,7 +7,7 @@ use Rattle.mich_machine.specs.Calls.{IsHanded}
 use Rattle.mich_world.specs.Holders.{contract_at}
 use Rattle.mich_world.specs.World.{World}
 use Rattle.mich_operations.specs.Going.{issued_by}
-use Rattle.mich_instr.specs.declared.issued.Issued.{Issued}
+use Rattle.mich_ops.specs.declared.issued.Issued.{Issued}
 use Rattle.mich_group.specs.declared.waiting.Sent.{Sent}
 
 abbrev pub sent_by : List ℕ → Issued → Sent

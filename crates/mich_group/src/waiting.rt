@@ -4,7 +4,7 @@ ghost use Rattle.mich_group.specs.declared.waiting.Sent.{Sent};
 ghost use Rattle.mich_group.specs.Waiting.{sent_by};
 
 use mich_base::{Memory, Rows};
-use mich_instr::Issued;
+use mich_ops::Issued;
 
 /// An operation that the contract of these 20 bytes issued, and that waits for its turn.
 #[derive(Drop)]

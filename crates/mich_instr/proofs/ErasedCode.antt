@@ -130,7 +130,7 @@ mutual
   erased_plain (typed.is_seq h) = ap seq (all_plain h)
   erased_plain (typed.is_straight h e) = refl
   erased_plain (typed.is_transfer h e g) = refl
-  erased_plain (typed.is_push {name = name} {annots = annots} h e g) = sym (by_word name annots _ _ p.OpPush _ (formed name f.push h (λ x. cc)) push_word)
+  erased_plain (typed.is_push {name = name} {annots = annots} h e g reads held) = sym (by_word name annots _ _ p.OpPush _ (formed name f.push h (λ x. cc)) push_word)
   erased_plain (typed.is_dip {name = name} {annots = annots} {ts = ts} {is = is} h le b) =
       one_body _ is ts (all_plain b) ∙ sym (by_word name annots _ _ p.OpDip _ (formed name f.dip h (λ x. cc)) dip_word)
   erased_plain (typed.is_dip_by {name = name} {annots = annots} {t = t} {ts = ts} {n = n} {is = is} h e le b) =

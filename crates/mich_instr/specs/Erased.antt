@@ -27,7 +27,7 @@ abbrev mutual
   pub erased : Code → Tree
   erased (made.seq is) = node.seq (all_erased is)
   erased (made.straight r t) = t
-  erased (made.push a t u) = named (codes "PUSH") (two t u)
+  erased (made.push a t u is) = named (codes "PUSH") (two t u)
   erased (made.dip n ts is) = named (codes "DIP") (and_last ts (node.seq (all_erased is)))
   erased (made.lambda recursive a r ts t is) = named (lambda_name recursive) (and_last ts t)
   erased (made.exec a r) = named (codes "EXEC") none

@@ -7,6 +7,8 @@ use Rattle.rules_text.specs.nodes.Primitives.{primitive_of_name}
 use Rattle.rules_data.specs.types.Kind.{Kind, operation, option, or, pair, list, lambda}
 use Rattle.rules_data.specs.types.Kind as k
 use Rattle.rules_data.specs.types.Entrypoints.{Entry, find_entry}
+use Rattle.rules_data.specs.values.Val.{Val}
+use Rattle.rules_data.specs.values.Literals.{Pending, body, claim, good, read}
 use Rattle.rules_code.specs.instructions.Types.{bool, address, mutez, key_hash}
 use Rattle.rules_code.specs.instructions.Types as t
 use Rattle.rules_code.specs.instructions.Straight.{Straight}
@@ -54,10 +56,11 @@ mutual
         HasForm f.transfer name → rule (primitive_of_name name) annots ts A ≡ ruled r B →
         tree_type (prim name annots ts) c A ≡ goes B →
         IsCode c (prim name annots ts) (made.straight r (plain (prim name annots ts))) A B
-    is_push : {c : Context} {name : List ℕ} {annots : List (List ℕ)} {t u : Tree} {p : Pushed} {A : List Kind} →
+    is_push : {c : Context} {name : List ℕ} {annots : List (List ℕ)} {t u : Tree} {p : Pushed} {x : Val} {ps : List Pending} {is : Codes} {A : List Kind} →
         HasForm f.push name → push_of (more t (more u none)) ≡ found p →
         tree_type (prim name annots (more t (more u none))) c A ≡ goes (p.kind ∷ A) →
-        IsCode c (prim name annots (more t (more u none))) (made.push p.kind (bare t) u) A (p.kind ∷ A)
+        read p.kind p.location p.literal ≡ good x ps → AreHeld ps is →
+        IsCode c (prim name annots (more t (more u none))) (made.push p.kind (bare t) u is) A (p.kind ∷ A)
     is_dip : {c : Context} {name : List ℕ} {annots : List (List ℕ)} {ts : Trees} {is : Codes} {S C : List Kind} →
         HasForm f.dip name → 1 ≤ length S → AreCode c ts is (drop 1 S) C →
         IsCode c (prim name annots (more (seq ts) none)) (made.dip 1 none is) S (take 1 S ++ C)
@@ -111,6 +114,14 @@ mutual
     no_code : {c : Context} {A : List Kind} → AreCode c none made.none A A
     more_code : {c : Context} {t : Tree} {ts : Trees} {i : Code} {is : Codes} {A M B : List Kind} →
         IsCode c t i A M → AreCode c ts is M B → AreCode c (more t ts) (made.more i is) A B
+
+  -- the bodies of the lambdas in a literal, in pre-order, each with its typed code
+  pub data AreHeld : List Pending → Codes → Type 0 where
+    none_held : AreHeld [] made.none
+    held_claim : {l : ℕ} {b : List ℕ} {a : Kind} {ps : List Pending} {is : Codes} → AreHeld ps is → AreHeld (claim l b a ∷ ps) is
+    held_body : {l : ℕ} {a r : Kind} {recursive : Bool} {ts : Trees} {is js : Codes} {ps : List Pending} →
+        AreCode place.lambda ts is (call_kinds a r recursive) (r ∷ []) → AreHeld ps js →
+        AreHeld (body l a r recursive (seq ts) ∷ ps) (made.more (made.lambda recursive a r none (seq ts) is) js)
 
   -- a script that is typed, with its code
   pub data IsScript : Tree → ScriptCode → Type 0 where

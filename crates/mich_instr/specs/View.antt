@@ -18,7 +18,7 @@ use Rattle.mich_instr.specs.declared.instr.Instr.TheOpen.{Instr-F, Script-F, Vie
 abbrev pub instr_step : Instr-F Code ScriptCode ViewCode → Code
 instr_step (Instr-F.Seq is) = c.seq (codes_of is)
 instr_step (Instr-F.Straight s app) = c.straight (straight s) (app_tree app)
-instr_step (Instr-F.Push ty written literal) = c.push (kind ty) (tree written) (tree literal)
+instr_step (Instr-F.Push ty written literal lambdas) = c.push (kind ty) (tree written) (tree literal) (codes_of lambdas)
 instr_step (Instr-F.Dip count written body) = c.dip count (trees written) (codes_of body)
 instr_step (Instr-F.Lambda recursive arg ret written body is) = c.lambda recursive (kind arg) (kind ret) (trees written) (tree body) (codes_of is)
 instr_step (Instr-F.Exec arg ret) = c.exec (kind arg) (kind ret)

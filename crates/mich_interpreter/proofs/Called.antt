@@ -11,7 +11,7 @@ use Rattle.rules_data.specs.values.Val.{some}
 use Rattle.rules_code.specs.steps.Changes.{burnt_in, minted_in}
 use Rattle.rules_code.specs.steps.Failure as f
 use Rattle.rules_code.specs.evaluation.Operations.{Tally}
-use Rattle.rules_code.specs.evaluation.Outcome.{Outcome, failed, stack}
+use Rattle.rules_code.specs.evaluation.Outcome.{Outcome, failed}
 use Rattle.laws_code.specs.evaluation.Laws.{amount_issued}
 use Rattle.mich_frames.specs.Around.{Around}
 use Rattle.mich_frames.specs.Frames as fr

@@ -1,5 +1,5 @@
 -- Values that lambdas capture.
-use Rattle.std.proofs.Common.{◌≡◌, ◌<◌, ◌≤◌, ℕ, Bool, true, false, List, [], ◌∷◌, ap, sym, ◌∙◌}
+use Rattle.std.proofs.Common.{◌≡◌, ◌<◌, ◌≤◌, ℕ, Bool, true, false, List, [], ◌∷◌, refl, ap, sym, ◌∙◌, subst}
 use Rattle.rules_text.specs.nodes.Limits.{applied_size, applied_depth}
 use Rattle.rules_text.specs.nodes.Tree.{Tree, seq, Trees, none, size}
 use Rattle.rules_text.specs.nodes.Tree.{depth as levels}
@@ -15,7 +15,12 @@ use Rattle.rules_code.specs.typing.Fits.{Fits}
 use Rattle.rules_code.specs.evaluation.Calls.{applied, within_bounds}
 use Rattle.rules_code.specs.evaluation.Operations.{Tally}
 use Rattle.rules_code.specs.evaluation.Outcome.{Outcome, stack, failed, after, only_if, charge}
-use Rattle.laws_code.specs.evaluation.Laws.{known}
+use Rattle.rules_data.specs.values.Canonical.{canonical}
+use Rattle.rules_code.specs.instructions.Context as place
+use Rattle.laws_code.specs.evaluation.Laws.{known, IsType}
+use Rattle.laws_code.proofs.stacks.ForCallers.{type_argument, type_first}
+use Rattle.laws_code.proofs.literals.ForCallers.{captured_again, push_typed}
+use Rattle.mich_interpreter.specs.Applied.{Captures}
 use Rattle.laws_data.proofs.types_lemmas.ForCallers.{same_kind_refl}
 use Rattle.mich_store_steps.proofs.seen.ForCallers.{pushable_seen}
 use Rattle.mich_term.specs.ValueView.{val}
@@ -46,6 +51,37 @@ module _ {fs : List Frame} {u : Around} {m : Tally} {d : ℕ} {Z : List Kind} {o
   pub captured_seen : (big : Sight) (x : Value) (t : Tree) (recursive : Bool) (W : List Val) → MeetsAt (made.apply a b r) fs u (seen big x ∷ v.lambda t recursive ∷ W) m d Z o → seen big x ≡ val x
   captured_seen big x (seq ts) recursive W h = let f = captured_fits (seen big x) ts recursive W h in pushable_seen (known u.contract_at m.issued) big a x f.0 f.1
   captured_seen big x _ recursive W h = absurd (apply_top h)
+
+  captured_whole : (x : Val) (ts : Trees) (recursive : Bool) (W : List Val) → MeetsAt (made.apply a b r) fs u (x ∷ v.lambda (seq ts) recursive ∷ W) m d Z o → IsType (k.lambda (k.pair a b) r)
+  captured_whole x ts recursive W h = meets_fine h by
+    where
+      by : FineCase (made.apply a b r) fs u (x ∷ v.lambda (seq ts) recursive ∷ W) m d Z o (IsType (k.lambda (k.pair a b) r))
+      by ps c _ _ _ (is_apply form) rests depth same typed small fine = fine.types.1.0
+
+  -- the literal of what is captured and the node that is made are what the typed code is made of
+  captures_is : (x : Val) (t : Tree) (recursive : Bool) (W : List Val) (literal node : Tree) → MeetsAt (made.apply a b r) fs u (x ∷ v.lambda t recursive ∷ W) m d Z o → literal ≡ canonical x →
+      node ≡ applied a b r x t recursive → Captures a b r x literal t recursive node
+  captures_is x (seq ts) recursive W literal node h e g =
+      let f = captured_fits x ts recursive W h in
+      let whole = captured_whole x ts recursive W h in
+      let first = type_first a b (type_argument (k.pair a b) r whole) in
+      record {
+        pushes = f.0;
+        gives = captured_again (known u.contract_at m.issued) a x f.0 first f.1;
+        whole = whole;
+        typed = push_typed (known u.contract_at m.issued) a x f.0 first f.1 place.lambda (b ∷ []);
+        spelled = e;
+        sequence = refl;
+        made = g;
+      }
+  captures_is x _ recursive W literal node h e g = absurd (apply_top h)
+
+  pub captures_value : (big : Sight) (x : Value) (t : Tree) (recursive : Bool) (W : List Val) (literal node : Tree) → MeetsAt (made.apply a b r) fs u (seen big x ∷ v.lambda t recursive ∷ W) m d Z o →
+      literal ≡ canonical (val x) → node ≡ applied a b r (val x) t recursive → Captures a b r (val x) literal t recursive node
+  captures_value big x t recursive W literal node h e g =
+      let same = captured_seen big x t recursive W h in
+      subst (λ (z : Val). Captures a b r z literal t recursive node) same
+      (captures_is (seen big x) t recursive W literal node h (e ∙ ap canonical (sym same)) (g ∙ ap (λ (z : Val). applied a b r z t recursive) (sym same)))
 
   pub apply_any_broke : (x : Val) (V : List Val) → Lacks u g.Apply (weight x) m → MeetsAt (made.apply a b r) fs u (x ∷ V) m d Z o → HasCall (x ∷ V) → o ≡ failed f.out_of_gas
   apply_any_broke x (v.lambda (seq ts) recursive ∷ W) lacks h top = apply_broke x ts recursive W h lacks

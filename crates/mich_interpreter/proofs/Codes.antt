@@ -50,8 +50,8 @@ code_map is = search (rules, instrs.the_lemmas)
 pub code_straight : (s : Simple) (app : App) → code (instr.Straight s app) ≡ made.straight (straight s) (app_tree app)
 code_straight s app = search (rules, instrs.the_lemmas)
 
-pub code_push : (a : Ty) (written literal : Node) → code (instr.Push a written literal) ≡ made.push (kind a) (tree written) (tree literal)
-code_push a written literal = search (rules, instrs.the_lemmas)
+pub code_push : (a : Ty) (written literal : Node) (lambdas : List Instr) → code (instr.Push a written literal lambdas) ≡ made.push (kind a) (tree written) (tree literal) (codes lambdas)
+code_push a written literal lambdas = search (rules, instrs.the_lemmas)
 
 pub code_lambda : (recursive : Bool) (a r : Ty) (written : List Node) (body : Node) (is : List Instr) →
     code (instr.Lambda recursive a r written body is) ≡ made.lambda recursive (kind a) (kind r) (trees written) (tree body) (codes is)

@@ -16,7 +16,7 @@ use Rattle.rules_code.specs.evaluation.Outcome.{Outcome, failed}
 use Rattle.mich_control.specs.Answers.{inside}
 use Rattle.mich_instr.specs.Code.{Codes}
 use Rattle.mich_instr.specs.Code as made
-use Rattle.mich_instr.specs.Typed.{AreCode, is_exec}
+use Rattle.mich_instr.specs.Typed.{AreCode, is_exec, is_lambda}
 use Rattle.mich_frames.specs.Around.{Around, less, Pays, Lacks}
 use Rattle.mich_frames.specs.Frames.{Frame}
 use Rattle.mich_frames.specs.Frames as fr
@@ -74,3 +74,16 @@ module _ {fs : List Frame} {u : Around} {m : Tally} {d : ℕ} {Z : List Kind} {o
       MeetsAt (made.exec a r) fs u (x ∷ v.lambda t recursive ∷ W) m d Z o → OpensAt is (fr.call W ∷ fs) u (called x t recursive) (less u g.Exec 0 m) d Z o
   exec_any_opens {is = is} x (seq ts) recursive W pays fine h = subst (λ (X : List Val). OpensAt is (fr.call W ∷ fs) u X (less u g.Exec 0 m) d Z o) (called_is x ts recursive) (exec_opens x ts recursive W pays fine h)
   exec_any_opens x _ recursive W pays fine h = absurd (exec_top h)
+
+-- ---- LAMBDA and LAMBDA_REC
+
+module _ {fs : List Frame} {u : Around} {m : Tally} {d : ℕ} {Z : List Kind} {o : Outcome} {V : List Val} where
+  -- the code that stands beside the body is its typed code
+  pub lambda_body : {a r : Kind} {written : Trees} {is : Codes} (recursive : Bool) (body : Tree) → MeetsAt (made.lambda recursive a r written body is) fs u V m d Z o →
+      AreCode place.lambda (inside body) is (call_kinds a r recursive) (r ∷ [])
+  lambda_body {a = a} {r = r} {written = written} {is = is} recursive body h =
+      by recursive a r written body is h.pending h.context h.node h.types h.next h.fine h.rests h.depth h.same h.typed h.small h.holds
+    where
+      by : (recursive : Bool) (a r : Kind) (written : Trees) (body : Tree) (is : Codes) →
+          FineCase (made.lambda recursive a r written body is) fs u V m d Z o (AreCode place.lambda (inside body) is (call_kinds a r recursive) (r ∷ []))
+      by recursive _ _ _ _ _ ps c _ _ _ (is_lambda form found_is fine) rests depth same typed small holds = fine

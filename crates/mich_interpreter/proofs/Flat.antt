@@ -1,6 +1,6 @@
 -- Values in which there is no big map: they are the same however big maps are seen.
 use Rattle.std.proofs.Common.{◌≡◌, true, List, [], ◌∷◌, map, refl, sym, ap, ◌∙◌, subst}
-use Rattle.std.proofs.lemmas.Bool.{and_parts, and_from}
+use Rattle.std.proofs.lemmas.Bool.{and_parts}
 use Rattle.rules_data.specs.values.Val.{Val, Vals, Pairs, no_val, more_vals, no_pair, more_pairs, is_comparable}
 use Rattle.rules_data.specs.values.Val as v
 use Rattle.mich_term.specs.View.{datum, vals_of, pairs_of}

@@ -13,7 +13,7 @@ use Rattle.rules_code.specs.evaluation.Issuing.{with_operation}
 use Rattle.rules_code.specs.evaluation.Outcome.{Outcome}
 use Rattle.mich_gas.specs.declared.costs.Costs.{Costs}
 use Rattle.mich_gas.specs.View.{listed}
-use Rattle.mich_instr.specs.declared.issued.Issued.{Issued}
+use Rattle.mich_ops.specs.declared.issued.Issued.{Issued}
 use Rattle.mich_term.specs.declared.value.Value.{Value}
 use Rattle.mich_term.specs.declared.value.Value as values
 use Rattle.mich_term.specs.declared.value.Value.TheVariants as value

@@ -1,7 +1,7 @@
 -- What runs keep.
 use Rattle.std.proofs.Common.{◌≡◌, List, [], ◌∷◌, ◌++◌, ◌∙◌, refl, ap, sym, subst}
 use Rattle.std.specs.List.{AllByRecursion}
-use Rattle.mich_instr.specs.declared.issued.Issued.{Issued}
+use Rattle.mich_ops.specs.declared.issued.Issued.{Issued}
 use Rattle.mich_step.proofs.ForCallers.{tells_equal}
 use Rattle.mich_base.specs.undo.History.{Keeps}
 use Rattle.mich_base.proofs.undo_lemmas.ForCallers.{keeps_same, keeps_trans}

@@ -38,3 +38,6 @@ pub mod BigMapRows
 pub mod Executed
 pub mod Captured
 pub mod Founded
+pub mod Held
+pub mod AppliedCode
+pub mod CapturedCode

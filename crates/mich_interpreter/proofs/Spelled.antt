@@ -23,13 +23,14 @@ use Rattle.rules_code.specs.evaluation.Operations.{Tally}
 use Rattle.rules_code.specs.evaluation.Outcome.{Outcome}
 use Rattle.laws_code.specs.evaluation.Laws.{known}
 use Rattle.laws_code.proofs.typed.ForCallers.{Taken}
-use Rattle.mich_instr.specs.Code.{ScriptCode}
+use Rattle.mich_instr.specs.Code.{Codes, ScriptCode}
 use Rattle.mich_instr.specs.Code as made
 use Rattle.mich_instr.specs.Typed.{is_create, is_push}
 use Rattle.mich_frames.specs.Around.{Around}
 use Rattle.mich_frames.specs.Frames.{Frame}
 use Rattle.mich_frames.specs.Stands.{MeetsAt}
-use Rattle.mich_frames.proofs.ForCallers.{push_reads, FineCase, meets_fine, row_taken}
+use Rattle.mich_frames.proofs.ForCallers.{push_holds, push_reads, FineCase, meets_fine, row_taken}
+use Rattle.mich_interpreter.specs.Literals.{HoldsLiteral}
 use Rattle.mich_interpreter.specs.Parts.{HasAddress, HasAmount, HasDelegate, IsSpelledKeyHash}
 use Rattle.mich_interpreter.proofs.Located.{value_there}
 
@@ -118,17 +119,21 @@ module _ {fs : List Frame} {u : Around} {m : Tally} {d : ℕ} {Z : List Kind} {o
       by : (x : ScriptCode) → FineCase (made.create_contract x) fs u V m d Z o (HasDelegate V × HasAmount (drop 1 V))
       by _ ps c _ _ _ (is_create {g = g} {A = A} form goes_is fine) rests depth same typed small holds = origination_operands (known u.contract_at m.issued) g A V holds.fits
 
-  module _ (a : Kind) (w x : Tree) (h : MeetsAt (made.push a w x) fs u V m d Z o) where
+  module _ (a : Kind) (w x : Tree) {is : Codes} (h : MeetsAt (made.push a w x is) fs u V m d Z o) where
     -- the literal of PUSH is within its node
     pub push_small : size x < 2 ^ 32
-    push_small = meets_fine h (by a w x)
+    push_small = meets_fine h (by a w x is)
       where
         within : (name : List ℕ) (annots : List (List ℕ)) (y x : Tree) → size (prim name annots (more y (more x none))) < 2 ^ 32 → size x < 2 ^ 32
         within name annots y x small = omega (arith, small)
 
-        by : (a : Kind) (w x : Tree) → FineCase (made.push a w x) fs u V m d Z o (size x < 2 ^ 32)
-        by _ _ x ps c _ _ _ (is_push {name = name} {annots = annots} {t = y} has_form found_is goes_is) rests depth same typed small holds = within name annots y x small
+        by : (a : Kind) (w x : Tree) (is : Codes) → FineCase (made.push a w x is) fs u V m d Z o (size x < 2 ^ 32)
+        by _ _ x _ ps c _ _ _ (is_push {name = name} {annots = annots} {t = y} has_form found_is goes_is reads held) rests depth same typed small holds = within name annots y x small
 
     -- it is a literal of its type, wherever it stands
     pub push_literal : (at : ℕ) → is_some (value_of (read a at x)) ≡ true
     push_literal at = let r = push_reads a w x h in ap (λ (y : Option Val). is_some y) (value_there a at (1 + size w) x ∙ r.1)
+
+    -- and these are the lambdas in it
+    pub push_lambdas : HoldsLiteral (1 + size w) a x is
+    push_lambdas = push_holds a w x h

@@ -13,7 +13,6 @@ use Rattle.rules_data.specs.forms.Spelling.{contract_place, implicit_place, spel
 use Rattle.rules_code.specs.typing.Scripts.{Outline, TypedView}
 use Rattle.rules_code.specs.evaluation.Contracts.{Viewed, contract_in, hash_in, outline_in, view_named, viewed, viewed_of, viewed_with}
 use Rattle.rules_code.specs.evaluation.Surroundings.{Contract as PlainContract}
-use Rattle.mich_store_steps.specs.seen.Sights.{sight}
 use Rattle.mich_store_steps.proofs.seen.ForCallers.{sound_of, sound_seen}
 use Rattle.laws_code.proofs.stacks.ForCallers.{place_back}
 use Rattle.mich_literals.proofs.arguments_lemmas.ForCallers.{account_place, contract_place_is}
@@ -31,7 +30,6 @@ use Rattle.mich_instr.specs.declared.instr.Script.{Script, out-Script}
 use Rattle.mich_instr.specs.declared.instr.Script as scripts
 use Rattle.mich_stack.specs.Views.{seen}
 use Rattle.mich_world.proofs.simulation_lemmas.ForCallers.{hash_of}
-use Rattle.mich_term.specs.declared.value.Value.{Value}
 use Rattle.mich_types.specs.Entered.{entry_of}
 use Rattle.mich_world.specs.Holders.{by_bytes, contract_at}
 use Rattle.mich_world.specs.Standing.{plain}

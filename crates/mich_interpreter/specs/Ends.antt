@@ -153,13 +153,12 @@ Carries i costs old new r =
     (x : Beyond) (fs : List fr.Frame) (d : ℕ) (Z : List Kind) (o : Outcome) → Meets i x costs old fs d Z o →
     IfOk r (λ a. Acts a x costs new fs d Z o)
 
--- the same of LAMBDA or LAMBDA_REC with this body, whatever its types are
-abbrev pub ComesLambda : Bool → Tree → Costs → State → Type 0
-ComesLambda recursive body costs m = (a : Kind) × (r : Kind) × (written : Trees) × (is : Codes) × Comes (made.lambda recursive a r written body is) costs m
+-- the same of LAMBDA or LAMBDA_REC with these types, this body and its code, however the types are written
+abbrev pub ComesLambda : Bool → Kind → Kind → Tree → Codes → Costs → State → Type 0
+ComesLambda recursive a r body is costs m = (written : Trees) × Comes (made.lambda recursive a r written body is) costs m
 
-abbrev pub CarriesLambda : Bool → Tree → Costs → State → State → Result Act Memory → Type 0
-CarriesLambda recursive body costs old new result =
-    (a r : Kind) (written : Trees) (is : Codes) → Carries (made.lambda recursive a r written body is) costs old new result
+abbrev pub CarriesLambda : Bool → Kind → Kind → Tree → Codes → Costs → State → State → Result Act Memory → Type 0
+CarriesLambda recursive a r body is costs old new result = (written : Trees) → Carries (made.lambda recursive a r written body is) costs old new result
 
 -- the same for what sees a world
 abbrev pub ComesIn : World → Code → Costs → State → Type 0

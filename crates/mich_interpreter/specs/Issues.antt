@@ -5,11 +5,11 @@ use Rattle.rules_code.specs.evaluation.Operations.{transfer, origination, event}
 use Rattle.rules_code.specs.evaluation.Operations as rules
 use Rattle.mich_base.specs.TypeView.{kind}
 use Rattle.mich_forms.specs.Spelled.{address_bytes}
-use Rattle.mich_instr.specs.Issued.{numbered}
+use Rattle.mich_ops.specs.Issued.{numbered}
 use Rattle.mich_instr.specs.Scripts.{IsTypedScript}
 use Rattle.mich_instr.specs.View.{script_node}
-use Rattle.mich_instr.specs.declared.issued.Issued.{Issued}
-use Rattle.mich_instr.specs.declared.issued.Issued.TheVariants as i
+use Rattle.mich_ops.specs.declared.issued.Issued.{Issued}
+use Rattle.mich_ops.specs.declared.issued.Issued.TheVariants as i
 use Rattle.mich_stack.specs.Views.{Sight, seen}
 use Rattle.rules_text.specs.nodes.Limits.{operation_limit}
 

@@ -11,3 +11,5 @@ pub mod Callers
 pub mod Viewing
 pub mod Visits
 pub mod Calls
+pub mod Literals
+pub mod Applied

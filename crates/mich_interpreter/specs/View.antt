@@ -19,7 +19,7 @@ use Rattle.mich_step.specs.Views.{environment}
 use Rattle.mich_tickets.specs.Books.{State as Ledger}
 use Rattle.mich_tickets.specs.Effects.{change}
 use Rattle.mich_tickets.specs.Sums.{minted_of, burnt_of}
-use Rattle.mich_instr.specs.declared.issued.Issued.{Issued}
+use Rattle.mich_ops.specs.declared.issued.Issued.{Issued}
 use Rattle.mich_interpreter.specs.Issues.{issued_by}
 use Rattle.mich_interpreter.specs.Items.{items_left}
 use Rattle.mich_interpreter.specs.Made.{making_of}

@@ -10,13 +10,13 @@ ghost use Rattle.mich_interpreter.specs.Ends.{Comes, Carries, Spends};
 ghost use Rattle.mich_interpreter.specs.Calls.{capturing};
 
 use crate::act::{Act, Failed};
+use crate::applied::made_body;
 use crate::calls::pop_lambda;
 use crate::paying::pay_capped;
 use crate::stack::{pop, push};
 use crate::state::State;
 use mich_base::{
-    APPLIED_DEPTH, APPLIED_SIZE, Memory, Node, Nodes, Shared, Ty, copy_node, depth_within,
-    size_within,
+    APPLIED_DEPTH, APPLIED_SIZE, Memory, Node, Nodes, Ty, copy_node, depth_within, size_within,
 };
 use mich_data::value_node;
 use mich_gas::{Costs, Kind};
@@ -115,14 +115,15 @@ pub(crate) fn act_apply(
         return Ok(Act::Failed(Failed::OutOfGas));
     }
     let (body, recursive) = pop_lambda(&mut m.stack);
-    let made = applied_node(alloc, captured, rest, ret, &value, body.get(), recursive)?;
+    let old = body.get();
+    let made = applied_node(alloc, captured, rest, ret, &value, old.node(), recursive)?;
     if !size_within(&made, APPLIED_SIZE) {
         return Ok(Act::Failed(Failed::SizeLimit));
     }
     if !depth_within(&made, APPLIED_DEPTH) {
         return Ok(Act::Failed(Failed::DepthLimit));
     }
-    let shared = Shared::new(alloc, made)?;
-    push(&mut m.stack, Value::Lambda(shared, false))?;
+    let taken = made_body(alloc, captured, rest, ret, &value, old, recursive, made)?;
+    push(&mut m.stack, Value::Lambda(taken, false))?;
     Ok(Act::On)
 }

@@ -14,15 +14,16 @@ use crate::frame::Frame;
 use crate::paying::pay;
 use crate::stack::{pop, push};
 use crate::state::State;
-use mich_base::{Link, Memory, Node, Rows, Shared, Ty, copy_type};
+use mich_base::{Link, Memory, Rows, Shared, Ty, copy_type};
 use mich_check::cache::Bodies;
 use mich_gas::{Costs, Kind};
+use mich_instr::Body;
 use mich_term::Value;
 use std::alloc::Global;
 use std::mem;
 
 // Takes the lambda on top: its body, and whether it is recursive.
-pub(crate) fn pop_lambda(stack: &mut Rows<Value>) -> (Shared<Node>, bool)
+pub(crate) fn pop_lambda(stack: &mut Rows<Value>) -> (Shared<Body>, bool)
     requires { (big : Sight) × HasLambda (tops big stack.old) }
     ensures { (big : Sight) → tops big stack.old ≡ lambda (tree result.0) result.1 ∷ tops big stack.new }
 {
@@ -36,7 +37,7 @@ pub(crate) fn pop_lambda(stack: &mut Rows<Value>) -> (Shared<Node>, bool)
 fn call_stack(
     alloc: Global,
     argument: Value,
-    body: Shared<Node>,
+    body: Shared<Body>,
     recursive: bool,
 ) -> Result<Rows<Value>, Memory>
     ensures { IfOk result (λ s. (big : Sight) → tops big s ≡ called (seen big argument) (tree body) recursive) }

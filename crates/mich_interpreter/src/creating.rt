@@ -22,7 +22,8 @@ use crate::state::{Counts, State};
 use mich_base::{Bytes, Memory, Rows, Shared};
 use mich_forms::{KeyHash, Place};
 use mich_gas::{Costs, Kind};
-use mich_instr::{Issued, Script};
+use mich_instr::Script;
+use mich_ops::Issued;
 use mich_term::Value;
 use std::alloc::Global;
 

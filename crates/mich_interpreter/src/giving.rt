@@ -1,10 +1,10 @@
 // PUSH, LAMBDA, LAMBDA_REC and SELF.
 ghost use Rattle.std.specs.Prelude.{◌≡◌, ◌<◌, ◌^◌, ℕ, List, true, is_some, Some, IfOk, IfSome};
-ghost use Rattle.rules_text.specs.nodes.Tree.{Tree, size};
+ghost use Rattle.rules_text.specs.nodes.Tree.{Tree, Trees, size};
 ghost use Rattle.rules_data.specs.types.Kind.{simple};
 ghost use Rattle.rules_data.specs.types.Attributes.{pushable};
 ghost use Rattle.rules_data.specs.forms.Spelling.{contract_place, spelled_address};
-ghost use Rattle.rules_data.specs.values.Val.{bytes};
+ghost use Rattle.rules_data.specs.values.Val.{Val, bytes, lambda};
 ghost use Rattle.rules_data.specs.values.Literals.{read, simple_value};
 ghost use Rattle.rules_code.specs.evaluation.Given.{value_of};
 ghost use Rattle.mich_base.specs.TypeView.{kind};
@@ -14,17 +14,21 @@ ghost use Rattle.mich_stack.specs.Views.{Sight, seen};
 ghost use Rattle.mich_term.specs.ValueView.{val};
 ghost use Rattle.mich_term.specs.declared.value.Value.{out-Value};
 ghost use Rattle.mich_frames.specs.Shapes.{lambda_price};
+ghost use Rattle.mich_instr.specs.Body.{IsBody};
 ghost use Rattle.mich_instr.specs.Code as made;
+ghost use Rattle.mich_instr.specs.View.{codes};
+ghost use Rattle.mich_interpreter.specs.Literals.{HoldsLiteral, IsLiteralOf};
 ghost use Rattle.mich_interpreter.specs.Ends.{Comes, ComesLambda, Carries, CarriesLambda, Spends};
 
 use crate::act::{Act, Failed};
 use crate::paying::{pay, pay_capped};
 use crate::stack::push;
 use crate::state::State;
-use mich_base::{Bytes, Memory, Node, Shared, Ty};
-use mich_data::{ValueError, read_value, simple_value};
+use mich_base::{Bytes, Memory, Node, Rows, Shared, Ty, copy_type};
+use mich_data::{ValueError, read_value_with, simple_value};
 use mich_forms::{Address, Entrypoint, Place};
 use mich_gas::{Costs, Kind};
+use mich_instr::{Block, Body, Instr, held_bodies};
 use mich_term::{Value, weight};
 use rules_data::types::Simple;
 use std::alloc::Global;
@@ -64,22 +68,79 @@ fn simple_literal(alloc: Global, simple: Simple, literal: &Node) -> Result<Value
     }
 }
 
-// The value of a literal of a type that can be pushed.
-fn literal_value(alloc: Global, ty: &Ty, literal: &Node) -> Result<Value, Memory>
+// The one lambda that a literal is, where these are its lambdas.
+fn only_lambda(
+    alloc: Global,
+    _arg: &Ty,
+    _ret: &Ty,
+    lambdas: &Rows<Instr>,
+) -> Result<Option<Value>, Memory>
+    requires { (x : Val) × IsLiteralOf (kind _arg.now) (kind _ret.now) x (codes lambdas.now) }
+    ensures { IfOk result (λ o. IfSome o (λ v. (x : Val) → IsLiteralOf (kind _arg.now) (kind _ret.now) x (codes lambdas.now) → (big : Sight) → seen big v ≡ x)) }
+{
+    let Some(instr) = lambdas.only() else {
+        return Ok(None);
+    };
+    let Instr::Lambda {
+        recursive,
+        arg,
+        ret,
+        body,
+        code,
+        ..
+    } = instr
+    else {
+        return Ok(None);
+    };
+    let value = typed_lambda(alloc, *recursive, arg, ret, body, code)?;
+    Ok(Some(value))
+}
+
+// The value of a literal that is read with the bodies of these lambdas.
+fn held_literal(
+    alloc: Global,
+    ty: &Ty,
+    literal: &Node,
+    lambdas: &Rows<Instr>,
+) -> Result<Value, Memory>
     requires pushed { pushable (kind ty.now) ≡ true }
     requires small { size (tree literal.now) < 2 ^ 32 }
     requires literal { (at : ℕ) → is_some (value_of (read (kind ty.now) at (tree literal.now))) ≡ true }
+    requires lambdas { (at : ℕ) × HoldsLiteral at (kind ty.now) (tree literal.now) (codes lambdas.now) }
+    ensures { IfOk result (λ v. (big : Sight) (at : ℕ) → value_of (read (kind ty.now) at (tree literal.now)) ≡ Some (seen big v)) }
+{
+    let bodies = held_bodies(alloc, lambdas)?;
+    match read_value_with(alloc, ty, literal, 0, bodies) {
+        Ok(read) => Ok(read.value),
+        Err(ValueError::NotOfType(_)) => unreachable!(),
+        Err(ValueError::Memory) => Err(Memory),
+    }
+}
+
+// The value of a literal of a type that can be pushed, with these lambdas in it.
+fn literal_value(
+    alloc: Global,
+    ty: &Ty,
+    literal: &Node,
+    lambdas: &Rows<Instr>,
+) -> Result<Value, Memory>
+    requires pushed { pushable (kind ty.now) ≡ true }
+    requires small { size (tree literal.now) < 2 ^ 32 }
+    requires literal { (at : ℕ) → is_some (value_of (read (kind ty.now) at (tree literal.now))) ≡ true }
+    requires lambdas { (at : ℕ) × HoldsLiteral at (kind ty.now) (tree literal.now) (codes lambdas.now) }
     ensures { IfOk result (λ v. (big : Sight) (at : ℕ) → value_of (read (kind ty.now) at (tree literal.now)) ≡ Some (seen big v)) }
 {
     if let Some(simple) = simple_of(ty) {
         let value = simple_literal(alloc, simple, literal)?;
         return Ok(value);
     }
-    match read_value(alloc, ty, literal) {
-        Ok(read) => Ok(read.value),
-        Err(ValueError::NotOfType(_)) => unreachable!(),
-        Err(ValueError::Memory) => Err(Memory),
+    if let Ty::Lambda(arg, ret) = ty {
+        let only = only_lambda(alloc, arg.get(), ret.get(), lambdas)?;
+        if let Some(value) = only {
+            return Ok(value);
+        }
     }
+    held_literal(alloc, ty, literal, lambdas)
 }
 
 pub(crate) fn act_push(
@@ -88,20 +149,41 @@ pub(crate) fn act_push(
     costs: &Costs,
     ty: &Ty,
     literal: &Node,
+    lambdas: &Rows<Instr>,
 ) -> Result<Act, Memory>
-    requires { (written : Tree) × Comes (made.push (kind ty.now) written (tree literal.now)) costs.now m.old }
-    ensures acts { (written : Tree) → Carries (made.push (kind ty.now) written (tree literal.now)) costs.now m.old m.new result }
+    requires { (written : Tree) × Comes (made.push (kind ty.now) written (tree literal.now) (codes lambdas.now)) costs.now m.old }
+    ensures acts { (written : Tree) → Carries (made.push (kind ty.now) written (tree literal.now) (codes lambdas.now)) costs.now m.old m.new result }
     ensures less { IfOk result (λ a. Spends a m.old.meter m.new.meter) }
     ensures ledger { m.new.ledger ≡ m.old.ledger }
     ensures counts { m.new.counts ≡ m.old.counts }
     ensures issued { m.new.issued ≡ m.old.issued }
 {
-    let value = literal_value(alloc, ty, literal)?;
+    let value = literal_value(alloc, ty, literal, lambdas)?;
     if !pay_capped(&mut m.meter, costs, Kind::Push, weight(&value)) {
         return Ok(Act::Failed(Failed::OutOfGas));
     }
     push(&mut m.stack, value)?;
     Ok(Act::On)
+}
+
+// The lambda of a body with its typed code, in constant time.
+fn typed_lambda(
+    alloc: Global,
+    recursive: bool,
+    arg: &Ty,
+    ret: &Ty,
+    body: &Shared<Node>,
+    code: &Block,
+) -> Result<Value, Memory>
+    requires { IsBody arg.now ret.now recursive body.now code.now }
+    ensures { IfOk result (λ v. (big : Sight) → seen big v ≡ lambda (tree body.now) recursive) }
+{
+    let node = body.share()?;
+    let code = code.share()?;
+    let arg = copy_type(alloc, arg)?;
+    let ret = copy_type(alloc, ret)?;
+    let body = Body::typed(alloc, arg, ret, recursive, node, code)?;
+    Ok(Value::Lambda(body, recursive))
 }
 
 fn lambda_kind(recursive: bool) -> Kind
@@ -115,13 +197,17 @@ fn lambda_kind(recursive: bool) -> Kind
 }
 
 pub(crate) fn act_lambda(
+    alloc: Global,
     m: &mut State,
     costs: &Costs,
     recursive: bool,
+    arg: &Ty,
+    ret: &Ty,
     body: &Shared<Node>,
+    code: &Block,
 ) -> Result<Act, Memory>
-    requires { ComesLambda recursive (tree body.now) costs.now m.old }
-    ensures acts { CarriesLambda recursive (tree body.now) costs.now m.old m.new result }
+    requires { ComesLambda recursive (kind arg.now) (kind ret.now) (tree body.now) (codes code.now) costs.now m.old }
+    ensures acts { CarriesLambda recursive (kind arg.now) (kind ret.now) (tree body.now) (codes code.now) costs.now m.old m.new result }
     ensures less { IfOk result (λ a. Spends a m.old.meter m.new.meter) }
     ensures ledger { m.new.ledger ≡ m.old.ledger }
     ensures counts { m.new.counts ≡ m.old.counts }
@@ -131,8 +217,8 @@ pub(crate) fn act_lambda(
     if !pay(&mut m.meter, costs, kind, 0) {
         return Ok(Act::Failed(Failed::OutOfGas));
     }
-    let body = body.share()?;
-    push(&mut m.stack, Value::Lambda(body, recursive))?;
+    let lambda = typed_lambda(alloc, recursive, arg, ret, body, code)?;
+    push(&mut m.stack, lambda)?;
     Ok(Act::On)
 }
 

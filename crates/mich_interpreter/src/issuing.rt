@@ -26,7 +26,7 @@ use mich_base::{Bytes, Link, Memory, OPERATION_LIMIT, Rows, Text, Ty, copy_type}
 use mich_check::cache::Bodies;
 use mich_forms::{Address, Entrypoint};
 use mich_gas::{Costs, Kind};
-use mich_instr::Issued;
+use mich_ops::Issued;
 use mich_overload::OperationRow;
 use mich_term::Value;
 use mich_world::World;

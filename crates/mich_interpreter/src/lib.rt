@@ -2,6 +2,7 @@
 #![tactic(auto)]
 
 mod act;
+mod applied;
 mod applying;
 mod beginning;
 mod big_maps;

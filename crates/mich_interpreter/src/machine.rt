@@ -97,11 +97,19 @@ fn perform(
         Instr::Failwith(ty) => Ok(act_failwith(alloc, m, costs, ty)?),
         Instr::Lambda {
             recursive,
+            arg,
+            ret,
             body,
+            code,
             ..
-        } => Ok(act_lambda(m, costs, *recursive, body)?),
+        } => Ok(act_lambda(alloc, m, costs, *recursive, arg, ret, body, code)?),
         Instr::Never => Ok(act_never(m, costs)?),
-        Instr::Push { ty, literal, .. } => Ok(act_push(alloc, m, costs, ty, literal)?),
+        Instr::Push {
+            ty,
+            literal,
+            lambdas,
+            ..
+        } => Ok(act_push(alloc, m, costs, ty, literal, lambdas)?),
         Instr::SelfContract { entrypoint, .. } => Ok(act_self(alloc, m, costs, entrypoint)?),
         Instr::Straight(simple, _) => Ok(act_straight(alloc, m, costs, world, bodies, simple)?),
         Instr::CreateContract(script) => Ok(act_create(alloc, m, costs, script)?),

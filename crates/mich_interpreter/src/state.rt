@@ -4,7 +4,7 @@ ghost use Rattle.rules_text.specs.nodes.Limits.{most_contents, operation_limit};
 
 use mich_base::Rows;
 use mich_gas::Meter;
-use mich_instr::Issued;
+use mich_ops::Issued;
 use mich_step::Env;
 use mich_term::Value;
 use mich_tickets::Ledger;

@@ -34,10 +34,10 @@ use Rattle.mich_bigmap.proofs.ForCallers.{val_later, based_later}
 use Rattle.mich_base.specs.TypeView.{kind}
 use Rattle.mich_bigmap.specs.Layers.{HasBases}
 use Rattle.mich_forms.specs.Spelled.{address_bytes}
-use Rattle.mich_instr.specs.Issued.{numbered, issued as issued_plain}
+use Rattle.mich_ops.specs.Issued.{numbered, issued as issued_plain}
 use Rattle.mich_instr.specs.View.{script_node}
-use Rattle.mich_instr.specs.declared.issued.Issued.{Issued}
-use Rattle.mich_instr.specs.declared.issued.Issued.TheVariants as i
+use Rattle.mich_ops.specs.declared.issued.Issued.{Issued}
+use Rattle.mich_ops.specs.declared.issued.Issued.TheVariants as i
 use Rattle.mich_interpreter.specs.Issues.{IsScripted, issued_by}
 use Rattle.mich_interpreter.specs.View.{tops}
 use Rattle.mich_stack.specs.Views.{Sight, seen}

@@ -11,7 +11,7 @@ use Rattle.rules_world.specs.world.Runs.{Returned, numbers_in, Ended}
 use Rattle.mich_store_steps.specs.seen.Sights.{sight}
 use Rattle.mich_bigmap.specs.Layers.{HasBases}
 use Rattle.mich_instr.specs.Scripts.{IsTypedScript}
-use Rattle.mich_instr.specs.declared.issued.Issued.{Issued}
+use Rattle.mich_ops.specs.declared.issued.Issued.{Issued}
 use Rattle.mich_interpreter.specs.View.{tops}
 use Rattle.mich_ops.specs.declared.failure.Failure.TheVariants as failures
 use Rattle.mich_stack.specs.Views.{Sight, seen}

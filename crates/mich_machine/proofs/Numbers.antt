@@ -3,7 +3,7 @@ use Rattle.std.proofs.Common.{◌≡◌, ℕ, List, ◌∷◌, map, Some, None, 
 use Rattle.std.specs.declared.option.Option.{Option}
 use Rattle.rules_data.specs.values.Val.{Val, Pairs, operation, more_vals}
 use Rattle.rules_world.specs.world.Runs.{operation_number, with_number, numbers_in}
-use Rattle.mich_instr.specs.declared.issued.Issued.{Issued}
+use Rattle.mich_ops.specs.declared.issued.Issued.{Issued}
 use Rattle.mich_stack.specs.Views.{Sight, seen}
 use Rattle.mich_term.specs.View.{vals_of}
 use Rattle.mich_term.specs.ValueView.{value_step}

@@ -11,7 +11,7 @@ use Rattle.std.proofs.lemmas.Bool.{ltb-true, eqb-true}
 use Rattle.std.proofs.lemmas.List.{append-nil}
 use Rattle.rules_data.specs.values.Val.{Vals, operation, more_vals, no_val}
 use Rattle.rules_world.specs.world.Runs.{with_number, numbers_in}
-use Rattle.mich_instr.specs.declared.issued.Issued.{Issued}
+use Rattle.mich_ops.specs.declared.issued.Issued.{Issued}
 use Rattle.mich_machine.specs.Returned.{number_of, AreRising, Numbered, numbered, by_number, Pick, with_pick, picks}
 
 -- ---- operations are put behind those with lower numbers

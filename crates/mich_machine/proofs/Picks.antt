@@ -10,7 +10,7 @@ use Rattle.std.specs.declared.cmp.Ordering.TheVariants.{Less, Equal, Greater}
 use Rattle.std.proofs.lemmas.Bool.{eqb-true, eqb-false, ltb-true}
 use Rattle.rules_code.specs.evaluation.Operations as rules
 use Rattle.rules_world.specs.world.Runs.{stands_in, has_twice, with_issued, issued_with, unreturned}
-use Rattle.mich_instr.specs.declared.issued.Issued.{Issued}
+use Rattle.mich_ops.specs.declared.issued.Issued.{Issued}
 use Rattle.mich_machine.specs.Returned.{number_of, AreRising, numbered, by_number, Pick, with_pick, picks}
 
 -- ---- tests

@@ -17,7 +17,7 @@ use Rattle.mich_bigmap.specs.Bases.{Bases}
 use Rattle.mich_bigmap.proofs.ForCallers.{tickets_in_store}
 use Rattle.mich_instr.specs.Scripts.{IsTypedScript}
 use Rattle.mich_instr.specs.View.{script_node}
-use Rattle.mich_instr.specs.declared.issued.Issued.{Issued}
+use Rattle.mich_ops.specs.declared.issued.Issued.{Issued}
 use Rattle.mich_stack.specs.Views.{seen}
 use Rattle.mich_store_steps.specs.seen.Sights.{sight}
 use Rattle.mich_term.specs.ValueView.{val}

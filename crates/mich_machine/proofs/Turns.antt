@@ -3,7 +3,7 @@ use Rattle.std.proofs.Common.{◌≡◌, ◌<◌, ◌≤◌, ℕ, suc, List, [],
 use Rattle.std.specs.List.{AllByRecursion}
 use Rattle.rules_code.specs.evaluation.Operations as rules
 use Rattle.laws_world.specs.operations.NewOperations.{AreInTurn}
-use Rattle.mich_instr.specs.declared.issued.Issued.{Issued}
+use Rattle.mich_ops.specs.declared.issued.Issued.{Issued}
 use Rattle.mich_machine.specs.Returned.{number_of, AreRising}
 
 module _ (f : Issued → rules.Issued) (same : (x : Issued) → (f x).number ≡ number_of x) where

@@ -16,9 +16,9 @@ use Rattle.mich_bigmap.specs.Ticketless.{HoldNoTickets}
 use Rattle.mich_forms.specs.Spelled.{address_bytes}
 use Rattle.mich_instr.specs.Scripts.{IsTypedScript}
 use Rattle.mich_instr.specs.View.{script_node}
-use Rattle.mich_instr.specs.Issued.{numbered}
-use Rattle.mich_instr.specs.declared.issued.Issued.{Issued}
-use Rattle.mich_instr.specs.declared.issued.Issued.TheVariants as i
+use Rattle.mich_ops.specs.Issued.{numbered}
+use Rattle.mich_ops.specs.declared.issued.Issued.{Issued}
+use Rattle.mich_ops.specs.declared.issued.Issued.TheVariants as i
 use Rattle.mich_ops.specs.Told.{told}
 use Rattle.mich_ops.specs.View.{failure}
 use Rattle.mich_step.specs.Views.{environment}

@@ -12,7 +12,7 @@ use Rattle.rules_world.specs.world.Targets.{Target}
 use Rattle.rules_world.specs.world.World.{World as PlainWorld, contract_at}
 use Rattle.laws_world.specs.operations.NewOperations.{AreInTurn}
 use Rattle.mich_store_steps.specs.seen.Sights.{sight}
-use Rattle.mich_instr.specs.declared.issued.Issued.{Issued}
+use Rattle.mich_ops.specs.declared.issued.Issued.{Issued}
 use Rattle.mich_term.specs.declared.value.Value.{Value}
 use Rattle.mich_tickets.specs.Effects.{change}
 use Rattle.mich_world.specs.Standing.{StandsFor}

@@ -3,7 +3,7 @@ use Rattle.std.specs.Prelude.{◌≡◌, ℕ, List, map, Result, Ok, Err}
 use Rattle.std.specs.List.{AllByRecursion}
 use Rattle.rules_world.specs.world.Runs.{Ended, finished, run_failed, run_in}
 use Rattle.rules_world.specs.world.World.{World as PlainWorld}
-use Rattle.mich_instr.specs.declared.issued.Issued.{Issued}
+use Rattle.mich_ops.specs.declared.issued.Issued.{Issued}
 use Rattle.mich_ops.specs.Told.{told}
 use Rattle.mich_ops.specs.View.{failure}
 use Rattle.mich_ops.specs.declared.failure.Failure.{Failure}

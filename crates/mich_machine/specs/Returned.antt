@@ -6,9 +6,9 @@ use Rattle.std.specs.Map.{lookup, remove_entry}
 use Rattle.std.specs.Ordering.{nat_cmp}
 use Rattle.rules_code.specs.evaluation.Operations.{operation_tickets}
 use Rattle.rules_data.specs.values.Tickets.{Held}
-use Rattle.mich_instr.specs.Issued.{issued}
-use Rattle.mich_instr.specs.declared.issued.Issued.{Issued}
-use Rattle.mich_instr.specs.declared.issued.Issued.TheVariants as i
+use Rattle.mich_ops.specs.Issued.{issued}
+use Rattle.mich_ops.specs.declared.issued.Issued.{Issued}
+use Rattle.mich_ops.specs.declared.issued.Issued.TheVariants as i
 
 abbrev pub number_of : Issued → ℕ
 number_of (i.Transfer number argument amount to) = number

@@ -3,7 +3,7 @@ ghost use Rattle.std.specs.Prelude.{◌≡◌, ◌++◌, IfOk, map};
 ghost use Rattle.std.specs.Map.{values_of};
 ghost use Rattle.rules_code.specs.evaluation.Operations.{operation_tickets};
 ghost use Rattle.rules_code.specs.steps.Changes.{burns};
-ghost use Rattle.mich_instr.specs.Issued.{issued};
+ghost use Rattle.mich_ops.specs.Issued.{issued};
 ghost use Rattle.mich_term.specs.TicketView.{held};
 ghost use Rattle.mich_tickets.specs.Effects.{Tells};
 ghost use Rattle.mich_tickets.specs.Limits.{IsReady};
@@ -12,7 +12,7 @@ ghost use Rattle.mich_machine.specs.Returned.{handed};
 
 use crate::returning::Numbered;
 use mich_base::{Memory, Rows};
-use mich_instr::Issued;
+use mich_ops::Issued;
 use mich_step::burn_all;
 use mich_term::{Ticket, discard};
 use mich_tickets::{Collector, Ledger};

@@ -8,7 +8,7 @@ ghost use Rattle.mich_term.specs.View.{vals_of};
 ghost use Rattle.mich_machine.specs.Returned.{AreRising, IsPicked, by_number, number_of, picks};
 
 use mich_base::{Memory, Rows};
-use mich_instr::Issued;
+use mich_ops::Issued;
 use mich_term::{Chain, Value};
 use std::alloc::Global;
 use std::collections::BTreeMap;

@@ -27,8 +27,8 @@ use Rattle.mich_world.proofs.preconditions_lemmas.ForCallers.{installs_fit, orig
 use Rattle.mich_forms.specs.declared.places.Place.TheVariants as place
 use Rattle.mich_instr.specs.View.{script_node}
 use Rattle.mich_instr.specs.declared.instr.Script.{Script}
-use Rattle.mich_instr.specs.declared.issued.Issued.{Issued}
-use Rattle.mich_instr.specs.declared.issued.Issued.TheVariants as i
+use Rattle.mich_ops.specs.declared.issued.Issued.{Issued}
+use Rattle.mich_ops.specs.declared.issued.Issued.TheVariants as i
 use Rattle.mich_machine.specs.Calls.{counts_of}
 use Rattle.mich_interpreter.specs.declared.state.Counts.{Counts}
 use Rattle.mich_world.proofs.simulation_lemmas.ForCallers.{contracts_agree}

@@ -16,7 +16,7 @@ use Rattle.mich_base.specs.Counted.{IsNotEmpty}
 use Rattle.mich_bigmap.specs.Bases.{Bases}
 use Rattle.mich_gas.specs.View.{listed}
 use Rattle.mich_gas.specs.declared.costs.Costs.{Costs}
-use Rattle.mich_instr.specs.declared.issued.Issued.{Issued}
+use Rattle.mich_ops.specs.declared.issued.Issued.{Issued}
 use Rattle.mich_machine.specs.Calls.{counts_of, issued_in, IsHanded}
 use Rattle.mich_interpreter.specs.declared.state.Counts.{Counts}
 use Rattle.mich_ops.specs.Told.{told}

@@ -2,8 +2,7 @@
 ghost use Rattle.std.specs.Prelude.{◌≡◌};
 
 use mich_base::{Memory, Rows};
-use mich_instr::Issued;
-use mich_ops::{Effect, Failure};
+use mich_ops::{Effect, Failure, Issued};
 
 /// What an operation that was applied did, the growth of its contract where that was charged, and the operations that it emitted, in
 /// order, with the 20 bytes of the contract that issued them; where there are none these say nothing.

@@ -1,2 +1,3 @@
+pub mod Issued
 pub mod Told
 pub mod View

@@ -5,8 +5,8 @@ use Rattle.rules_text.specs.nodes.Tree.{Tree}
 use Rattle.rules_text.specs.text.Text.{IsNode, EndsAt}
 use Rattle.rules_files.specs.commands.Places.{Placed}
 use Rattle.mich_answers.proofs.ForCallers.{further}
-use Rattle.mich_reader.specs.Fronts.{IsClosed}
-use Rattle.mich_reader.proofs.ForCallers.{closed_cut}
+use Rattle.mich_text.specs.pieces.Fronts.{IsClosed}
+use Rattle.mich_text.proofs.pieces_lemmas.ForCallers.{closed_cut}
 use Rattle.mich_replay.specs.Pace.{IsClosedAt, NoneIsClosedAt}
 
 -- a statement behind which a byte is left has a `;`

@@ -14,12 +14,12 @@ use Rattle.mich_base.specs.View.{tree}
 use Rattle.mich_text.specs.declared.fault.TextError.{TextError}
 use Rattle.mich_text.specs.declared.fault.TextError.TheVariants as texts
 use Rattle.mich_text.specs.declared.reader.Placed.{Placed as CodePlaced}
-use Rattle.mich_reader.proofs.ForCallers.{limit_le, pieces_tell}
-use Rattle.mich_reader.specs.Fronts.{IsClosed}
-use Rattle.mich_reader.specs.Held.{Held, fresh, fed}
-use Rattle.mich_reader.specs.Reading.{IsNext, Tells, asked}
-use Rattle.mich_reader.specs.declared.reader.Next.{Next}
-use Rattle.mich_reader.specs.declared.reader.Next.TheVariants as next
+use Rattle.mich_text.proofs.pieces_lemmas.ForCallers.{limit_le, pieces_tell}
+use Rattle.mich_text.specs.pieces.Fronts.{IsClosed}
+use Rattle.mich_text.specs.pieces.Held.{Held, fresh, fed}
+use Rattle.mich_text.specs.pieces.Reading.{IsNext, Tells, asked}
+use Rattle.mich_text.specs.declared.pieces.reader.Next.{Next}
+use Rattle.mich_text.specs.declared.pieces.reader.Next.TheVariants as next
 use Rattle.mich_replay.specs.Coming.{Begun, IsRefused, Reads}
 use Rattle.mich_replay.specs.Pace.{NoneIsClosedAt}
 use Rattle.mich_replay.proofs.Closed.{none_closed}

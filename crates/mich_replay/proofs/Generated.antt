@@ -11,7 +11,7 @@ use Rattle.rules_world.specs.summary.Summary.{summary_line}
 use Rattle.rules_world.specs.world.Receipts.{Receipt}
 use Rattle.mich_group.specs.course.Following.{Follows}
 use Rattle.mich_group.specs.declared.course.course.Course.{Course}
-use Rattle.mich_reader.specs.Held.{Held}
+use Rattle.mich_text.specs.pieces.Held.{Held}
 use Rattle.mich_replay.specs.Coming.{Came, Comes}
 use Rattle.mich_replay.specs.Generating.{AreCounts, IsCounted, Summed}
 use Rattle.mich_replay.specs.Output.{Output}

@@ -13,9 +13,9 @@ use Rattle.rules_world.specs.world.Receipts.{Receipt}
 use Rattle.mich_base.specs.View.{tree}
 use Rattle.mich_base.specs.declared.memory.Memory.{Memory}
 use Rattle.mich_group.specs.declared.course.course.Course.{Course}
-use Rattle.mich_reader.specs.Held.{Held, fresh, fed}
-use Rattle.mich_reader.specs.Reading.{IsNext}
-use Rattle.mich_reader.specs.declared.reader.Next.TheVariants as next
+use Rattle.mich_text.specs.pieces.Held.{Held, fresh, fed}
+use Rattle.mich_text.specs.pieces.Reading.{IsNext}
+use Rattle.mich_text.specs.declared.pieces.reader.Next.TheVariants as next
 use Rattle.mich_text.specs.declared.fault.TextError.TheVariants as texts
 use Rattle.mich_text.specs.declared.reader.Placed.{Placed}
 use Rattle.mich_replay.specs.Coming.{Came, Cut, Happens, IsRefused, Told}

@@ -10,7 +10,7 @@ use Rattle.rules_files.specs.commands.Commands.{Verb, Replaying, Command, OnFile
 use Rattle.rules_files.specs.commands.Lines.{group_lines, text_of, ending_lines}
 use Rattle.rules_files.specs.commands.Replay.{Ending, State, RefusedAt}
 use Rattle.mich_group.specs.declared.course.course.Course.{Course}
-use Rattle.mich_reader.specs.Held.{Held}
+use Rattle.mich_text.specs.pieces.Held.{Held}
 use Rattle.mich_replay.specs.Coming.{Closes, Grows, Told}
 use Rattle.mich_replay.specs.Pace.{Gives, NoneIsClosedAt, NotStarted, WritesAsItReads, piece_limit}
 use Rattle.mich_replay.specs.Output.{Output, Writes, WritesFront}

@@ -9,7 +9,7 @@ use Rattle.rules_files.specs.commands.Places.{AreStatements, IsEndAt}
 use Rattle.rules_files.specs.commands.Replay.{Replay, Closes as Ends, Ending, State, RefusedAt, FileFault, IsReplay, Run, ending_of}
 use Rattle.rules_world.specs.world.Receipts.{Receipt}
 use Rattle.mich_group.specs.declared.course.course.Course.{Course}
-use Rattle.mich_reader.specs.Held.{Held}
+use Rattle.mich_text.specs.pieces.Held.{Held}
 use Rattle.mich_replay.specs.Coming.{Closes, Comes, Cut, IsRefused, Told}
 use Rattle.mich_replay.specs.Output.{Output, Writes, WritesFront}
 use Rattle.mich_replay.specs.declared.stop.Stop.{Stop}

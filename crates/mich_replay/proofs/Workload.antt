@@ -24,8 +24,8 @@ use Rattle.rules_world.specs.world.Receipts.{Receipt}
 use Rattle.rules_world.specs.world.World.{World}
 use Rattle.mich_text.specs.Machine.{Stack, elements, named, paren, Refusal, finish, has_statement, ended_tree, refused, put, run, step, start}
 use Rattle.mich_text.proofs.ForCallers.{step_ok, gap_le, At, no_inner, end_same, node_same, closed_node, stands_within, NoStatement, statement_within}
-use Rattle.mich_reader.specs.Fronts.{IsClosed}
-use Rattle.mich_reader.proofs.ForCallers.{closed_stays}
+use Rattle.mich_text.specs.pieces.Fronts.{IsClosed}
+use Rattle.mich_text.proofs.pieces_lemmas.ForCallers.{closed_stays}
 use Rattle.mich_replay.proofs.Closed.{signed}
 use Rattle.mich_replay.proofs.Conserved.{no_group_is_stuck}
 

@@ -11,7 +11,7 @@ use Rattle.rules_files.specs.commands.Replay.{IsReplay, Ending, RefusedAt, FileF
 use Rattle.rules_world.specs.world.Receipts.{Receipt}
 use Rattle.mich_base.specs.declared.memory.Memory.{Memory}
 use Rattle.mich_group.specs.declared.course.course.Course.{Course}
-use Rattle.mich_reader.specs.Held.{Held}
+use Rattle.mich_text.specs.pieces.Held.{Held}
 use Rattle.mich_replay.specs.Output.{Output, Writes, WritesFront}
 use Rattle.mich_replay.specs.Pace.{NoneIsClosedAt}
 use Rattle.mich_replay.specs.Steps.{Stands, Tells}

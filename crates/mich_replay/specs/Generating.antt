@@ -9,7 +9,7 @@ use Rattle.mich_base.specs.declared.memory.Memory.{Memory}
 use Rattle.mich_group.specs.declared.course.course.Course.{Course}
 use Rattle.mich_ops.specs.Told.{ToldReceipt}
 use Rattle.mich_ops.specs.Told as told
-use Rattle.mich_reader.specs.Held.{Held}
+use Rattle.mich_text.specs.pieces.Held.{Held}
 use Rattle.mich_replay.specs.Coming.{Came, Happens}
 use Rattle.mich_replay.specs.Output.{Output, Writes, WritesFront}
 use Rattle.mich_replay.specs.declared.generating.Counts.{Counts}

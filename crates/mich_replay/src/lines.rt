@@ -27,6 +27,6 @@ pub(crate) fn usage_line(alloc: Global) -> Result<String, AllocError>
 {
     String::from_str(
         alloc,
-        "usage: mich replay|check|encode|decode|pack|certify|verify|audit FILE, or mich generate N\n",
+        "usage: mich replay|check|encode|decode|pack|snapshot|certify|verify|audit FILE, or mich resume SNAP FILE, or mich generate N\n",
     )
 }

@@ -1,7 +1,7 @@
 // A replay that goes on as the bytes of its file come.
 ghost use Rattle.std.specs.Prelude.{◌≡◌, ◌≤◌, ◌<◌, ◌++◌, ℕ, List, [], Bool, true, false, None, IfOk, OnOk};
 ghost use Rattle.rules_world.specs.world.Receipts.{Receipt};
-ghost use Rattle.mich_reader.specs.Held.{fresh};
+ghost use Rattle.mich_text.specs.pieces.Held.{fresh};
 ghost use Rattle.mich_replay.specs.Coming.{CameTo, HappensTo};
 
 use crate::outcome::FileFault;
@@ -9,8 +9,8 @@ use crate::steps::{Event, take};
 use mich_base::Memory;
 use mich_group::course::Course;
 use mich_machine::Bodies;
-use mich_reader::{Next, Reader};
 use mich_text::TextError;
+use mich_text::pieces::{Next, Reader};
 use std::alloc::Global;
 
 /// A replay of a file that comes in pieces: the reader of its text, how far it has come, and the bodies that were tried.

@@ -8,7 +8,8 @@ use crate::datum::{Datum, copy_datum};
 use crate::elements::Elements;
 use crate::table::Table;
 use crate::ticket::Ticket;
-use mich_base::{Bytes, Link, Memory, Node, Share, Shared, Text};
+use mich_base::{Bytes, Link, Memory, Share, Shared, Text};
+use mich_instr::Body;
 use std::alloc::Global;
 
 /// A value that scripts work on (Michelson reference, "Types").
@@ -32,7 +33,7 @@ pub enum Value {
     Map(Link<Table<Value>>),
     BigMap(Link<BigMap>),
     /// A lambda: its body, and whether it is recursive.
-    Lambda(Shared<Node>, bool),
+    Lambda(Shared<Body>, bool),
     /// The number of an operation.
     Operation(u32),
     Ticket(Link<Ticket>),
@@ -84,9 +85,9 @@ pub fn shadow(alloc: Global, value: &Value) -> Result<Value, Memory>
             let big = big.share()?;
             Ok(Value::BigMap(big))
         }
-        Value::Lambda(node, recursive) => {
-            let node = node.share()?;
-            Ok(Value::Lambda(node, *recursive))
+        Value::Lambda(body, recursive) => {
+            let body = body.share()?;
+            Ok(Value::Lambda(body, *recursive))
         }
         Value::Operation(n) => Ok(Value::Operation(*n)),
         Value::Ticket(ticket) => {

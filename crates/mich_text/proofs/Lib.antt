@@ -4,3 +4,4 @@ pub mod readings
 pub mod limits
 pub mod printed
 pub mod ForCallers
+pub mod pieces_lemmas

@@ -11,3 +11,4 @@ pub mod Shown
 pub mod Limited
 pub mod Parts
 pub mod Written
+pub mod pieces

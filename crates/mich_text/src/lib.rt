@@ -1,4 +1,4 @@
-//! Micheline text: one statement of it is read, and a node is printed.
+//! Micheline text: one statement of it is read, whole or in pieces, and a node is printed.
 #![tactic(auto)]
 
 mod fault;
@@ -7,6 +7,7 @@ mod lexical;
 mod line;
 mod node;
 mod parser;
+pub mod pieces;
 mod plain;
 mod reader;
 mod token;

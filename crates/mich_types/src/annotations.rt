@@ -65,8 +65,9 @@ pub fn behind(node: &Node, at: u32) -> u32
     }
 }
 
+/// The location behind nodes that stand one behind another, the first at a location. Takes no memory.
 #[cycle(behind)]
-fn behind_all(nodes: &Nodes, at: u32) -> u32
+pub fn behind_all(nodes: &Nodes, at: u32) -> u32
     requires { at + sizes (trees nodes.now) < 2 ^ 32 }
     ensures { result ≡ at + sizes (trees nodes.now) }
 {

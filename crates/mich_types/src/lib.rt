@@ -11,7 +11,7 @@ mod printing;
 mod reading;
 mod scan;
 
-pub use annotations::{behind, field_name};
+pub use annotations::{behind, behind_all, field_name};
 pub use attributes::{big_value, comparable, duplicable, packable, passable, pushable, storable};
 pub use error::TypeError;
 pub use parameter::{Entry, Parameter, entrypoint, read_parameter};

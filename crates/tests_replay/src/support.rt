@@ -9,7 +9,7 @@ use std::alloc::Global;
 use std::test::Fail;
 
 pub(crate) const USAGE: &str =
-    "usage: mich replay|check|encode|decode|pack|certify|verify|audit FILE, or mich generate N\n";
+    "usage: mich replay|check|encode|decode|pack|snapshot|certify|verify|audit FILE, or mich resume SNAP FILE, or mich generate N\n";
 
 pub(crate) fn one(alloc: Global, word: &str) -> Result<Texts, Memory>
     ensures { IfOk result (λ t. t ≡ word.now ∷ []) }

@@ -1,3 +1,3 @@
-//! Tests of `mich_reader`, by its public calls.
+//! Tests of the reader of text that comes in pieces, by its public calls.
 #[cfg(test)]
 mod tests;

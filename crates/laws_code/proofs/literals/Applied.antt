@@ -45,7 +45,7 @@ use Rattle.laws_code.proofs.control.ForCallers.{meanings}
 type_read : (a : Kind) (at : ℕ) → IsType a → type_at at (node_of a) ≡ a_type a
 type_read a at h = ap limited (read_again a h.0 at) ∙ is_type (nat_le (nodes a) type_limit) a (le-leb (nodes a) type_limit h.1)
 
-argument_is : (asked : Kind → Bool) (a : Kind) (at : ℕ) → asked a ≡ true → IsType a → type_argument asked at (node_of a) ≡ found a
+pub argument_is : (asked : Kind → Bool) (a : Kind) (at : ℕ) → asked a ≡ true → IsType a → type_argument asked at (node_of a) ≡ found a
 argument_is asked a at e h = ap (with_attribute asked at) (type_read a at h) ∙ ap (λ b. if b then found a else fault at) e
 
 -- ---- PUSH
@@ -58,15 +58,19 @@ module _ (w : Known) (a : Kind) (x : Val) (e : pushable a ≡ true) (t : IsType 
       ap (λ o. typing.on_found (checked y ps o) (λ z. goes (a ∷ A))) (no_faults w a at (canonical x) y ps same fy)
   reading_is at A (bad l) same h = absurd h
 
+  -- its canonical literal is read as it again
+  pub captured_again : (at : ℕ) → Gives (read a at (canonical x)) x
+  captured_again at = again a x at t.0 (fits_form w a x f) (nothing_in w a x (pushable_duplicable a e) f) (pushable_holds w a x e f)
+
   read_there : (at : ℕ) (A : List Kind) → typing.on_found (of_reading (read a at (canonical x))) (λ y. goes (a ∷ A)) ≡ goes
       (a ∷ A)
   read_there at A = reading_is at A (read a at (canonical x)) refl
-      (again a x at t.0 (fits_form w a x f) (nothing_in w a x (pushable_duplicable a e) f) (pushable_holds w a x e f))
+      (captured_again at)
 
   abbrev to_push : Found Kind → Found Pushed
   to_push q = and_then q (λ b. found record { kind = b; location = 1 + size (node_of a); literal = canonical x })
 
-  push_typed : (c : Context) (A : List Kind) → tree_type (push_node a x) c A ≡ goes (a ∷ A)
+  pub push_typed : (c : Context) (A : List Kind) → tree_type (push_node a x) c A ≡ goes (a ∷ A)
   push_typed c A =
       pushed [] (more (node_of a) (more (canonical x) none)) c A
       ∙ ap (λ q. typing.on_found (to_push q) (λ p. typing.on_found (of_reading (read p.kind p.location p.literal))
@@ -75,19 +79,19 @@ module _ (w : Known) (a : Kind) (x : Val) (e : pushable a ≡ true) (t : IsType 
 
 -- ---- PAIR, SWAP, EXEC and LAMBDA_REC
 
-pair_name : primitive_of_name (codes "PAIR") ≡ Some p.OpPair
+pub pair_name : primitive_of_name (codes "PAIR") ≡ Some p.OpPair
 unfolding primitive_of_name code_of_name primitive_of_code primitive_names primitives
 pair_name = refl
 
-swap_name : primitive_of_name (codes "SWAP") ≡ Some p.OpSwap
+pub swap_name : primitive_of_name (codes "SWAP") ≡ Some p.OpSwap
 unfolding primitive_of_name code_of_name primitive_of_code primitive_names primitives
 swap_name = refl
 
-exec_name : primitive_of_name (codes "EXEC") ≡ Some p.OpExec
+pub exec_name : primitive_of_name (codes "EXEC") ≡ Some p.OpExec
 unfolding primitive_of_name code_of_name primitive_of_code primitive_names primitives
 exec_name = refl
 
-rec_name : primitive_of_name (codes "LAMBDA_REC") ≡ Some p.OpLambdaRec
+pub rec_name : primitive_of_name (codes "LAMBDA_REC") ≡ Some p.OpLambdaRec
 unfolding primitive_of_name code_of_name primitive_of_code primitive_names primitives
 rec_name = refl
 
@@ -113,7 +117,7 @@ ends_leads (goes B) C u h = subst (λ X. (if same_kinds X C then u else typing.b
 ends_leads fails C u h = refl
 ends_leads (typing.bad l) C u h = absurd h
 
-arrow_is : (a r : Kind) (t : Tree) → IsType a → IsType r → lambda_of
+pub arrow_is : (a r : Kind) (t : Tree) → IsType a → IsType r → lambda_of
     (more (node_of a) (more (node_of r) (more t none))) ≡ found record { argument = a; result = r }
 arrow_is a r t ha hr =
     ap (λ q. and_then q (λ t. and_then (type_argument any_kind (1 + size (node_of a)) (node_of r))

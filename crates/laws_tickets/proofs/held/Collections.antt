@@ -1,5 +1,5 @@
 -- What ITER and MAP take out of a collection, and what MAP makes.
-use Rattle.std.proofs.Common.{◌≡◌, List, [], ◌∷◌, length, refl, arith}
+use Rattle.std.proofs.Common.{◌≡◌, List, [], ◌∷◌, length, arith}
 use Rattle.std.specs.Prelude.{pos, ◌≤ℤ◌}
 use Rattle.std.specs.List.{AllByRecursion}
 use Rattle.std.proofs.lemmas.Int.{ints}
@@ -8,14 +8,13 @@ use Rattle.rules_data.specs.types.Kind as k
 use Rattle.rules_data.specs.values.Val.{Val, Vals, Pairs, no_pair, more_pairs}
 use Rattle.rules_data.specs.values.Val as v
 use Rattle.rules_data.specs.values.Forms.{AllHave, AllEntriesHave}
-use Rattle.rules_data.specs.values.Tables.{AreKeysAbove, AreIncreasingKeys}
 use Rattle.rules_data.specs.values.Tickets.{Identity, tickets, all_tickets, pair_tickets}
 use Rattle.rules_code.specs.typing.Fits.{Known, Fits}
 use Rattle.rules_code.specs.steps.Changes.{amount_in, amount_among}
 use Rattle.rules_code.specs.evaluation.Items.{elements, entries, list_of, with_values, rebuilt}
 use Rattle.laws_code.specs.evaluation.Laws.{amount_on}
 use Rattle.laws_data.proofs.amounts.ForCallers.{among_append}
-use Rattle.laws_code.proofs.control.ForCallers.{each_element, each_entry, list_amount, values_above, values_increase}
+use Rattle.laws_code.proofs.control.ForCallers.{each_element, each_entry, list_amount, values_increase}
 use Rattle.laws_tickets.proofs.held.Values.{of_each, one_kind_positive}
 
 -- ---- what is taken out

@@ -1,14 +1,13 @@
 -- Types whose values hold no tickets, and what fits as agreement.
-use Rattle.std.proofs.Common.{◌≡◌, List, true, [], ◌∷◌, ◌++◌, refl, ap, ◌∙◌}
+use Rattle.std.proofs.Common.{◌≡◌, List, true, [], ◌∷◌, refl}
 use Rattle.std.specs.List.{AllByRecursion}
-use Rattle.std.proofs.lemmas.Bool.{and_parts, and_from}
+use Rattle.std.proofs.lemmas.Bool.{and_parts}
 use Rattle.rules_data.specs.types.Kind.{Kind}
 use Rattle.rules_data.specs.types.Kind as k
 use Rattle.rules_data.specs.types.Attributes.{comparable, pushable, packable, duplicable}
-use Rattle.rules_data.specs.values.Val.{Val, Vals, no_val, more_vals, Pairs, no_pair, more_pairs}
+use Rattle.rules_data.specs.values.Val.{Val}
 use Rattle.rules_data.specs.values.Val as v
-use Rattle.rules_data.specs.values.Tickets.{tickets, all_tickets, pair_tickets}
-use Rattle.rules_data.specs.values.Forms.{has_simple_form, AllHave, AllEntriesHave}
+use Rattle.rules_data.specs.values.Tickets.{tickets}
 use Rattle.rules_code.specs.typing.Fits.{Known, Fits, AllFit}
 use Rattle.laws_data.specs.types.Laws.{IsWellFormed}
 use Rattle.laws_tickets.specs.totals.Agreement.{Agrees, AllAgree}

@@ -1,4 +1,5 @@
-use Rattle.std.proofs.Common.{sym, ap, ◌∙◌, arith}
+use Rattle.std.proofs.Common.{sym, ap, ◌∙◌, arith, ◌≡◌, ◌+◌}
+use Rattle.std.specs.Prelude.{IfOk, IfSome, Option, Some, None, Result, Ok, Err}
 use Rattle.rules_text.specs.nodes.Tree.{sizes}
 use Rattle.rules_data.specs.types.Reading.{type_at}
 use Rattle.mich_base.specs.TypeView.{kind}
@@ -7,7 +8,7 @@ use Rattle.mich_cert.specs.Arguments.{a_kind}
 use Rattle.mich_cert.specs.Entries.{all_entries, context}
 use Rattle.mich_cert.specs.View.{kinds}
 use Rattle.mich_data.specs.View.{all_pending}
-use Rattle.mich_data.proofs.ForCallers.{left_at, sizes_at}
+use Rattle.mich_data.proofs.ForCallers.{left_at, left_end, sizes_at}
 use Rattle.mich_outline.specs.View.{outline_of}
 use Rattle.mich_cert.proofs.Creates.{in_view, no_create, of_none}
 use Rattle.mich_check.proofs.PushTyping.{items_room, items_size}
@@ -20,8 +21,17 @@ use Rattle.mich_cert.proofs.Views.{views_room, views_size, views_failed, views_s
 use Rattle.mich_cert.proofs.Ways.{argument_fault, result_fault}
 use Rattle.mich_cert.proofs.+follow.Goals as goal
 
-pub nodes::rest-returns-in_default : goal.nodes::rest-returns-in_default
-nodes::rest-returns-in_default t c =
+some_or_none : {A P : Type 0} (o : Option A) → P → IfSome o (λ _. P)
+some_or_none (Some x) p = p
+some_or_none None p = tt
+
+-- what holds whatever a result is, where it is an option
+whatever : {A E P : Type 0} (r : Result (Option A) E) → P → IfOk r (λ o. IfSome o (λ _. P))
+whatever (Ok o) p = some_or_none o p
+whatever (Err e) p = tt
+
+pub nodes::rest-returns-in_default-clause-walked : goal.nodes::rest-returns-in_default-clause-walked
+nodes::rest-returns-in_default-clause-walked t c =
     rest_unowned _ _ _ c.loop-node-test.true c.node-item.is _ _ _ _ _ _ c.loop-node.invariant.same c.if-fails.false c.in_default.ensures
 
 pub nodes::rest-instruction-requires : goal.nodes::rest-instruction-requires
@@ -30,75 +40,96 @@ nodes::rest-instruction-requires t c =
     let s = ap sizes (left_at _ _ _ c.loop-node-test.true c.node-item.is) in
     (omega (arith, s, v.room, v.forward, c.decreases, c.requires), omega (arith, s, v.room, v.forward, c.requires))
 
-pub nodes::rest-returns-in_default-2 : goal.nodes::rest-returns-in_default-2
-nodes::rest-returns-in_default-2 t c =
-    let s = rw c.in_default-2.is at c.in_ok-past.ensures in
+pub nodes::rest-returns-in_default-2-clause-walked : goal.nodes::rest-returns-in_default-2-clause-walked
+nodes::rest-returns-in_default-2-clause-walked t c =
+    let s = rw c.in_default-2.is at c.in_ok-past.ensures.walked in
     rest_stopped _ _ _ c.loop-node-test.true c.node-item.is _ _ _ _ _ _ c.loop-node.invariant.same c.if-fails.false _ _ c.in-Some.ensures s
 
 pub nodes::rest-loop-node-preserved : goal.nodes::rest-loop-node-preserved
 nodes::rest-loop-node-preserved t c =
     let v = c.loop-node.invariant in
-    let s = rw c.in-Some-2.is at c.in_ok-past.ensures in
+    let s = rw c.in-Some-2.is at c.in_ok-past.ensures.walked in
+    let e = rw c.in-Some-2.is at c.in_ok-past.ensures.ends in
     record {
-      same = rest_step _ _ _ c.loop-node-test.true c.node-item.is _ _ _ _ _ _ v.same c.if-fails.false _ _ c.in-Some.ensures _ _ _ s c.tells_none-fails.ensures c.behind-next.ensures;
-      forward = omega (arith, v.forward, c.behind-next.ensures);
-      room = sizes_at _ _ _ _ _ _ c.loop-node-test.true c.node-item.is v.room c.behind-next.ensures;
+      same = rest_step _ _ _ c.loop-node-test.true c.node-item.is _ _ _ _ _ _ v.same c.if-fails.false _ _ c.in-Some.ensures _ _ _ s c.tells_none-fails.ensures e;
+      forward = omega (arith, v.forward, e);
+      room = sizes_at _ _ _ _ _ _ c.loop-node-test.true c.node-item.is v.room e;
     }
 
-pub nodes::rest-returns : goal.nodes::rest-returns
-nodes::rest-returns t c = rest_end _ _ c.loop-node-test.false _ _ _ _ _ _ _ c.loop-node.invariant.same c.last_entry.ensures
+pub nodes::rest-returns-clause-walked : goal.nodes::rest-returns-clause-walked
+nodes::rest-returns-clause-walked t c = rest_end _ _ c.loop-node-test.false _ _ _ _ _ _ _ c.loop-node.invariant.same c.last_entry.ensures
 
-pub nodes::instruction-returns-in-Seq : goal.nodes::instruction-returns-in-Seq
-nodes::instruction-returns-in-Seq t c = sequence_is _ _ _ _ _ _ _ c.in-Seq.is c.sequence.ensures
+pub nodes::rest-returns-clause-ends : goal.nodes::rest-returns-clause-ends
+nodes::rest-returns-clause-ends t c =
+    let z : c.loop-node.next ≡ c.args.at + (sizes (trees c.args.nodes.now) + 1) = let e = ap sizes (left_end _ _ c.loop-node-test.false) in let r = c.loop-node.invariant.room in omega (arith, e, r) in
+    some_or_none c.last_entry.result z
 
-pub nodes::application-returns-in-Bodiless : goal.nodes::application-returns-in-Bodiless
-nodes::application-returns-in-Bodiless t c =
+pub nodes::instruction-returns-in-Seq-clause-walked : goal.nodes::instruction-returns-in-Seq-clause-walked
+nodes::instruction-returns-in-Seq-clause-walked t c = sequence_is _ _ _ _ _ _ _ c.in-Seq.is c.sequence.ensures.walked
+
+pub nodes::application-returns-in-Bodiless-clause-walked : goal.nodes::application-returns-in-Bodiless-clause-walked
+nodes::application-returns-in-Bodiless-clause-walked t c =
     bodiless_is _ _ _ _ (trees c.args.app.now.args) c.args.at (context c.args.place) (kinds c.args.before.now) c.args.entries.now c.in-Some.ensures c.in-Bodiless.ensures c.bodiless.ensures
 
-pub nodes::branches-returns : goal.nodes::branches-returns
-nodes::branches-returns t c =
+pub nodes::application-returns-in-Push-clause-ends : goal.nodes::application-returns-in-Push-clause-ends
+nodes::application-returns-in-Push-clause-ends t c =
+    let z : c.behind_all.result ≡ c.args.at + (sizes (trees c.args.app.now.args) + 1) = let e = c.behind_all.ensures in omega (arith, e) in
+    whatever c.pushes.result z
+
+pub nodes::application-returns-in-Create-clause-ends : goal.nodes::application-returns-in-Create-clause-ends
+nodes::application-returns-in-Create-clause-ends t c =
+    let z : c.behind_all-in-Create.result ≡ c.args.at + (sizes (trees c.args.app.now.args) + 1) = let e = c.behind_all-in-Create.ensures in omega (arith, e) in
+    whatever c.creates.result z
+
+pub nodes::application-returns-in-Bodiless-clause-ends : goal.nodes::application-returns-in-Bodiless-clause-ends
+nodes::application-returns-in-Bodiless-clause-ends t c =
+    let z : c.behind_all-in-Bodiless.result ≡ c.args.at + (sizes (trees c.args.app.now.args) + 1) = let e = c.behind_all-in-Bodiless.ensures in omega (arith, e) in
+    whatever c.bodiless.result z
+
+pub nodes::branches-returns-clause-walked : goal.nodes::branches-returns-clause-walked
+nodes::branches-returns-clause-walked t c =
     branch_is _ c.args.primitive c.args.app.now.annots c.args.app.now.args c.args.at (context c.args.place) (kinds c.args.before.now) c.args.entries.now
-    c.requires.way _ _ c.in-Some.ensures c.branch-alloc.ensures
+    c.requires.way _ _ c.in-Some.ensures c.branch-alloc.ensures.walked
 
-pub nodes::turns-returns : goal.nodes::turns-returns
-nodes::turns-returns t c =
+pub nodes::turns-returns-clause-walked : goal.nodes::turns-returns-clause-walked
+nodes::turns-returns-clause-walked t c =
     turn_is _ c.args.primitive c.args.app.now.annots c.args.app.now.args c.args.at (context c.args.place) (kinds c.args.before.now) c.args.entries.now
-    c.requires.way _ c.in-Some.ensures c.turning.ensures
+    c.requires.way _ c.in-Some.ensures c.turning.ensures.walked
 
-pub nodes::dips-returns-in-Some : goal.nodes::dips-returns-in-Some
-nodes::dips-returns-in-Some t c =
+pub nodes::dips-returns-in-Some-clause-walked : goal.nodes::dips-returns-in-Some-clause-walked
+nodes::dips-returns-in-Some-clause-walked t c =
     dip_is _ c.args.primitive c.args.app.now.annots c.args.app.now.args c.args.at (context c.args.place) (kinds c.args.before.now) c.args.entries.now
-    c.requires.way _ c.in-Some.ensures c.dip.ensures
+    c.requires.way _ c.in-Some.ensures c.dip.ensures.walked
 
-pub nodes::dips-returns : goal.nodes::dips-returns
-nodes::dips-returns t c =
+pub nodes::dips-returns-clause-walked : goal.nodes::dips-returns-clause-walked
+nodes::dips-returns-clause-walked t c =
     count_is _ c.args.primitive c.args.app.now.annots c.args.app.now.args c.args.at (context c.args.place) (kinds c.args.before.now) c.args.entries.now
-    c.requires.way _ _ c.in-Some-both.ensures _ c.in-Some-count.ensures _ c.behind.ensures c.dip-2.ensures
+    c.requires.way _ _ c.in-Some-both.ensures _ c.in-Some-count.ensures _ c.behind.ensures c.dip-2.ensures.walked
 
-pub nodes::maps-returns : goal.nodes::maps-returns
-nodes::maps-returns t c =
+pub nodes::maps-returns-clause-walked : goal.nodes::maps-returns-clause-walked
+nodes::maps-returns-clause-walked t c =
     map_is _ c.args.primitive c.args.app.now.annots c.args.app.now.args c.args.at (context c.args.place) (kinds c.args.before.now) c.args.entries.now
-    c.requires.way _ c.in-Some.ensures c.map.ensures
+    c.requires.way _ c.in-Some.ensures c.map.ensures.walked
 
-pub nodes::lambdas-returns-in_default-2 : goal.nodes::lambdas-returns-in_default-2
-nodes::lambdas-returns-in_default-2 t c =
+pub nodes::lambdas-returns-in_default-2-clause-walked : goal.nodes::lambdas-returns-in_default-2-clause-walked
+nodes::lambdas-returns-in_default-2-clause-walked t c =
     let f = rw c.in_default-2.is at c.in_ok-arg.ensures in
     argument_fault c.args.primitive c.args.app.now.annots c.args.app.now.args c.args.at (context c.args._place) (kinds c.args.before.now) (all_entries c.args.entries.now)
     c.args.recursive c.requires.way _ _ _ c.in-Some.ensures f
 
-pub nodes::lambdas-returns-in_default-3 : goal.nodes::lambdas-returns-in_default-3
-nodes::lambdas-returns-in_default-3 t c =
+pub nodes::lambdas-returns-in_default-3-clause-walked : goal.nodes::lambdas-returns-in_default-3-clause-walked
+nodes::lambdas-returns-in_default-3-clause-walked t c =
     let f = rw c.in-Some-2.is at c.in_ok-arg.ensures in
     let g = rw c.in_default-3.is at c.in_ok-ret.ensures in
     result_fault c.args.primitive c.args.app.now.annots c.args.app.now.args c.args.at (context c.args._place) (kinds c.args.before.now) (all_entries c.args.entries.now)
     c.args.recursive c.requires.way _ _ _ c.in-Some.ensures (kind c.in-Some-2.arg) f (g ∙ ap (λ k. a_kind (type_at k (tree c.in-Some.second.now))) c.behind.ensures)
 
-pub nodes::lambdas-returns : goal.nodes::lambdas-returns
-nodes::lambdas-returns t c =
+pub nodes::lambdas-returns-clause-walked : goal.nodes::lambdas-returns-clause-walked
+nodes::lambdas-returns-clause-walked t c =
     let f = rw c.in-Some-2.is at c.in_ok-arg.ensures in
     let g = rw c.in-Some-3.is at c.in_ok-ret.ensures in
     lambda_is _ c.args.primitive c.args.app.now.annots c.args.app.now.args c.args.at (context c.args._place) (kinds c.args.before.now) c.args.entries.now
-    c.args.recursive c.requires.way _ _ _ c.in-Some.ensures (kind c.in-Some-2.arg) (kind c.in-Some-3.ret) f _ c.behind.ensures g _ _ c.behind-2.ensures c.behind-there.ensures c.lambda.ensures
+    c.args.recursive c.requires.way _ _ _ c.in-Some.ensures (kind c.in-Some-2.arg) (kind c.in-Some-3.ret) f _ c.behind.ensures g _ _ c.behind-2.ensures c.behind-there.ensures c.lambda.ensures.walked
 
 -- ---- PUSH
 

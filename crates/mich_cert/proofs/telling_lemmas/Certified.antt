@@ -1,14 +1,14 @@
 -- What certifying answers.
-use Rattle.std.proofs.Common.{◌≡◌, ℕ, ◌<◌, Bool, true, false, cond, Option, Some, None, List, refl, sym, ap, ◌∙◌, subst, arith, ◌+◌}
-use Rattle.std.specs.Prelude.{nat_le, length, [], Result, Ok, Err}
+use Rattle.std.proofs.Common.{◌≡◌, ℕ, ◌<◌, true, false, cond, Option, Some, None, List, sym, ap, ◌∙◌, subst, arith, ◌+◌}
+use Rattle.std.specs.Prelude.{nat_le, length, [], Result, Ok}
 use Rattle.std.proofs.lemmas.Bool.Decides.{nat_tests}
 use Rattle.rules_text.specs.nodes.Limits.{statement_limit}
-use Rattle.rules_text.specs.nodes.Tree.{Tree, Trees, depth}
+use Rattle.rules_text.specs.nodes.Tree.{Tree, depth}
 use Rattle.rules_text.specs.text.Printed.{printed}
-use Rattle.rules_code.specs.instructions.Arguments.{Found, found, fault}
+use Rattle.rules_code.specs.instructions.Arguments.{found, fault}
 use Rattle.rules_code.specs.typing.Nodes.{script}
 use Rattle.rules_code.specs.typing.Scripts.{Script}
-use Rattle.rules_code.specs.certificates.Certificates.{Certifying, certified, ill_typed, too_deep, too_long, certifying, certificate, certified_node, of_accepted, of_typing, unless_deep, within_line, deep_entry, entry_nodes, script_levels}
+use Rattle.rules_code.specs.certificates.Certificates.{certified, ill_typed, too_deep, too_long, certifying, certificate, certified_node, of_accepted, of_typing, unless_deep, within_line, deep_entry, script_levels}
 use Rattle.rules_code.specs.certificates.Derivation.{Entry, derivation}
 use Rattle.rules_code.specs.typing.Nodes.{script_at}
 use Rattle.mich_base.specs.View.{trees}

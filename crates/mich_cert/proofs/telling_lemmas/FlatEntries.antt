@@ -11,13 +11,13 @@ use Rattle.rules_data.specs.values.Literals.{Pending, body, claim, Literal, good
 use Rattle.rules_code.specs.instructions.Types as ty
 use Rattle.rules_code.specs.instructions.Context.{Context}
 use Rattle.rules_code.specs.instructions.Arguments.{Found, found, fault}
-use Rattle.rules_code.specs.instructions.Control.{Pushed, Arrow, push_of, dip_of, lambda_of}
+use Rattle.rules_code.specs.instructions.Control.{push_of, dip_of, lambda_of}
 use Rattle.rules_code.specs.instructions.Forms.{Form, form_of}
 use Rattle.rules_code.specs.instructions.Forms as f
 use Rattle.rules_code.specs.typing.Typing.{Typing, goes, fails}
 use Rattle.rules_code.specs.typing.Typing as typing
 use Rattle.rules_code.specs.typing.Nodes.{tree_type, outline}
-use Rattle.rules_code.specs.typing.Scripts.{Outline, TypedView}
+use Rattle.rules_code.specs.typing.Scripts.{TypedView}
 use Rattle.rules_code.specs.certificates.Blocks.{Block, blocks, on_found, pending_blocks, literal_blocks, view_blocks, outline_blocks, script_blocks}
 use Rattle.rules_code.specs.certificates.Certificates.{is_flat, deep_entry}
 use Rattle.rules_code.specs.certificates.Derivation.{Entry, before, end, failing, Teller, behind, told_by, of_blocks, tree_entries, trees_entries, block_entries, tellers, inner_tellers, derivation}

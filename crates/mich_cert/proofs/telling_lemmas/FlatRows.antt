@@ -1,20 +1,19 @@
 -- Instructions without bodies make at most two types; what stands below these on the stack was there before, or is a part of that.
-use Rattle.std.proofs.Common.{◌≡◌, ℕ, ◌+◌, ◌-◌, zero, suc, nat_le, Bool, true, false, ◌&&◌, List, [], ◌∷◌, ◌++◌, length, drop, take, Option, Some, None, refl, sym, ap, ◌∙◌, subst, arith}
-use Rattle.std.specs.Prelude.{slice_get, insert, remove, option_map, option_and_then, if◌then◌else◌, max}
+use Rattle.std.proofs.Common.{◌≡◌, ℕ, ◌-◌, zero, suc, nat_le, Bool, true, false, ◌&&◌, List, [], ◌∷◌, ◌++◌, length, drop, take, Option, Some, None, refl, subst, arith}
+use Rattle.std.specs.Prelude.{slice_get, insert, remove, option_map, option_and_then, if◌then◌else◌}
 use Rattle.std.proofs.lemmas.Bool.Decides.{nat_tests}
-use Rattle.rules_text.specs.nodes.Tree.{Trees, depth}
+use Rattle.rules_text.specs.nodes.Tree.{Trees}
 use Rattle.rules_text.specs.declared.nodes.Primitive.{Primitive}
 use Rattle.rules_data.specs.types.Kind.{Kind}
 use Rattle.rules_data.specs.types.Kind as k
-use Rattle.rules_data.specs.types.Printing.{node_of}
 use Rattle.rules_data.specs.types.Attributes.{comparable, duplicable, packable, pushable}
 use Rattle.rules_code.specs.instructions.Types as ty
 use Rattle.rules_code.specs.instructions.Arguments.{Found, found, fault}
-use Rattle.rules_code.specs.instructions.Change.{Change, after, makes, where_true, is_within_limit}
+use Rattle.rules_code.specs.instructions.Change.{Change, after, where_true, is_within_limit}
 use Rattle.rules_code.specs.instructions.StackChanges.{stack_change, comb, parts, part, with_part, pair_change}
 use Rattle.rules_code.specs.instructions.DataChanges.{union_change, collection_change}
 use Rattle.rules_code.specs.instructions.NumberChanges.{of_two, of_one, sum, difference, product, scaled, quotient, signed, number_change, conjunction, of_bools, of_nats, against_zero, logic_change}
-use Rattle.rules_code.specs.instructions.OtherChanges.{text_change, hash_change, environment_kind, operation_change, ticket_change, shown}
+use Rattle.rules_code.specs.instructions.OtherChanges.{text_change, hash_change, environment_kind, operation_change, ticket_change}
 use Rattle.rules_code.specs.instructions.Effect.{change}
 use Rattle.rules_code.specs.instructions.Straight.{Straight, StackRow, PairRow, UnionRow, CollectionRow, NumberRow, LogicRow, TextRow, HashRow, EnvironmentRow, OperationRow, TicketRow, on_stack, on_pairs, on_unions, on_collections, on_numbers, on_truth, on_text, on_hashes, on_environment, on_operations, on_tickets}
 use Rattle.rules_code.specs.instructions.Straight as i

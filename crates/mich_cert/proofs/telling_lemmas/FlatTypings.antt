@@ -1,5 +1,5 @@
 -- Behind an instruction whose entries tell no type of too many levels, only the two types on top can have so many.
-use Rattle.std.proofs.Common.{◌≡◌, ℕ, ◌+◌, ◌-◌, nat_le, Bool, true, false, ◌&&◌, List, [], ◌∷◌, ◌++◌, length, drop, take, Option, Some, None, refl, sym, ap, ◌∙◌, subst}
+use Rattle.std.proofs.Common.{◌≡◌, ℕ, ◌+◌, ◌-◌, nat_le, Bool, true, false, ◌&&◌, List, [], ◌∷◌, ◌++◌, length, drop, take, Option, Some, None, refl, subst}
 use Rattle.std.specs.Prelude.{if◌then◌else◌, slice_get}
 use Rattle.std.specs.List.{list_all}
 use Rattle.std.proofs.lemmas.Bool.{and_parts}
@@ -34,7 +34,7 @@ use Rattle.rules_code.specs.certificates.Blocks.{block, blocks}
 use Rattle.rules_code.specs.certificates.Blocks as blocks_of
 use Rattle.rules_code.specs.certificates.Certificates.{is_flat, deep_entry}
 use Rattle.rules_code.specs.certificates.Derivation.{Entry, before, end, failing, behind, told_by, of_blocks, tree_entries, trees_entries, block_entries, tellers}
-use Rattle.mich_cert.proofs.telling_lemmas.FlatRows.{AllFlat, FlatBelow, under_one, under_all, drop_flat, take_flat, both_flat, RuledFlat, rule_flat}
+use Rattle.mich_cert.proofs.telling_lemmas.FlatRows.{AllFlat, FlatBelow, under_one, under_all, take_flat, both_flat, RuledFlat, rule_flat}
 use Rattle.mich_cert.proofs.Tellers.{second_told}
 
 -- ---- entries that tell no type of too many levels

@@ -1,8 +1,8 @@
 -- How many bytes texts have.
-use Rattle.std.proofs.Common.{◌≡◌, ℕ, ◌+◌, ◌<◌, List, [], ◌∷◌, ◌++◌, length, map, refl, sym, ap, ◌∙◌, arith, length-append}
+use Rattle.std.proofs.Common.{◌≡◌, ℕ, ◌+◌, List, [], ◌∷◌, ◌++◌, length, map, refl, sym, ap, ◌∙◌, arith, length-append}
 use Rattle.std.proofs.lemmas.List.{append-nil}
 use Rattle.hex.specs.Hex.{encode_with}
-use Rattle.rules_text.specs.nodes.Tree.{Tree, seq, Trees, none, more, trees_of}
+use Rattle.rules_text.specs.nodes.Tree.{Tree, seq, Trees, more, trees_of}
 use Rattle.rules_text.specs.text.Printed.{printed, elements_text}
 use Rattle.rules_data.specs.types.Kind.{Kind}
 use Rattle.rules_data.specs.types.Printing.{node_of}

@@ -1,9 +1,8 @@
 -- Entries one behind another.
-use Rattle.std.proofs.Common.{◌≡◌, ℕ, ◌+◌, ◌<◌, Bool, true, false, cond, Option, Some, None, IfOk, List, [], ◌∷◌, ◌++◌, map, refl, sym, ap, ◌∙◌, subst, arith, append_assoc}
+use Rattle.std.proofs.Common.{◌≡◌, ℕ, ◌+◌, Bool, true, false, cond, Option, Some, None, IfOk, List, [], ◌∷◌, ◌++◌, map, refl, sym, ap, ◌∙◌, subst, arith, append_assoc}
 use Rattle.std.specs.Prelude.{Result, Ok, Err}
 use Rattle.std.proofs.lemmas.List.{append-nil, map-append}
-use Rattle.rules_text.specs.nodes.Limits.{statement_limit}
-use Rattle.rules_text.specs.nodes.Tree.{Tree, seq, Trees, none, more, trees_of}
+use Rattle.rules_text.specs.nodes.Tree.{Tree, seq, none, more, trees_of}
 use Rattle.rules_data.specs.types.Printing.{named}
 use Rattle.rules_data.specs.types.Kind.{Kind}
 use Rattle.rules_code.specs.certificates.Certificates.{entry_node, entry_nodes, located, stack_nodes}

@@ -1,22 +1,21 @@
 -- The first fault of a script's sections and types stands within the script.
-use Rattle.std.proofs.Common.{◌≡◌, ℕ, zero, suc, ◌+◌, ◌-◌, ◌<◌, ◌≤◌, ◌^◌, Bool, true, false, Option, Some, None, List, [], ◌∷◌, ◌++◌, refl, sym, subst, arith}
+use Rattle.std.proofs.Common.{◌≡◌, ℕ, zero, suc, ◌+◌, ◌<◌, ◌≤◌, ◌^◌, Bool, true, false, Option, Some, None, List, [], ◌∷◌, ◌++◌, sym, subst, arith}
 use Rattle.std.specs.Prelude.{if◌then◌else◌, codes}
 use Rattle.rules_text.specs.nodes.Tree.{Tree, int, str, bytes, prim, seq, Trees, none, more, size, sizes}
 use Rattle.rules_text.specs.nodes.Primitives.{primitive_of_name}
 use Rattle.rules_text.specs.declared.nodes.Primitive.{Primitive}
 use Rattle.rules_text.specs.declared.nodes.Primitive.TheVariants as p
 use Rattle.rules_data.specs.types.Kind.{Kind}
-use Rattle.rules_data.specs.types.Attributes.{packable, passable, storable}
+use Rattle.rules_data.specs.types.Attributes.{packable, storable}
 use Rattle.rules_data.specs.types.Reading.{Reading, a_type, bad_type, too_large, type_at}
 use Rattle.rules_data.specs.types.Entrypoints.{Parameter, a_parameter, bad_parameter, large_parameter, repeated_entrypoint, of_reading, parameter}
 use Rattle.rules_code.specs.instructions.Arguments.{Found, found, fault, and_then, is_view_name, with_attribute}
 use Rattle.rules_code.specs.typing.Nodes.{bodies, inner_bodies, outline}
 use Rattle.rules_code.specs.typing.Nodes as nodes
-use Rattle.rules_code.specs.typing.Scripts.{of_parameter, parameter_of, typed_as, TypedView, typed_view, typed_views, Outline, of_parts}
-use Rattle.rules_code.specs.typing.Sections.{Placed, Body, WrittenView, Content, parameter_section, storage_section, code_section, view_section, no_section, placed, a_body, content_of, content_at, Contents, no_contents, once, with_content, with_sections, view_named}
+use Rattle.rules_code.specs.typing.Scripts.{of_parameter, parameter_of, typed_as, typed_view, typed_views, of_parts}
+use Rattle.rules_code.specs.typing.Sections.{Placed, Body, WrittenView, Content, parameter_section, storage_section, code_section, view_section, no_section, placed, content_of, content_at, Contents, no_contents, once, with_content, with_sections, view_named}
 use Rattle.mich_outline.proofs.ForCallers.{reading_from, type_at_from}
 use Rattle.mich_outline.proofs.Within.{ParameterWithin, parameter_within}
-use Rattle.laws_typing.proofs.literals_lemmas.ForCallers.{size_is}
 
 -- what is found is so, or the fault is below a location
 abbrev Good : {A : Type 0} → ℕ → (A → Type 0) → Found A → Type 0

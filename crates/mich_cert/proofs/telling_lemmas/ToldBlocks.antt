@@ -1,9 +1,8 @@
 -- The entries of a block, instruction by instruction.
 use Rattle.std.proofs.Common.{◌≡◌, ℕ, ◌+◌, ◌<◌, ◌≤◌, List, [], ◌∷◌, ◌++◌, drop, length, get_or, Option, Some, None, refl, sym, ap, ◌∙◌, subst}
-use Rattle.rules_text.specs.nodes.Tree.{Tree, seq, Trees, none, more, size}
-use Rattle.rules_data.specs.types.Kind.{Kind}
+use Rattle.rules_text.specs.nodes.Tree.{Trees, none, size}
 use Rattle.rules_code.specs.instructions.Context.{Context}
-use Rattle.rules_code.specs.typing.Typing.{Typing, shift}
+use Rattle.rules_code.specs.typing.Typing.{shift}
 use Rattle.rules_code.specs.typing.Nodes.{tree_type}
 use Rattle.rules_code.specs.certificates.Derivation.{Entry, failing, behind, tree_entries, trees_entries}
 use Rattle.mich_base.specs.declared.node.Node.{Node}

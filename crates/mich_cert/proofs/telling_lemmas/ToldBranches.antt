@@ -1,15 +1,15 @@
 -- Instructions with two branches.
-use Rattle.std.proofs.Common.{◌≡◌, ℕ, ◌+◌, ◌-◌, List, [], ◌∷◌, ◌++◌, Option, Some, None, refl, sym, ap, ◌∙◌, subst}
-use Rattle.std.specs.Prelude.{slice_get, Result, Ok, Err}
+use Rattle.std.proofs.Common.{◌≡◌, ℕ, ◌+◌, List, [], ◌∷◌, ◌++◌, Option, Some, sym, ap, ◌∙◌, subst}
+use Rattle.std.specs.Prelude.{Result, Ok, Err}
 use Rattle.std.proofs.lemmas.List.{append-nil}
-use Rattle.rules_text.specs.nodes.Tree.{Tree, prim, Trees, none, more, size}
+use Rattle.rules_text.specs.nodes.Tree.{Tree, none, more, size}
 use Rattle.rules_data.specs.types.Kind.{Kind, option, or, list}
 use Rattle.rules_code.specs.instructions.Types.{bool}
 use Rattle.rules_code.specs.instructions.Context.{Context}
 use Rattle.rules_code.specs.typing.Typing.{shift, join}
-use Rattle.rules_code.specs.typing.Nodes.{body, tree_type}
+use Rattle.rules_code.specs.typing.Nodes.{body}
 use Rattle.rules_code.specs.certificates.Blocks.{Block, block, blocks}
-use Rattle.rules_code.specs.certificates.Derivation.{Entry, block_entries, of_blocks, tellers, told_by}
+use Rattle.rules_code.specs.certificates.Derivation.{Entry, block_entries, of_blocks, tellers}
 use Rattle.mich_base.specs.declared.node.Node.{Node}
 use Rattle.mich_base.specs.declared.ty.Ty.{Ty}
 use Rattle.mich_base.specs.View.{tree, trees}

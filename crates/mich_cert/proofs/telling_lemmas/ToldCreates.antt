@@ -1,34 +1,30 @@
 -- CREATE_CONTRACT.
-use Rattle.std.proofs.Common.{◌≡◌, ℕ, ◌+◌, Bool, true, false, cond, List, [], ◌∷◌, Option, Some, None, refl, sym, ap, ◌∙◌, subst, arith}
+use Rattle.std.proofs.Common.{◌≡◌, ℕ, ◌+◌, false, List, [], ◌∷◌, Option, Some, None, refl, sym, ap, ◌∙◌, subst, arith}
 use Rattle.std.specs.Prelude.{if◌then◌else◌, Ok, Err}
-use Rattle.rules_text.specs.nodes.Tree.{Tree, prim, none, more}
+use Rattle.rules_text.specs.nodes.Tree.{prim}
 use Rattle.rules_data.specs.types.Kind.{Kind, operation, option}
 use Rattle.rules_code.specs.instructions.Types.{address, mutez, key_hash}
 use Rattle.rules_code.specs.instructions.Same.{same_kind}
-use Rattle.rules_code.specs.instructions.Arguments.{Found, found, fault}
+use Rattle.rules_code.specs.instructions.Arguments.{Found, found}
 use Rattle.rules_code.specs.instructions.Context.{Context}
 use Rattle.rules_code.specs.instructions.Context as standing
 use Rattle.rules_code.specs.instructions.Forms as f
 use Rattle.rules_code.specs.typing.Acts.{one_body, outside_views, of_script}
-use Rattle.rules_code.specs.typing.Nodes.{bodies, tree_type, script, script_at, script_in, found_at}
+use Rattle.rules_code.specs.typing.Nodes.{bodies, tree_type, script, script_in, found_at}
 use Rattle.rules_code.specs.typing.Scripts.{Script}
 use Rattle.rules_code.specs.typing.Stacks.{on_origination}
-use Rattle.rules_code.specs.typing.Typing.{Typing, goes, fails, bad, shift}
-use Rattle.rules_code.specs.certificates.Blocks.{blocks, script_blocks}
+use Rattle.rules_code.specs.typing.Typing.{Typing, goes, bad, shift}
+use Rattle.rules_code.specs.certificates.Blocks.{blocks}
 use Rattle.rules_code.specs.certificates.Derivation.{Entry, of_blocks, tellers}
 use Rattle.mich_base.specs.declared.node.Node.{Node}
 use Rattle.mich_base.specs.declared.ty.Ty.{Ty}
-use Rattle.mich_base.specs.TypeView.{kind}
 use Rattle.mich_base.specs.View.{tree, trees}
-use Rattle.mich_overload.specs.View.{kinds}
 use Rattle.mich_instr.specs.Typed.{HasForm}
-use Rattle.mich_outline.proofs.ForCallers.{script_moves}
 use Rattle.mich_control.specs.Answers.{IsFault}
 use Rattle.mich_control.specs.View.{is_view}
 use Rattle.mich_control.specs.declared.error.CheckError.{CheckError}
 use Rattle.mich_control.specs.declared.error.CheckError.TheVariants as error
 use Rattle.mich_control.proofs.Forms.{formed}
-use Rattle.mich_control.proofs.Shifts.{fault_is}
 use Rattle.mich_check.specs.Scripts.{Origin, originated, IsBehind}
 use Rattle.mich_cert.specs.telling.Told.{Adds}
 use Rattle.mich_cert.specs.telling.Walk.{FollowsApp, IsScript, app_entries, script_entries}

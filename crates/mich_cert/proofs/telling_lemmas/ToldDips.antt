@@ -1,11 +1,11 @@
 -- DIP.
-use Rattle.std.proofs.Common.{◌≡◌, ℕ, ◌+◌, nat_le, ◌&&◌, pos, negsuc, Bool, true, false, List, [], ◌∷◌, ◌++◌, take, drop, length, Option, Some, None, refl, sym, ap, ◌∙◌, subst, arith}
+use Rattle.std.proofs.Common.{◌≡◌, ℕ, ◌+◌, nat_le, ◌&&◌, pos, negsuc, Bool, true, false, List, [], ◌∷◌, ◌++◌, take, drop, length, Option, refl, sym, ap, ◌∙◌, subst, arith}
 use Rattle.std.specs.Prelude.{if◌then◌else◌, Result, Ok, Err}
 use Rattle.std.proofs.lemmas.List.{append-nil}
 use Rattle.rules_text.specs.nodes.Limits.{count_limit}
 use Rattle.rules_text.specs.nodes.Tree.{Tree, int, str, bytes, prim, seq, none, more, size}
 use Rattle.rules_data.specs.types.Kind.{Kind}
-use Rattle.rules_code.specs.instructions.Arguments.{Found, found, fault, count_argument}
+use Rattle.rules_code.specs.instructions.Arguments.{found, fault, count_argument}
 use Rattle.rules_code.specs.instructions.Control.{dip_of}
 use Rattle.rules_code.specs.instructions.Context.{Context}
 use Rattle.rules_code.specs.instructions.Forms as f
@@ -20,7 +20,7 @@ use Rattle.mich_base.specs.declared.ty.Ty.{Ty}
 use Rattle.mich_base.specs.View.{tree, trees}
 use Rattle.mich_outline.specs.Answers.{found_from}
 use Rattle.mich_instr.specs.Typed.{HasForm}
-use Rattle.mich_control.specs.Answers.{typing, IsFault}
+use Rattle.mich_control.specs.Answers.{typing}
 use Rattle.mich_control.specs.Dips.{counted, IsCount, IsDipped}
 use Rattle.mich_control.specs.declared.dips.Count.{Count}
 use Rattle.mich_control.specs.declared.dips.Count.TheVariants as count
@@ -31,7 +31,7 @@ use Rattle.mich_control.proofs.Forms.{formed}
 use Rattle.mich_control.proofs.Read.{read_as}
 use Rattle.mich_control.proofs.Shifts.{unshift, body_at, fault_is}
 use Rattle.mich_cert.specs.telling.Told.{Adds}
-use Rattle.mich_cert.specs.telling.Walk.{Follows, FollowsApp, app_entries, after_of}
+use Rattle.mich_cert.specs.telling.Walk.{FollowsApp, app_entries, after_of}
 use Rattle.mich_cert.specs.declared.telling.told.Told.{Told}
 use Rattle.mich_cert.proofs.Tellers.{second_told}
 

@@ -1,13 +1,12 @@
 -- LAMBDA and LAMBDA_REC.
-use Rattle.std.proofs.Common.{◌≡◌, ℕ, ◌+◌, ◌-◌, nat_le, Bool, true, false, List, [], ◌∷◌, ◌++◌, Option, Some, None, refl, sym, ap, ◌∙◌, subst, arith}
+use Rattle.std.proofs.Common.{◌≡◌, ℕ, ◌+◌, ◌-◌, Bool, true, false, List, [], ◌∷◌, Option, refl, sym, ap, ◌∙◌, subst, arith}
 use Rattle.std.specs.Prelude.{if◌then◌else◌, slice_get, Result, Ok, Err}
 use Rattle.std.proofs.lemmas.List.{append-nil}
-use Rattle.rules_text.specs.nodes.Limits.{type_limit}
-use Rattle.rules_text.specs.nodes.Tree.{Tree, Trees, none, more, prim, size}
+use Rattle.rules_text.specs.nodes.Tree.{Trees, none, more, prim, size}
 use Rattle.rules_text.specs.nodes.Primitives.{primitive_of_name}
 use Rattle.rules_text.specs.declared.nodes.Primitive.{Primitive}
-use Rattle.rules_data.specs.types.Kind.{Kind, nodes, lambda}
-use Rattle.rules_code.specs.instructions.Arguments.{Found, found}
+use Rattle.rules_data.specs.types.Kind.{Kind, lambda}
+use Rattle.rules_code.specs.instructions.Arguments.{found}
 use Rattle.rules_code.specs.instructions.Control.{Arrow, lambda_of, call_kinds}
 use Rattle.rules_code.specs.instructions.Context.{Context}
 use Rattle.rules_code.specs.instructions.Context as place
@@ -16,7 +15,7 @@ use Rattle.rules_code.specs.typing.Typing.{Typing, Typer, goes, bad, shift, ends
 use Rattle.rules_code.specs.typing.Nodes.{bodies, body, tree_type}
 use Rattle.rules_code.specs.certificates.Blocks.{Block, block, blocks, last_location}
 use Rattle.rules_code.specs.certificates.Blocks as blocks_of
-use Rattle.rules_code.specs.certificates.Derivation.{Entry, block_entries, of_blocks, tellers, told_by}
+use Rattle.rules_code.specs.certificates.Derivation.{block_entries, of_blocks, tellers, told_by}
 use Rattle.mich_base.specs.declared.node.Node.{Node}
 use Rattle.mich_base.specs.declared.ty.Ty.{Ty}
 use Rattle.mich_base.specs.View.{tree, trees}

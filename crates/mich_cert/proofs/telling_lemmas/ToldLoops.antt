@@ -1,5 +1,5 @@
 -- Instructions with a body that is run again and again.
-use Rattle.std.proofs.Common.{◌≡◌, ℕ, ◌+◌, Bool, true, List, [], ◌∷◌, ◌++◌, Option, Some, None, refl, sym, ap, ◌∙◌, subst}
+use Rattle.std.proofs.Common.{◌≡◌, ℕ, ◌+◌, true, List, [], ◌∷◌, ◌++◌, Option, Some, refl, sym, ap, ◌∙◌, subst}
 use Rattle.std.specs.Prelude.{if◌then◌else◌, Ok}
 use Rattle.std.proofs.lemmas.List.{append-nil}
 use Rattle.rules_text.specs.nodes.Tree.{Tree, prim, Trees, none, more}
@@ -8,11 +8,11 @@ use Rattle.rules_text.specs.declared.nodes.Primitive.{Primitive}
 use Rattle.rules_data.specs.types.Kind.{Kind, or, pair, list, set, map}
 use Rattle.rules_code.specs.instructions.Types.{bool}
 use Rattle.rules_code.specs.instructions.Context.{Context}
-use Rattle.rules_code.specs.typing.Acts.{Meanings, act_type, one_body}
-use Rattle.rules_code.specs.typing.Typing.{Typing, Typer, goes, bad, shift, ends}
+use Rattle.rules_code.specs.typing.Acts.{Meanings, act_type}
+use Rattle.rules_code.specs.typing.Typing.{goes, bad, shift, ends}
 use Rattle.rules_code.specs.typing.Nodes.{bodies, body, tree_type}
 use Rattle.rules_code.specs.certificates.Blocks.{Block, block, blocks}
-use Rattle.rules_code.specs.certificates.Derivation.{Entry, block_entries, of_blocks, tellers}
+use Rattle.rules_code.specs.certificates.Derivation.{block_entries, of_blocks, tellers}
 use Rattle.mich_base.specs.declared.node.Node.{Node}
 use Rattle.mich_base.specs.declared.ty.Ty.{Ty}
 use Rattle.mich_base.specs.View.{tree, trees}

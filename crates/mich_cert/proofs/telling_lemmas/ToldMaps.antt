@@ -1,5 +1,5 @@
 -- MAP.
-use Rattle.std.proofs.Common.{◌≡◌, ℕ, ◌+◌, List, [], ◌∷◌, ◌++◌, Option, Some, None, refl, sym, ap, ◌∙◌, subst}
+use Rattle.std.proofs.Common.{◌≡◌, ℕ, ◌+◌, List, [], ◌∷◌, Option, Some, None, refl, sym, ap, ◌∙◌, subst}
 use Rattle.std.specs.Prelude.{Result, Ok, Err}
 use Rattle.std.proofs.lemmas.List.{append-nil}
 use Rattle.rules_text.specs.nodes.Tree.{Tree, prim, Trees, none, more}
@@ -12,7 +12,7 @@ use Rattle.rules_code.specs.typing.Acts.{Meanings, act_type, one_body}
 use Rattle.rules_code.specs.typing.Typing.{Typing, Typer, bad, shift, mapped}
 use Rattle.rules_code.specs.typing.Nodes.{bodies, body, tree_type}
 use Rattle.rules_code.specs.certificates.Blocks.{Block, block, blocks}
-use Rattle.rules_code.specs.certificates.Derivation.{Entry, block_entries, of_blocks, tellers}
+use Rattle.rules_code.specs.certificates.Derivation.{block_entries, of_blocks, tellers}
 use Rattle.mich_base.specs.declared.node.Node.{Node}
 use Rattle.mich_base.specs.declared.ty.Ty.{Ty}
 use Rattle.mich_base.specs.View.{tree, trees}

@@ -1,5 +1,5 @@
 -- Nodes as instructions.
-use Rattle.std.proofs.Common.{◌≡◌, ℕ, ◌+◌, List, [], ◌∷◌, ◌++◌, Option, refl, sym, ap, ◌∙◌, subst}
+use Rattle.std.proofs.Common.{◌≡◌, ℕ, ◌+◌, List, [], ◌∷◌, Option, refl, sym, ap, ◌∙◌, subst}
 use Rattle.std.specs.Prelude.{Result, Ok, Err}
 use Rattle.rules_text.specs.nodes.Primitives.{primitive_of_name}
 use Rattle.rules_text.specs.nodes.Tree.{Tree, int, str, bytes, prim, seq, Trees}

@@ -1,5 +1,5 @@
 -- The blocks of scripts where they stand.
-use Rattle.std.proofs.Common.{◌≡◌, ℕ, zero, suc, ◌+◌, ◌-◌, ◌<◌, ◌≤◌, List, [], ◌∷◌, ◌++◌, Option, Some, None, refl, sym, ap, ◌∙◌, subst, arith}
+use Rattle.std.proofs.Common.{◌≡◌, ℕ, suc, ◌+◌, ◌-◌, ◌≤◌, List, [], ◌∷◌, ◌++◌, Some, refl, sym, ap, ◌∙◌, subst, arith}
 use Rattle.std.specs.Prelude.{slice_get, map}
 use Rattle.std.proofs.lemmas.List.{append-nil}
 use Rattle.rules_text.specs.nodes.Tree.{Tree, int, str, bytes, prim, seq, Trees, none, more, size, preorder, preorders}
@@ -10,7 +10,7 @@ use Rattle.rules_code.specs.typing.Nodes.{outline, script}
 use Rattle.rules_code.specs.typing.Scripts.{Script, Outline, TypedView, with_bodies}
 use Rattle.rules_code.specs.typing.Sections.{Body}
 use Rattle.rules_code.specs.certificates.Blocks.{on_found, outline_blocks, script_blocks, view_blocks}
-use Rattle.rules_code.specs.certificates.Derivation.{Entry, Teller, block_entries, derivation, inner_tellers, of_blocks, tellers, told_by}
+use Rattle.rules_code.specs.certificates.Derivation.{Teller, block_entries, derivation, of_blocks, tellers, told_by}
 use Rattle.mich_base.specs.View.{tree}
 use Rattle.mich_outline.specs.View.{outline_of, view_of}
 use Rattle.mich_outline.specs.declared.outline.Outline.{Outline as CodeOutline}

@@ -1,22 +1,21 @@
 -- PUSH, and the bodies in literals.
-use Rattle.std.proofs.Common.{◌≡◌, ℕ, ◌+◌, ◌-◌, ◌<◌, ◌≤◌, suc, Bool, true, false, cond, List, [], ◌∷◌, ◌++◌, drop, length, get_or, Option, Some, None, refl, sym, ap, ◌∙◌, subst, arith, drop-cons, add-one}
-use Rattle.std.specs.Prelude.{slice_get, Result, Ok, Err}
+use Rattle.std.proofs.Common.{◌≡◌, ℕ, ◌+◌, ◌<◌, ◌≤◌, suc, Bool, true, false, cond, List, [], ◌∷◌, ◌++◌, drop, length, get_or, Option, Some, None, refl, sym, ap, ◌∙◌, subst, drop-cons, add-one}
+use Rattle.std.specs.Prelude.{Result, Ok, Err}
 use Rattle.std.proofs.lemmas.List.{append-nil, drop_all}
 use Rattle.rules_text.specs.nodes.Tree.{Tree, int, str, bytes, prim, seq, Trees, none, more, size, preorder, preorders}
 use Rattle.rules_data.specs.types.Attributes.{pushable}
 use Rattle.rules_data.specs.types.Kind.{Kind}
 use Rattle.rules_data.specs.values.Val.{Val}
-use Rattle.rules_data.specs.values.Literals.{Pending, body, claim, Literal, good, bad, read}
-use Rattle.rules_code.specs.instructions.Arguments.{Found, found, fault, and_then, type_argument}
-use Rattle.rules_code.specs.instructions.Control.{Pushed, push_of, call_kinds}
+use Rattle.rules_data.specs.values.Literals.{Pending, body, claim, Literal, good, read}
+use Rattle.rules_code.specs.instructions.Arguments.{Found, found, and_then, type_argument}
+use Rattle.rules_code.specs.instructions.Control.{Pushed, call_kinds}
 use Rattle.rules_code.specs.instructions.Context.{Context, lambda}
 use Rattle.rules_code.specs.instructions.Forms as f
 use Rattle.rules_code.specs.typing.Bodies.{body_fault}
 use Rattle.rules_code.specs.typing.Literals.{fault_of_bodies}
 use Rattle.rules_code.specs.typing.Nodes as nodes
 use Rattle.rules_code.specs.typing.Nodes.{tree_type}
-use Rattle.rules_code.specs.typing.Typing.{Typing, goes, fails, shift}
-use Rattle.rules_code.specs.typing.Typing as ty
+use Rattle.rules_code.specs.typing.Typing.{Typing, goes, shift}
 use Rattle.rules_code.specs.certificates.Blocks.{blocks, on_found, literal_blocks, pending_blocks}
 use Rattle.rules_code.specs.certificates.Derivation.{Entry, block_entries, of_blocks, tellers}
 use Rattle.laws_typing.specs.literals.Laws.{AllStandIn}
@@ -24,16 +23,11 @@ use Rattle.laws_typing.proofs.literals_lemmas.ForCallers.{size_is, bodies_stand}
 use Rattle.laws_typing.proofs.literals_lemmas.Places.{all_left, all_right}
 use Rattle.mich_base.specs.declared.node.Node.{Node}
 use Rattle.mich_base.specs.declared.ty.Ty.{Ty}
-use Rattle.mich_base.specs.TypeView.{kind}
 use Rattle.mich_base.specs.View.{tree, trees}
 use Rattle.mich_check.specs.Pending.{IsFaulty, IsRead, called_fault, item_fault, moved}
-use Rattle.mich_check.proofs.PushTyping.{called_item, items_fault, push_made}
+use Rattle.mich_check.proofs.PushTyping.{called_item, items_fault, push_goes}
 use Rattle.mich_data.specs.View.{pending, all_pending}
 use Rattle.mich_data.specs.declared.pending.Pending.{Pending as Item}
-use Rattle.mich_data.specs.declared.pending.Pending.TheVariants as item
-use Rattle.mich_instr.specs.Code.{Code}
-use Rattle.mich_instr.specs.Code as made
-use Rattle.mich_instr.specs.Plain.{bare}
 use Rattle.mich_instr.specs.Typed.{HasForm}
 use Rattle.mich_outline.proofs.ForCallers.{argument_from}
 use Rattle.mich_control.specs.Answers.{typing, ends_in, inside, IsFault}
@@ -220,9 +214,9 @@ module _ (at : ℕ) (c : Context) (name : List ℕ) (annots : List (List ℕ)) (
       ∙ ap (λ e. of_blocks (tellers ts (at + 1)) (literal_blocks e)) reads_there
       ∙ pending_told ts at ps (second (tree v) (tree w) ps (bodies_stand a (1 + size (tree v)) (tree w) x ps reads_there))
 
-  pub push_told : (old new : Told) → (moved at (fault_of_bodies ps) ≡ None) × Adds old new (pending_entries at ps) → (o : Option (List Ty)) (j : Code) →
-      typing o ≡ goes (a ∷ S) → j ≡ made.push a (bare (tree v)) (tree w) → FollowsApp at c name annots (trees ns) S old new (Ok o)
-  push_told old new h o j g m = (
-    (push_made at c name annots ns S form v w two a q of there x ps reads o j h.0 g m).0,
+  pub push_told : (old new : Told) → (moved at (fault_of_bodies ps) ≡ None) × Adds old new (pending_entries at ps) → (o : Option (List Ty)) →
+      typing o ≡ goes (a ∷ S) → FollowsApp at c name annots (trees ns) S old new (Ok o)
+  push_told old new h o g = (
+    push_goes at c name annots ns S form v w two a q of there x ps reads o h.0 g,
     subst (Adds old new) (sym entries_are) h.1,
   )

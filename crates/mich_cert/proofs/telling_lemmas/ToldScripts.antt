@@ -1,16 +1,16 @@
 -- The bodies of scripts.
-use Rattle.std.proofs.Common.{◌≡◌, ℕ, suc, ◌+◌, ◌-◌, ◌<◌, ◌≤◌, Bool, true, false, cond, List, [], ◌∷◌, ◌++◌, drop, length, get_or, Option, Some, None, refl, sym, ap, ◌∙◌, subst, arith, drop-cons, add-one}
+use Rattle.std.proofs.Common.{◌≡◌, ℕ, suc, ◌+◌, ◌<◌, ◌≤◌, Bool, true, false, cond, List, [], ◌∷◌, ◌++◌, drop, length, get_or, Option, Some, None, refl, sym, ap, ◌∙◌, subst, arith, drop-cons, add-one}
 use Rattle.std.specs.Prelude.{map, Result, Ok, Err}
 use Rattle.std.proofs.lemmas.List.{append-nil, drop_all}
 use Rattle.rules_text.specs.nodes.Tree.{Tree, int, str, bytes, prim, seq, size}
 use Rattle.rules_data.specs.types.Kind.{Kind, pair}
-use Rattle.rules_code.specs.instructions.Arguments.{Found, found, fault, and_then}
+use Rattle.rules_code.specs.instructions.Arguments.{found, and_then}
 use Rattle.rules_code.specs.instructions.Context.{Context, view}
 use Rattle.rules_code.specs.instructions.Same.{same_kinds}
 use Rattle.rules_code.specs.typing.Bodies.{body_fault, first_fault}
 use Rattle.rules_code.specs.typing.Nodes as nodes
 use Rattle.rules_code.specs.typing.Nodes.{script, outline}
-use Rattle.rules_code.specs.typing.Scripts.{Script, Outline, TypedView, View, unless_fault, fault_of_body, code_fault, view_fault, a_view, with_views, a_script, with_bodies}
+use Rattle.rules_code.specs.typing.Scripts.{Outline, TypedView, unless_fault, fault_of_body, code_fault, view_fault, a_view, with_views, a_script, with_bodies}
 use Rattle.rules_code.specs.typing.Sections.{a_body}
 use Rattle.rules_code.specs.typing.Typing.{Typing, goes, fails, shift}
 use Rattle.rules_code.specs.typing.Typing as ty
@@ -22,11 +22,9 @@ use Rattle.mich_check.specs.Pending.{moved}
 use Rattle.mich_check.specs.Scripts.{largest_of}
 use Rattle.mich_check.proofs.PushTyping.{no_move}
 use Rattle.mich_outline.specs.Outlines.{outline_at}
-use Rattle.mich_outline.specs.View.{outline_of, view_of}
-use Rattle.mich_outline.specs.declared.outline.Outline.{Outline as CodeOutline}
+use Rattle.mich_outline.specs.View.{view_of}
 use Rattle.mich_outline.specs.declared.outline.View.{View as Item}
 use Rattle.mich_outline.proofs.Moves.{script_is}
-use Rattle.mich_control.specs.Answers.{IsFault}
 use Rattle.mich_control.specs.declared.error.CheckError.{CheckError}
 use Rattle.mich_control.specs.declared.error.CheckError.TheVariants as error
 use Rattle.mich_control.proofs.Shifts.{body_at}

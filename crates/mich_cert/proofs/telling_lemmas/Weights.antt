@@ -3,7 +3,7 @@ use Rattle.std.proofs.Common.{◌≡◌, ℕ, ◌+◌, ◌≤◌, List, [], ◌�
 use Rattle.std.specs.Prelude.{pos}
 use Rattle.std.specs.Fmt.{signed_decimal}
 use Rattle.rules_text.specs.nodes.Tree.{Tree, seq, Trees, none, more}
-use Rattle.rules_text.specs.text.Printed.{printed, in_parens, is_wrapped, arguments_text, elements_text}
+use Rattle.rules_text.specs.text.Printed.{printed, in_parens, is_wrapped, elements_text}
 use Rattle.rules_data.specs.types.Kind.{Kind}
 use Rattle.rules_data.specs.types.Printing.{node_of}
 use Rattle.rules_code.specs.certificates.Certificates.{stack_nodes, entry_node, entry_nodes, certified_node}

@@ -1,5 +1,5 @@
 -- What the answer says of the certificate of a script.
-use Rattle.std.specs.Prelude.{◌≡◌, ℕ, codes, Result, Ok, Err}
+use Rattle.std.specs.Prelude.{◌≡◌, codes, Result, Ok, Err}
 use Rattle.rules_text.specs.nodes.Tree.{Tree, seq, Trees, none, more}
 use Rattle.rules_data.specs.types.Printing.{named}
 use Rattle.rules_code.specs.certificates.Certificates.{Certifying, certified, ill_typed, too_deep, too_long, certifying}

@@ -1,6 +1,5 @@
 -- What is left of the room for the bytes of a line.
 use Rattle.std.specs.Prelude.{◌≡◌, ◌<◌, ◌+◌, ℕ, length, List, [], ◌∷◌, Result, Ok, Err}
-use Rattle.rules_text.specs.nodes.Tree.{Tree}
 use Rattle.rules_text.specs.text.Printed.{printed}
 use Rattle.rules_data.specs.types.Kind.{Kind}
 use Rattle.rules_data.specs.types.Printing.{node_of}

@@ -9,7 +9,7 @@ use Rattle.rules_code.specs.instructions.Arguments.{Found, found, fault}
 use Rattle.rules_code.specs.instructions.Context.{Context, lambda, main, view}
 use Rattle.rules_code.specs.instructions.Control.{call_kinds}
 use Rattle.rules_code.specs.typing.Typing.{Typing, shift}
-use Rattle.rules_code.specs.typing.Nodes.{script, outline, tree_type}
+use Rattle.rules_code.specs.typing.Nodes.{outline, tree_type}
 use Rattle.rules_code.specs.typing.Scripts.{Script, Outline, TypedView, view_fault}
 use Rattle.rules_code.specs.typing.Bodies.{first_fault}
 use Rattle.rules_code.specs.certificates.Blocks.{blocks}

@@ -38,10 +38,12 @@ pub(crate) fn tell_branch(
     place: Place<'_>,
     types: Rows<Ty>,
     told: &mut Told,
+    end: &mut u32,
 ) -> Result<After, CheckError>
     requires fits { at + sizes (trees app.now.args) + 1 < 2 ^ 32 }
     requires form { form_of (primitive_of_name app.now.name) ≡ branch_form branch }
-    ensures { FollowsApp at (context place.entry) app.now.name app.now.annots (trees app.now.args) (kinds types) told.old told.new result }
+    ensures follows { FollowsApp at (context place.entry) app.now.name app.now.annots (trees app.now.args) (kinds types) told.old told.new result }
+    ensures ends { IfOk result (λ _. end.new ≡ at + (sizes (trees app.now.args) + 1)) }
 {
     let Some((one, other)) = app.args.both() else {
         return Err(CheckError::IllTyped(at));
@@ -49,8 +51,8 @@ pub(crate) fn tell_branch(
     let Some((first, second)) = branch_stacks(alloc, branch, types)? else {
         return Err(CheckError::IllTyped(at));
     };
-    let one_after = tell_body(alloc, one, at + 1, place, first, told)?;
-    let other_after = tell_body(alloc, other, behind(one, at + 1), place, second, told)?;
+    let one_after = tell_body(alloc, one, at + 1, place, first, told, end)?;
+    let other_after = tell_body(alloc, other, *end, place, second, told, end)?;
     joined(one_after, other_after, at)
 }
 
@@ -64,10 +66,12 @@ pub(crate) fn tell_loop(
     place: Place<'_>,
     types: Rows<Ty>,
     told: &mut Told,
+    end: &mut u32,
 ) -> Result<After, CheckError>
     requires fits { at + sizes (trees app.now.args) + 1 < 2 ^ 32 }
     requires form { form_of (primitive_of_name app.now.name) ≡ loop_form turns }
-    ensures { FollowsApp at (context place.entry) app.now.name app.now.annots (trees app.now.args) (kinds types) told.old told.new result }
+    ensures follows { FollowsApp at (context place.entry) app.now.name app.now.annots (trees app.now.args) (kinds types) told.old told.new result }
+    ensures ends { IfOk result (λ _. end.new ≡ at + (sizes (trees app.now.args) + 1)) }
 {
     let Some(node) = app.args.only() else {
         return Err(CheckError::IllTyped(at));
@@ -75,7 +79,7 @@ pub(crate) fn tell_loop(
     let Some(turning) = loop_stacks(alloc, turns, types)? else {
         return Err(CheckError::IllTyped(at));
     };
-    let ends = tell_body(alloc, node, at + 1, place, turning.begins, told)?;
+    let ends = tell_body(alloc, node, at + 1, place, turning.begins, told, end)?;
     if !ends_in(&ends, &turning.ends) {
         return Err(CheckError::IllTyped(at));
     }
@@ -91,16 +95,18 @@ pub(crate) fn tell_dip(
     place: Place<'_>,
     types: Rows<Ty>,
     told: &mut Told,
+    end: &mut u32,
 ) -> Result<After, CheckError>
     requires fits { at + sizes (trees app.now.args) + 1 < 2 ^ 32 }
     requires form { form_of (primitive_of_name app.now.name) ≡ f.dip }
-    ensures { FollowsApp at (context place.entry) app.now.name app.now.annots (trees app.now.args) (kinds types) told.old told.new result }
+    ensures follows { FollowsApp at (context place.entry) app.now.name app.now.annots (trees app.now.args) (kinds types) told.old told.new result }
+    ensures ends { IfOk result (λ _. end.new ≡ at + (sizes (trees app.now.args) + 1)) }
 {
     let dip = dip_parts(&app.args, at)?;
     let Some((upper, lower)) = split_stack(types, counted(dip.count))? else {
         return Err(CheckError::IllTyped(at));
     };
-    let ends = tell_body(alloc, dip.body, dip.place, place, lower, told)?;
+    let ends = tell_body(alloc, dip.body, dip.place, place, lower, told, end)?;
     let body = without_code(alloc, ends)?;
     let made = dipped(alloc, dip.count, upper, body, at)?;
     Ok(made.after)
@@ -114,10 +120,12 @@ pub(crate) fn tell_map(
     place: Place<'_>,
     types: Rows<Ty>,
     told: &mut Told,
+    end: &mut u32,
 ) -> Result<After, CheckError>
     requires fits { at + sizes (trees app.now.args) + 1 < 2 ^ 32 }
     requires form { form_of (primitive_of_name app.now.name) ≡ f.map }
-    ensures { FollowsApp at (context place.entry) app.now.name app.now.annots (trees app.now.args) (kinds types) told.old told.new result }
+    ensures follows { FollowsApp at (context place.entry) app.now.name app.now.annots (trees app.now.args) (kinds types) told.old told.new result }
+    ensures ends { IfOk result (λ _. end.new ≡ at + (sizes (trees app.now.args) + 1)) }
 {
     let Some(node) = app.args.only() else {
         return Err(CheckError::IllTyped(at));
@@ -125,7 +133,7 @@ pub(crate) fn tell_map(
     let Some(mapping) = map_stacks(alloc, types)? else {
         return Err(CheckError::IllTyped(at));
     };
-    let ends = tell_body(alloc, node, at + 1, place, mapping.begins, told)?;
+    let ends = tell_body(alloc, node, at + 1, place, mapping.begins, told, end)?;
     let body = without_code(alloc, ends)?;
     let made = mapped(alloc, mapping.target, mapping.rest, body, at)?;
     Ok(made.after)
@@ -141,10 +149,12 @@ pub(crate) fn tell_lambda(
     _place: Place<'_>,
     types: Rows<Ty>,
     told: &mut Told,
+    end: &mut u32,
 ) -> Result<After, CheckError>
     requires fits { at + sizes (trees app.now.args) + 1 < 2 ^ 32 }
     requires form { form_of (primitive_of_name app.now.name) ≡ lambda_form recursive }
-    ensures { FollowsApp at (context _place.entry) app.now.name app.now.annots (trees app.now.args) (kinds types) told.old told.new result }
+    ensures follows { FollowsApp at (context _place.entry) app.now.name app.now.annots (trees app.now.args) (kinds types) told.old told.new result }
+    ensures ends { IfOk result (λ _. end.new ≡ at + (sizes (trees app.now.args) + 1)) }
 {
     let Some((first, second, node)) = app.args.three() else {
         return Err(CheckError::IllTyped(at));
@@ -152,7 +162,7 @@ pub(crate) fn tell_lambda(
     let arrow = read_arrow(alloc, first, second, at)?;
     let begins = begun(alloc, recursive, &arrow, at)?;
     let place = behind(second, behind(first, at + 1));
-    let ends = tell_body(alloc, node, place, Place::Lambda, begins, told)?;
+    let ends = tell_body(alloc, node, place, Place::Lambda, begins, told, end)?;
     let body = without_code(alloc, ends)?;
     let written = (first, second, node);
     let made = lambda_made(alloc, recursive, written, arrow, body, types, at)?;

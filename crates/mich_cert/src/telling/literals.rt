@@ -64,7 +64,7 @@ pub(crate) fn tell_push(
     let ty = type_with(alloc, Attribute::Pushable, written, at + 1)?;
     let pending = pending_of(alloc, &ty, literal, behind(written, 1), at)?;
     tell_pending(alloc, &pending, at, told)?;
-    let made = push_made(alloc, ty, written, literal, types)?;
+    let made = push_made(alloc, ty, written, literal, Rows::new(alloc), types)?;
     Ok(made.after)
 }
 
@@ -120,7 +120,8 @@ fn tell_called(
     ensures { Confirms (called_fault at (kind arg.now) (kind ret.now) recursive (tree node.now)) (called_entries at (kind arg.now) (kind ret.now) recursive (tree node.now)) told.old told.new result }
 {
     let types = call_types(alloc, arg, ret, recursive)?;
-    let after = tell_body(alloc, node, at, Place::Lambda, types, told)?;
+    let mut end = at;
+    let after = tell_body(alloc, node, at, Place::Lambda, types, told, &mut end)?;
     let ends = only(alloc, ret)?;
     if !ends_in(&after, &ends) {
         return Err(CheckError::IllTyped(at));

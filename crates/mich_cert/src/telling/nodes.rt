@@ -1,5 +1,5 @@
 // The entries of blocks and instructions, as they are typed.
-ghost use Rattle.std.specs.Prelude.{◌≡◌, ◌+◌, ◌<◌, ◌^◌, OnOk};
+ghost use Rattle.std.specs.Prelude.{◌≡◌, ◌+◌, ◌<◌, ◌^◌, IfOk, OnOk};
 ghost use Rattle.rules_text.specs.nodes.Tree.{size, sizes};
 ghost use Rattle.rules_code.specs.certificates.Derivation.{block_entries, tree_entries, trees_entries};
 ghost use Rattle.rules_code.specs.typing.Nodes.{body, tree_type, trees_type};
@@ -17,13 +17,13 @@ use crate::telling::plain::{behind_bodiless, behind_self, behind_straight, behin
 use crate::telling::told::{Told, Word, tell_failing, tell_stack};
 use mich_base::{App, Memory, Node, Nodes, Rows, Ty};
 use mich_control::{CheckError, Form, Place, form_of_name};
-use mich_types::behind;
+use mich_types::behind_all;
 use std::alloc::Global;
 
 // The stack behind an instruction or block; none where it fails.
 pub(crate) type After = Option<Rows<Ty>>;
 
-// Tells the instructions of the block at a location, and how it ends.
+// Tells the instructions of the block at a location, and how it ends; `end` becomes the location behind the block.
 #[cycle(tell)]
 pub(crate) fn tell_block(
     alloc: Global,
@@ -32,9 +32,11 @@ pub(crate) fn tell_block(
     place: Place<'_>,
     types: Rows<Ty>,
     told: &mut Told,
+    end: &mut u32,
 ) -> Result<After, CheckError>
     requires { at + sizes (trees nodes.now) + 1 < 2 ^ 32 }
-    ensures { Follows (shift (at + 1) (trees_type (trees nodes.now) (context place.entry) (kinds types))) (trees_entries (trees nodes.now) at (at + 1) (context place.entry) (kinds types)) told.old told.new result }
+    ensures follows { Follows (shift (at + 1) (trees_type (trees nodes.now) (context place.entry) (kinds types))) (trees_entries (trees nodes.now) at (at + 1) (context place.entry) (kinds types)) told.old told.new result }
+    ensures ends { IfOk result (λ _. end.new ≡ at + (sizes (trees nodes.now) + 1)) }
 {
     let mut after = Some(types);
     let mut last = at;
@@ -43,11 +45,11 @@ pub(crate) fn tell_block(
         let Some(before) = after else {
             return Err(CheckError::IllTyped(last));
         };
-        after = tell_node(alloc, node, next, place, before, told)?;
         last = next;
-        next = behind(node, next);
+        after = tell_node(alloc, node, last, place, before, told, &mut next)?;
     }
     tell_end(alloc, at, &after, told)?;
+    *end = next;
     Ok(after)
 }
 
@@ -61,7 +63,7 @@ fn tell_end(alloc: Global, at: u32, after: &After, told: &mut Told) -> Result<()
     }
 }
 
-// Tells the node at a location as a body.
+// Tells the node at a location as a body; `end` becomes the location behind it.
 #[cycle(tell)]
 pub(crate) fn tell_body(
     alloc: Global,
@@ -70,17 +72,19 @@ pub(crate) fn tell_body(
     place: Place<'_>,
     types: Rows<Ty>,
     told: &mut Told,
+    end: &mut u32,
 ) -> Result<After, CheckError>
     requires { at + size (tree node.now) < 2 ^ 32 }
-    ensures { Follows (body (tree node.now) at (context place.entry) (kinds types)) (block_entries (tree node.now) at (context place.entry) (kinds types)) told.old told.new result }
+    ensures follows { Follows (body (tree node.now) at (context place.entry) (kinds types)) (block_entries (tree node.now) at (context place.entry) (kinds types)) told.old told.new result }
+    ensures ends { IfOk result (λ _. end.new ≡ at + size (tree node.now)) }
 {
     match node {
-        Node::Seq(nodes) => tell_block(alloc, nodes, at, place, types, told),
+        Node::Seq(nodes) => tell_block(alloc, nodes, at, place, types, told, end),
         _ => Err(CheckError::IllTyped(at)),
     }
 }
 
-// Tells the node at a location as an instruction.
+// Tells the node at a location as an instruction; `end` becomes the location behind it.
 #[cycle(tell)]
 fn tell_node(
     alloc: Global,
@@ -89,12 +93,14 @@ fn tell_node(
     place: Place<'_>,
     types: Rows<Ty>,
     told: &mut Told,
+    end: &mut u32,
 ) -> Result<After, CheckError>
     requires { at + size (tree node.now) < 2 ^ 32 }
-    ensures { Follows (shift at (tree_type (tree node.now) (context place.entry) (kinds types))) (tree_entries (tree node.now) at (context place.entry) (kinds types)) told.old told.new result }
+    ensures follows { Follows (shift at (tree_type (tree node.now) (context place.entry) (kinds types))) (tree_entries (tree node.now) at (context place.entry) (kinds types)) told.old told.new result }
+    ensures ends { IfOk result (λ _. end.new ≡ at + size (tree node.now)) }
 {
     tell_stack(alloc, told, Word::At, at, types.as_slice())?;
-    tell_within(alloc, node, at, place, types, told)
+    tell_within(alloc, node, at, place, types, told, end)
 }
 
 // Tells what is within the node at a location as an instruction.
@@ -106,13 +112,15 @@ fn tell_within(
     place: Place<'_>,
     types: Rows<Ty>,
     told: &mut Told,
+    end: &mut u32,
 ) -> Result<After, CheckError>
     requires { at + size (tree node.now) < 2 ^ 32 }
-    ensures { Follows (shift at (tree_type (tree node.now) (context place.entry) (kinds types))) (within (tree node.now) at (context place.entry) (kinds types)) told.old told.new result }
+    ensures follows { Follows (shift at (tree_type (tree node.now) (context place.entry) (kinds types))) (within (tree node.now) at (context place.entry) (kinds types)) told.old told.new result }
+    ensures ends { IfOk result (λ _. end.new ≡ at + size (tree node.now)) }
 {
     match node {
-        Node::Prim(app) => tell_app(alloc, app, at, place, types, told),
-        Node::Seq(nodes) => tell_block(alloc, nodes, at, place, types, told),
+        Node::Prim(app) => tell_app(alloc, app, at, place, types, told, end),
+        Node::Seq(nodes) => tell_block(alloc, nodes, at, place, types, told, end),
         _ => Err(CheckError::IllTyped(at)),
     }
 }
@@ -125,22 +133,42 @@ fn tell_app(
     place: Place<'_>,
     types: Rows<Ty>,
     told: &mut Told,
+    end: &mut u32,
 ) -> Result<After, CheckError>
     requires { at + sizes (trees app.now.args) + 1 < 2 ^ 32 }
-    ensures { FollowsApp at (context place.entry) app.now.name app.now.annots (trees app.now.args) (kinds types) told.old told.new result }
+    ensures follows { FollowsApp at (context place.entry) app.now.name app.now.annots (trees app.now.args) (kinds types) told.old told.new result }
+    ensures ends { IfOk result (λ _. end.new ≡ at + (sizes (trees app.now.args) + 1)) }
 {
     match form_of_name(&app.name) {
-        Form::Straight => behind_straight(alloc, app, at, place, types),
-        Form::Transfer => behind_transfer(alloc, app, at, place, types),
-        Form::Bodiless(bodiless) => { behind_bodiless(alloc, bodiless, app, at, place, types) },
-        Form::SelfContract => behind_self(alloc, app, at, place, types),
-        Form::Branch(branch) => tell_branch(alloc, branch, app, at, place, types, told),
-        Form::Loop(turns) => tell_loop(alloc, turns, app, at, place, types, told),
-        Form::Dip => tell_dip(alloc, app, at, place, types, told),
-        Form::Map => tell_map(alloc, app, at, place, types, told),
-        Form::Lambda => tell_lambda(alloc, false, app, at, place, types, told),
-        Form::LambdaRec => tell_lambda(alloc, true, app, at, place, types, told),
-        Form::Push => tell_push(alloc, app, at, place, types, told),
-        Form::CreateContract => tell_create(alloc, app, at, place, types, told),
+        Form::Straight => {
+            *end = behind_all(&app.args, at + 1);
+            behind_straight(alloc, app, at, place, types)
+        },
+        Form::Transfer => {
+            *end = behind_all(&app.args, at + 1);
+            behind_transfer(alloc, app, at, place, types)
+        },
+        Form::Bodiless(bodiless) => {
+            *end = behind_all(&app.args, at + 1);
+            behind_bodiless(alloc, bodiless, app, at, place, types)
+        },
+        Form::SelfContract => {
+            *end = behind_all(&app.args, at + 1);
+            behind_self(alloc, app, at, place, types)
+        },
+        Form::Branch(branch) => tell_branch(alloc, branch, app, at, place, types, told, end),
+        Form::Loop(turns) => tell_loop(alloc, turns, app, at, place, types, told, end),
+        Form::Dip => tell_dip(alloc, app, at, place, types, told, end),
+        Form::Map => tell_map(alloc, app, at, place, types, told, end),
+        Form::Lambda => tell_lambda(alloc, false, app, at, place, types, told, end),
+        Form::LambdaRec => tell_lambda(alloc, true, app, at, place, types, told, end),
+        Form::Push => {
+            *end = behind_all(&app.args, at + 1);
+            tell_push(alloc, app, at, place, types, told)
+        },
+        Form::CreateContract => {
+            *end = behind_all(&app.args, at + 1);
+            tell_create(alloc, app, at, place, types, told)
+        },
     }
 }

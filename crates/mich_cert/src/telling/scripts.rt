@@ -115,7 +115,8 @@ fn tell_whole(
 {
     let begins = only(alloc, &ends.begins)?;
     let last = only(alloc, &ends.ends)?;
-    let after = tell_body(alloc, node, at, place, begins, told)?;
+    let mut end = at;
+    let after = tell_body(alloc, node, at, place, begins, told, &mut end)?;
     if !ends_in(&after, &last) {
         return Err(CheckError::IllTyped(at));
     }

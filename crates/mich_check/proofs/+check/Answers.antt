@@ -1,5 +1,5 @@
 use Rattle.std.proofs.Common.{rules, arith, ◌+◌, subst, ap, sym, ◌∙◌}
-use Rattle.std.specs.Prelude.{IfOk, Result, Ok, Err}
+use Rattle.std.specs.Prelude.{IfOk, Result, Err, Ok, List, [], ◌∷◌}
 use Rattle.rules_text.specs.nodes.Tree.{prim, size, sizes}
 use Rattle.rules_code.specs.typing.Typing.{shift}
 use Rattle.rules_code.specs.typing.Nodes.{tree_type, trees_type}
@@ -11,8 +11,11 @@ use Rattle.mich_control.specs.View.{context}
 use Rattle.rules_code.specs.typing.Literals.{fault_of_bodies}
 use Rattle.mich_data.specs.View.{pending, all_pending}
 use Rattle.mich_data.specs.declared.pending.Pending.{Pending as Item}
-use Rattle.mich_check.specs.Pending.{IsFaulty, item_fault, moved}
+use Rattle.mich_check.specs.Pending.{AreSequences, IsFaulty, item_fault, largest, moved, reach}
 use Rattle.mich_control.specs.Answers.{IsFault}
+use Rattle.mich_instr.specs.Code as made
+use Rattle.mich_instr.specs.Typed.{AreHeld, held_claim, none_held}
+use Rattle.mich_instr.specs.View.{code, codes}
 use Rattle.mich_control.proofs.ForCallers.{fault_is, seq_at, branch_one, branch_other, branch_join, branch_made, loop_body, loop_other, loop_behind, dip_read, dip_body, dip_made, map_body, map_made, lambda_types, lambda_begun, lambda_body, lambda_is, tree_seq, code_seq, code_create, storage_kind}
 use Rattle.mich_check.proofs.Blocks.{left_size, block_fault, block_step, block_code, block_end, block_whole, seq_made}
 use Rattle.mich_check.proofs.PushTyping.{push_type, push_literal, push_body, push_made, items_room, items_size, items_fault, items_step, items_end, called_item}
@@ -23,6 +26,7 @@ use Rattle.mich_base.specs.TypeView.{kind}
 use Rattle.mich_outline.specs.View.{outline_of, view_of}
 use Rattle.mich_instr.specs.declared.instr.Script.{Script, out-Script}
 use Rattle.mich_check.specs.Scripts.{AreTypedViews, largest_of}
+use Rattle.mich_check.proofs.HeldTyping.{Awaits, called_code, held_one, awaits_none, awaits_next, awaits_end}
 use Rattle.mich_check.proofs.CreateTyping.{created, create_script, shared_typed, storage_other}
 use Rattle.mich_check.proofs.ScriptTyping.{Reached, code_size, reached_none, script_typed, views_end, views_fault, views_largest, views_size, views_step, whole_good}
 use Rattle.mich_check.proofs.+check.Goals as goal
@@ -228,16 +232,17 @@ nodes::check_push-returns-in_err-read t c =
     push_literal _ _ _ _ _ _ c.requires.form _ _ c.in-Some.ensures _ _ c.in_ok-ty.ensures c.behind.ensures _ c.in_err-read.ensures.read in
     search (rules, fault)
 
-pub nodes::check_push-returns-in_err-check_pending : goal.nodes::check_push-returns-in_err-check_pending
-nodes::check_push-returns-in_err-check_pending t c =
-    let fault : IsFault (shift c.args.at (tree_type (prim c.args.app.now.name c.args.app.now.annots (trees c.args.app.now.args)) (context c.args._place) (kinds c.args.types))) c.in_err-check_pending.field-0.0 =
-    push_body _ _ _ _ _ _ c.requires.form _ _ c.in-Some.ensures _ _ c.in_ok-ty.ensures c.behind.ensures _ _ c.in_ok-read.ensures.read _ c.in_err-check_pending.ensures in
+pub nodes::check_push-returns-in_err-lambdas : goal.nodes::check_push-returns-in_err-lambdas
+nodes::check_push-returns-in_err-lambdas t c =
+    let fault : IsFault (shift c.args.at (tree_type (prim c.args.app.now.name c.args.app.now.annots (trees c.args.app.now.args)) (context c.args._place) (kinds c.args.types))) c.in_err-lambdas.field-0.0 =
+    push_body _ _ _ _ _ _ c.requires.form _ _ c.in-Some.ensures _ _ c.in_ok-ty.ensures c.behind.ensures _ _ c.in_ok-read.ensures.read _ c.in_err-lambdas.ensures.fault in
     search (rules, fault)
 
 pub nodes::check_push-returns : goal.nodes::check_push-returns
 nodes::check_push-returns t c =
     let m = c.in_ok-made.ensures in
-    push_made _ _ _ _ _ _ c.requires.form _ _ c.in-Some.ensures _ _ c.in_ok-ty.ensures c.behind.ensures _ _ c.in_ok-read.ensures.read _ _ c.in_ok-check_pending.ensures m.after m.code
+    push_made _ _ _ _ _ _ c.requires.form _ _ c.in-Some.ensures _ _ c.in_ok-ty.ensures c.behind.ensures _ _ c.in_ok-read.ensures.read _ _ _ c.in_ok-lambdas.ensures.fault m.after m.code
+    c.in_ok-lambdas.ensures.held
 
 pub nodes::check_pending-check_item-requires : goal.nodes::check_pending-check_item-requires
 nodes::check_pending-check_item-requires t c =
@@ -248,29 +253,58 @@ nodes::check_pending-check_item-requires t c =
     let s0 = s.0 in
     (omega (arith, s0, c.decreases), omega (arith, r0, c.requires))
 
-pub nodes::check_pending-returns-in_err-check_item : goal.nodes::check_pending-returns-in_err-check_item
-nodes::check_pending-returns-in_err-check_item t c =
+pub nodes::check_pending-returns-in_err-lambda-clause-fault : goal.nodes::check_pending-returns-in_err-lambda-clause-fault
+nodes::check_pending-returns-in_err-lambda-clause-fault t c =
     let v = c.loop-item.invariant in
-    let fault : IsFaulty {T = Unit {0}} (moved c.args.at (fault_of_bodies (all_pending c.args.pending.now))) (Err c.in_err-check_item.field-0.0) =
-    items_fault _ _ _ c.loop-item-test.true c.item-item.is _ _ _ v.tried c.in_err-check_item.ensures in
+    let fault : IsFaulty {T = Unit {0}} (moved c.args.at (fault_of_bodies (all_pending c.args.pending.now))) (Err c.in_err-lambda.field-0.0) =
+    items_fault _ _ _ c.loop-item-test.true c.item-item.is _ _ _ v.tried c.in_err-lambda.ensures.fault in
     search (rules, fault)
 
 pub nodes::check_pending-loop-item-preserved : goal.nodes::check_pending-loop-item-preserved
 nodes::check_pending-loop-item-preserved t c =
     let v = c.loop-item.invariant in
     record {
-      tried = items_step _ _ _ c.loop-item-test.true c.item-item.is _ _ v.tried c.in_ok-check_item.ensures;
+      tried = items_step _ _ _ c.loop-item-test.true c.item-item.is _ _ v.tried c.in_ok-lambda.ensures.fault;
+      held = λ s. awaits_next _ _ _ c.loop-item-test.true c.item-item.is _ _ _ _ c.in_ok-put_lambda.ensures c.in_ok-lambda.ensures.held (v.held s);
       room = (items_room _ _ _ c.loop-item-test.true c.item-item.is _ v.room).1;
       sizes = (items_size _ _ _ c.loop-item-test.true c.item-item.is _ v.sizes).1;
     }
 
-pub nodes::check_pending-returns : goal.nodes::check_pending-returns
-nodes::check_pending-returns t c = items_end _ _ _ _ c.loop-item-test.false c.loop-item.invariant.tried
+pub nodes::check_pending-returns-clause-fault : goal.nodes::check_pending-returns-clause-fault
+nodes::check_pending-returns-clause-fault t c = items_end _ _ _ _ c.loop-item-test.false c.loop-item.invariant.tried
 
-pub nodes::check_item-returns-in-Body : goal.nodes::check_item-returns-in-Body
-nodes::check_item-returns-in-Body t c =
-    subst (λ (x : Item). IsFaulty (moved c.args.at (item_fault (pending x))) c.check_called.result) (sym c.in-Body.is)
-    (called_item c.args.at c.in-Body.location (kind c.in-Body.arg) (kind c.in-Body.ret) c.in-Body.recursive (tree c.in-Body.node) c.check_called.result c.check_called.ensures)
+pub nodes::check_pending-returns-clause-held : goal.nodes::check_pending-returns-clause-held
+nodes::check_pending-returns-clause-held t c = λ s. awaits_end _ _ _ _ c.loop-item-test.false (c.loop-item.invariant.held s)
+
+pub nodes::check_pending-loop-item-init : goal.nodes::check_pending-loop-item-init
+nodes::check_pending-loop-item-init t c =
+    let whole = all_pending c.args.pending.now in
+    let items = c.as_slice-item-items.ensures in
+    record {
+      tried = ap (λ (xs : List Item). moved c.args.at (fault_of_bodies (all_pending xs))) (sym items);
+      room = subst (λ (xs : List Item). reach (all_pending xs) ≤ reach whole) (sym items) (omega arith);
+      sizes = subst (λ (xs : List Item). largest (all_pending xs) ≤ largest whole) (sym items) (omega arith);
+      held = λ s. subst (λ (xs : List Item). Awaits whole (all_pending xs) (codes c.new-lambdas.result)) (sym items) (awaits_none _ _ (ap codes c.new-lambdas.ensures) s);
+    }
+
+pub nodes::check_item-returns-in_err-code-in-Body-clause-fault : goal.nodes::check_item-returns-in_err-code-in-Body-clause-fault
+nodes::check_item-returns-in_err-code-in-Body-clause-fault t c =
+    let fault : IsFaulty {T = Unit {0}} (moved c.args.at (item_fault (pending c.args.item.now))) (Err c.in_err-code-in-Body.field-0.0) =
+    subst (λ (x : Item). IsFaulty {T = Unit {0}} (moved c.args.at (item_fault (pending x))) (Err c.in_err-code-in-Body.field-0.0)) (sym c.in-Body.is)
+    (called_item {T = Unit {0}} c.args.at c.in-Body.location (kind c.in-Body.arg) (kind c.in-Body.ret) c.in-Body.recursive (tree c.in-Body.node) (Err c.in_err-code-in-Body.field-0.0) c.in_err-code-in-Body.ensures.fault) in
+    search (rules, fault)
+
+pub nodes::check_item-returns-in_ok-lambda-in-Body-clause-held : goal.nodes::check_item-returns-in_ok-lambda-in-Body-clause-held
+nodes::check_item-returns-in_ok-lambda-in-Body-clause-held t c =
+    subst (λ (x : Item). AreSequences (pending x ∷ []) → AreHeld (pending x ∷ []) (made.more (code c.in_ok-lambda-in-Body.lambda) made.none)) (sym c.in-Body.is)
+    (held_one c.in-Body.location (kind c.in-Body.arg) (kind c.in-Body.ret) c.in-Body.recursive (tree c.in-Body.node) _ _ c.in_ok-lambda-in-Body.ensures c.in_ok-code-in-Body.ensures.code)
+
+pub nodes::check_item-returns-in-Claim-clause-held : goal.nodes::check_item-returns-in-Claim-clause-held
+nodes::check_item-returns-in-Claim-clause-held t c = λ s. subst (λ (x : Item). AreHeld (pending x ∷ []) made.none) (sym c.in-Claim.is) (held_claim none_held)
+
+pub nodes::check_called-returns-clause-code : goal.nodes::check_called-returns-clause-code
+nodes::check_called-returns-clause-code t c =
+    called_code _ _ _ _ _ _ _ _ _ c.in_ok-types.ensures c.in_ok-ends.ensures (sym c.ends_in.ensures ∙ c.if-not-ends_in.false) c.in_ok-made.ensures.typed.1 c.in_ok-block_of.ensures
 
 -- ---- scripts
 

@@ -7,8 +7,9 @@ use Rattle.mich_base.specs.View.{tree, trees}
 use Rattle.mich_data.specs.View.{all_pending, pending}
 use Rattle.mich_overload.specs.View.{kinds}
 use Rattle.mich_instr.specs.View.{codes}
-use Rattle.mich_check.specs.Pending.{largest, moved, reach}
+use Rattle.mich_check.specs.Pending.{AreSequences, largest, moved, reach}
 use Rattle.mich_control.specs.View.{context}
+use Rattle.mich_check.proofs.HeldTyping.{Awaits}
 use Rattle.mich_check.proofs.Blocks.{rest_type, Completes}
 use Rattle.std.specs.Prelude.{map}
 use Rattle.rules_code.specs.typing.Scripts.{with_views}
@@ -70,6 +71,7 @@ invariant-nodes::check_pending-loop-item l = record {
   tried : moved l.fn.at (fault_of_bodies (all_pending l.pending)) ≡ moved l.fn.at (fault_of_bodies (all_pending (drop l.item-index l.item-items)));
   room : reach (all_pending (drop l.item-index l.item-items)) ≤ reach (all_pending l.pending);
   sizes : largest (all_pending (drop l.item-index l.item-items)) ≤ largest (all_pending l.pending);
+  held : AreSequences (all_pending l.pending) → Awaits (all_pending l.pending) (all_pending (drop l.item-index l.item-items)) (codes l.lambdas);
 }
 
 -- ---- scripts

@@ -5,6 +5,7 @@ ghost use Rattle.rules_code.specs.typing.Literals.{lambda_fault};
 ghost use Rattle.mich_base.specs.TypeView.{kind};
 ghost use Rattle.mich_base.specs.View.{tree};
 ghost use Rattle.mich_control.specs.Answers.{IsLambda, inside};
+ghost use Rattle.mich_instr.specs.Body.{IsBody as IsCodeOf};
 ghost use Rattle.mich_check.specs.cache.Body.{IsBody};
 ghost use Rattle.mich_check.specs.cache.Unused.{unused};
 
@@ -13,7 +14,7 @@ use crate::cache::marks::mark;
 use crate::{CheckError, check_body};
 use lru::LruCache;
 use mich_base::{Memory, Node, Shared, Ty};
-use mich_instr::Block;
+use mich_instr::{Block, Body};
 use std::alloc::Global;
 use std::marker::Model;
 use std::num::NonZeroUsize;
@@ -127,21 +128,26 @@ impl Bodies {
         Ok(code)
     }
 
-    /// The same of a node that is such a body. Memory where there is no room for the code.
+    /// The typed code of a body that is one of a lambda of these types: that which the body has with it, in constant time but for
+    /// the comparison of the types, or else as above. Memory where there is no room for the code.
     pub fn code(
         &mut self,
         alloc: Global,
         arg: &Ty,
         ret: &Ty,
         recursive: bool,
-        body: &Shared<Node>,
+        body: &Shared<Body>,
     ) -> Result<Block, Memory>
         requires sequence { tree body.now ≡ seq (inside (tree body.now)) }
         requires fits { size (tree body.now) < 2 ^ 32 }
         requires typed { lambda_fault (kind arg.now) (kind ret.now) recursive (tree body.now) ≡ None }
-        ensures { IfOk result (λ code. IsBody arg.now ret.now recursive body.now code) }
+        ensures { IfOk result (λ code. IsCodeOf arg.now ret.now recursive body.now code) }
     {
-        match self.checked(alloc, arg, ret, recursive, body) {
+        if let Some(code) = body.get().code_at(arg, ret, recursive)? {
+            return Ok(code);
+        }
+        let node = body.get().share_node()?;
+        match self.checked(alloc, arg, ret, recursive, &node) {
             Ok(code) => Ok(code),
             Err(CheckError::IllTyped(_)) => unreachable!(),
             Err(CheckError::Memory) => Err(Memory),

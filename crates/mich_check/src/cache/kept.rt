@@ -2,9 +2,8 @@
 ghost use Rattle.std.specs.Prelude.{IfOk, IfSome};
 ghost use Rattle.mich_check.specs.cache.Body.{IsBody};
 
-use crate::cache::same::same_node;
 use mich_base::{Memory, Node, Shared, Ty, copy_type, same_type};
-use mich_instr::Block;
+use mich_instr::{Block, same_node};
 use std::alloc::Global;
 use std::marker::Model;
 

@@ -48,7 +48,7 @@ mutual
   code_says (typed.is_straight {c = c} {name = name} {annots = annots} {ts = ts} {r = r} {A = A} {B = B} form e) =
       form_says f.straight name annots ts c A form B (rule_says (rule (primitive_of_name name) annots ts A) r B e)
   code_says (typed.is_transfer {c = c} {name = name} {annots = annots} {ts = ts} {A = A} {B = B} form e g) = goes_says (tree_type (prim name annots ts) c A) B g
-  code_says (typed.is_push {c = c} {name = name} {annots = annots} {t = t} {u = u} {p = p} {A = A} form e g) =
+  code_says (typed.is_push {c = c} {name = name} {annots = annots} {t = t} {u = u} {p = p} {A = A} form e g reads held) =
       goes_says (tree_type (prim name annots (more t (more u none))) c A) (p.kind ∷ A) g
   code_says (typed.is_dip {c = c} {name = name} {annots = annots} {ts = ts} {S = S} {C = C} form le x) =
       form_says f.dip name annots (more (seq ts) none) c S form (take 1 S ++ C)

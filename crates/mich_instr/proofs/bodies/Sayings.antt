@@ -1,5 +1,5 @@
 -- Typings that go to certain types or nowhere, and typings without fault.
-use Rattle.std.proofs.Common.{◌≡◌, ◌+◌, ℕ, Bool, true, false, List, [], ◌∷◌, ◌++◌, Some, refl, sym, ap, subst}
+use Rattle.std.proofs.Common.{◌≡◌, ℕ, Bool, true, false, List, [], ◌∷◌, ◌++◌, Some, refl, sym, ap, subst}
 use Rattle.std.specs.Prelude.{nat_le, if◌then◌else◌, slice_get, ◌-◌}
 use Rattle.rules_text.specs.nodes.Limits.{type_limit}
 use Rattle.rules_text.specs.nodes.Tree.{Trees, prim, none, more}

@@ -1,12 +1,12 @@
 -- A literal whose bodies are tried.
-use Rattle.std.proofs.Common.{◌≡◌, ℕ, Bool, true, false, List, [], ◌∷◌, Option, Some, None, refl, ap, ◌∙◌}
-use Rattle.std.specs.Prelude.{◌&&◌, if◌then◌else◌, is_none, option_map, IfSome}
+use Rattle.std.proofs.Common.{◌≡◌, ℕ, Bool, true, false, List, [], ◌∷◌, Option, Some, None, refl, sym, ap, ◌∙◌, subst}
+use Rattle.std.specs.Prelude.{◌&&◌, if◌then◌else◌, is_none}
 use Rattle.std.specs.List.{list_all}
 use Rattle.rules_text.specs.nodes.Tree.{Tree}
 use Rattle.rules_data.specs.types.Kind.{Kind}
 use Rattle.rules_data.specs.types.Attributes.{pushable}
 use Rattle.rules_data.specs.values.Val.{Val}
-use Rattle.rules_data.specs.values.Literals.{Pending, body, claim, good, bad, read, bodies, claims}
+use Rattle.rules_data.specs.values.Literals.{Literal, Pending, body, claim, good, bad, read, bodies, claims}
 use Rattle.rules_code.specs.instructions.Context as place
 use Rattle.rules_code.specs.instructions.Control.{call_kinds}
 use Rattle.rules_code.specs.instructions.Same.{same_kinds}
@@ -19,8 +19,7 @@ use Rattle.rules_code.specs.typing.Nodes.{tree_type}
 use Rattle.rules_code.specs.steps.Packing.{Trial, tried}
 use Rattle.laws_typing.specs.literals.Laws.{AllClaimed}
 use Rattle.laws_code.proofs.literals.ForCallers.{pushed_claims}
-use Rattle.mich_term.specs.ValueView.{val}
-use Rattle.mich_term.specs.declared.value.Value.{Value}
+use Rattle.mich_check.specs.Pending.{HasValue}
 use Rattle.mich_literals.specs.unpacking.Pending.{unless}
 use Rattle.mich_literals.specs.unpacking.Unpacked.{TriesBodies}
 
@@ -84,18 +83,21 @@ module _ (passes : Trial) (tries : TriesBodies passes) where
 
 -- ---- a value, unless there is a fault
 
-pub some_unless : {A : Type 0} (o : Option ℕ) (x : A) → true ≡ is_none o → Some x ≡ unless o x
-some_unless None x h = refl
-some_unless (Some l) x h = absurd cc
+pub kept_unless : (o : Option ℕ) (x y : Val) → true ≡ is_none o → y ≡ x → Some y ≡ unless o x
+kept_unless None x y h e = ap Some e
+kept_unless (Some l) x y h e = absurd cc
 
 pub none_unless : {A : Type 0} (o : Option ℕ) (x : A) → false ≡ is_none o → None ≡ unless o x
 none_unless None x h = absurd cc
 none_unless (Some l) x h = refl
 
-pub seen_unless : (o : Option ℕ) (x : Value) → unless o (val x) ≡ option_map val (unless o x)
-seen_unless None x = refl
-seen_unless (Some l) x = refl
+-- ---- a literal that has a value
 
-pub whole_unless : (P : Value → Type 0) (o : Option ℕ) (x : Value) → P x → IfSome (unless o x) P
-whole_unless P None x h = h
-whole_unless P (Some l) x h = tt
+pub not_bad : (e : Literal Val) (x : Val) (l : ℕ) → HasValue x e → e ≡ bad l → ⊥
+not_bad e x l h g = subst (HasValue x) g h
+
+pub same_value : (e : Literal Val) (x y : Val) (ps : List Pending) → HasValue x e → e ≡ good y ps → y ≡ x
+same_value e x y ps h g = sym (subst (HasValue x) g h)
+
+pub value_is : (e : Literal Val) (x : Val) (ps : List Pending) → e ≡ good x ps → HasValue x e
+value_is e x ps h = subst (HasValue x) (sym h) refl

@@ -49,7 +49,7 @@ abbrev pub lines_of : Replay → List (List ℕ)
 lines_of done = group_lines 1 done.receipts ++ ending_lines done.ending
 
 abbrev pub usage_line : List ℕ
-usage_line = codes "usage: mich replay|check|encode|decode|pack|certify|verify|audit FILE, or mich generate N\n"
+usage_line = codes "usage: mich replay|check|encode|decode|pack|snapshot|certify|verify|audit FILE, or mich resume SNAP FILE, or mich generate N\n"
 
 -- lines, one after another
 abbrev pub text_of : List (List ℕ) → List ℕ

@@ -3,6 +3,7 @@ use crate::support::{node, ty};
 use mich_base::{Memory, Node, Shared, Ty, size_within};
 use mich_check::CheckError;
 use mich_check::cache::{Bodies, Uses};
+use mich_instr::Body;
 use std::alloc::Global;
 use std::test::Fail;
 
@@ -29,7 +30,8 @@ fn look_up(
             }
             match bodies.checked(alloc, arg, ret, recursive, body) {
                 Ok(_) => {
-                    bodies.code(alloc, arg, ret, recursive, body)?;
+                    let plain = Body::plain(alloc, body.share()?)?;
+                    bodies.code(alloc, arg, ret, recursive, &plain)?;
                     Ok(None)
                 }
                 Err(CheckError::IllTyped(location)) => Ok(Some(location)),

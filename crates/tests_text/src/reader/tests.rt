@@ -2,7 +2,7 @@
 ghost use Rattle.std.specs.Prelude.{◌≡◌, false, IfSome};
 
 use mich_base::Text;
-use mich_reader::{Next, Reader};
+use mich_text::pieces::{Next, Reader};
 use mich_text::{TextError, TextKind, print, read_statement};
 use std::alloc::Global;
 use std::test::Fail;

@@ -1,5 +1,5 @@
-use Rattle.std.proofs.Common.{rules, arith, ◌<◌, ◌≤◌, ◌+◌, ◌≡◌, List, [], ◌∷◌, subst, ap, refl, sym, ◌∙◌}
-use Rattle.std.specs.Prelude.{map, Ok, Err}
+use Rattle.std.proofs.Common.{rules, arith, ◌<◌, ◌+◌, List, [], ◌∷◌, subst, ap, refl, sym, ◌∙◌}
+use Rattle.std.specs.Prelude.{IfOk, Result, map, Ok, Err}
 use Rattle.rules_text.specs.nodes.Tree.{prim, size, sizes}
 use Rattle.rules_data.specs.types.Kind.{Kind}
 use Rattle.rules_code.specs.certificates.Derivation.{before, block_entries}
@@ -18,10 +18,10 @@ use Rattle.mich_check.proofs.PushTyping.{push_type, push_literal, push_body, ite
 use Rattle.mich_check.proofs.ScriptTyping.{code_size, views_largest}
 use Rattle.mich_control.specs.Answers.{IsFault}
 use Rattle.mich_control.specs.View.{context}
-use Rattle.mich_control.proofs.ForCallers.{fault_is, seq_at, branch_one, branch_other, loop_body, loop_other, dip_read, dip_body, map_body, lambda_types, lambda_begun, lambda_body, tree_seq}
+use Rattle.mich_control.proofs.ForCallers.{branch_one, branch_other, loop_body, loop_other, dip_read, dip_body, map_body, lambda_types, lambda_begun, lambda_body, tree_seq}
 use Rattle.mich_data.specs.View.{all_pending, pending}
 use Rattle.mich_data.specs.declared.pending.Pending.{Pending as Item}
-use Rattle.mich_data.proofs.ForCallers.{sizes_at}
+use Rattle.mich_data.proofs.ForCallers.{left_end, sizes_at}
 use Rattle.mich_outline.specs.View.{outline_of, view_of}
 use Rattle.mich_overload.specs.View.{kinds}
 use Rattle.mich_cert.specs.telling.Told.{Adds}
@@ -39,6 +39,11 @@ use Rattle.mich_cert.proofs.telling_lemmas.ToldPushes.{as_read, as_faulty, items
 use Rattle.mich_cert.proofs.telling_lemmas.ToldScripts.{body_told, view_told, too_large, views_room, views_size, views_failed, views_step, views_told, views_end, views_all, outline_zero, no_outline, code_failed, script_views_failed, script_told}
 use Rattle.mich_cert.proofs.telling.+tell.Goals as goal
 
+-- what holds whatever a result is
+whatever : {T E P : Type 0} (r : Result T E) → P → IfOk r (λ _. P)
+whatever (Ok x) p = p
+whatever (Err e) p = tt
+
 -- ---- blocks
 
 pub nodes::tell_block-tell_node-requires : goal.nodes::tell_block-tell_node-requires
@@ -47,95 +52,138 @@ nodes::tell_block-tell_node-requires t c =
     let s = left_size _ _ _ c.loop-node-test.true c.node-item.is in
     (omega (arith, s, v.room, v.forward, c.decreases, c.requires), omega (arith, s, v.room, v.forward, c.requires))
 
-pub nodes::tell_block-returns-in_err-after : goal.nodes::tell_block-returns-in_err-after
-nodes::tell_block-returns-in_err-after t c =
+pub nodes::tell_block-returns-in_err-after-clause-follows : goal.nodes::tell_block-returns-in_err-after-clause-follows
+nodes::tell_block-returns-in_err-after-clause-follows t c =
     let v = c.loop-node.invariant in
     let fault : IsFault (shift (c.args.at + 1) (trees_type (trees c.args.nodes.now) (context c.args.place) (kinds c.args.types))) c.in_err-after.field-0.0 =
-    block_fault _ _ _ c.loop-node-test.true c.node-item.is _ _ _ c.in-Some.is _ _ _ v.same _ c.in_err-after.ensures in
+    block_fault _ _ _ c.loop-node-test.true c.node-item.is _ _ _ c.in-Some.is _ _ _ v.same _ c.in_err-after.ensures.follows in
     search (rules, fault)
 
 pub nodes::tell_block-loop-node-preserved : goal.nodes::tell_block-loop-node-preserved
 nodes::tell_block-loop-node-preserved t c =
     let v = c.loop-node.invariant in
     record {
-      same = block_step _ _ _ c.loop-node-test.true c.node-item.is _ _ _ c.in-Some.is _ _ _ v.same _ _ c.behind-next.ensures c.in_ok-after.ensures.0;
-      completes = told_step _ _ _ c.loop-node-test.true c.node-item.is _ _ _ c.in-Some.is _ _ _ _ _ _ _ _ c.behind-next.ensures c.in_ok-after.ensures.0 v.completes c.in_ok-after.ensures.1;
-      forward = omega (arith, v.forward, c.behind-next.ensures);
-      room = sizes_at _ _ _ _ _ _ c.loop-node-test.true c.node-item.is v.room c.behind-next.ensures;
+      same = block_step _ _ _ c.loop-node-test.true c.node-item.is _ _ _ c.in-Some.is _ _ _ v.same _ _ c.in_ok-after.ensures.ends c.in_ok-after.ensures.follows.0;
+      completes = told_step _ _ _ c.loop-node-test.true c.node-item.is _ _ _ c.in-Some.is _ _ _ _ _ _ _ _ c.in_ok-after.ensures.ends c.in_ok-after.ensures.follows.0 v.completes c.in_ok-after.ensures.follows.1;
+      forward = omega (arith, v.forward, c.in_ok-after.ensures.ends);
+      room = sizes_at _ _ _ _ _ _ c.loop-node-test.true c.node-item.is v.room c.in_ok-after.ensures.ends;
     }
 
-pub nodes::tell_block-returns : goal.nodes::tell_block-returns
-nodes::tell_block-returns t c =
+pub nodes::tell_block-returns-clause-follows : goal.nodes::tell_block-returns-clause-follows
+nodes::tell_block-returns-clause-follows t c =
     let v = c.loop-node.invariant in (
       block_end _ _ c.loop-node-test.false _ _ _ _ _ v.same,
       told_end _ _ c.loop-node-test.false _ _ _ _ _ _ _ _ v.completes c.in_ok-tell_end.ensures,
     )
 
+pub nodes::tell_block-returns-clause-ends : goal.nodes::tell_block-returns-clause-ends
+nodes::tell_block-returns-clause-ends t c =
+    let v = c.loop-node.invariant in
+    let z = ap sizes (left_end _ _ c.loop-node-test.false) in
+    omega (arith, v.room, z)
+
 -- ---- instructions
 
-pub nodes::tell_node-returns : goal.nodes::tell_node-returns
-nodes::tell_node-returns t c = node_told _ (tree c.args.node.now) c.args.at (context c.args.place) (kinds c.args.types) _ _ _ _
-    (subst (λ (A : List Kind). Adds c.args.told.now c.tell_stack.new.told (before c.args.at A ∷ [])) (ap kinds c.as_slice.ensures) c.in_ok-tell_stack.ensures) c.tell_within.ensures
+pub nodes::tell_node-returns-clause-follows : goal.nodes::tell_node-returns-clause-follows
+nodes::tell_node-returns-clause-follows t c = node_told _ (tree c.args.node.now) c.args.at (context c.args.place) (kinds c.args.types) _ _ _ _
+    (subst (λ (A : List Kind). Adds c.args.told.now c.tell_stack.new.told (before c.args.at A ∷ [])) (ap kinds c.as_slice.ensures) c.in_ok-tell_stack.ensures) c.tell_within.ensures.follows
 
-pub nodes::tell_within-returns-in-Seq : goal.nodes::tell_within-returns-in-Seq
-nodes::tell_within-returns-in-Seq t c = seq_told (tree c.args.node.now) _ _ _ _ _ _ _ (ap tree c.in-Seq.is ∙ tree_seq _) c.tell_block.ensures
+pub nodes::tell_within-returns-in-Seq-clause-follows : goal.nodes::tell_within-returns-in-Seq-clause-follows
+nodes::tell_within-returns-in-Seq-clause-follows t c = seq_told (tree c.args.node.now) _ _ _ _ _ _ _ (ap tree c.in-Seq.is ∙ tree_seq _) c.tell_block.ensures.follows
 
-pub nodes::tell_body-returns-in-Seq : goal.nodes::tell_body-returns-in-Seq
-nodes::tell_body-returns-in-Seq t c = body_seq (tree c.args.node.now) _ _ _ _ _ _ _ (ap tree c.in-Seq.is ∙ tree_seq _) c.tell_block.ensures
+pub nodes::tell_body-returns-in-Seq-clause-follows : goal.nodes::tell_body-returns-in-Seq-clause-follows
+nodes::tell_body-returns-in-Seq-clause-follows t c = body_seq (tree c.args.node.now) _ _ _ _ _ _ _ (ap tree c.in-Seq.is ∙ tree_seq _) c.tell_block.ensures.follows
 
-pub nodes::tell_app-returns-in-Straight : goal.nodes::tell_app-returns-in-Straight
-nodes::tell_app-returns-in-Straight t c = straight_told _ _ _ _ _ _ _ _ c.behind_straight.ensures c.in-Straight.ensures
+pub nodes::tell_app-returns-in-Straight-clause-follows : goal.nodes::tell_app-returns-in-Straight-clause-follows
+nodes::tell_app-returns-in-Straight-clause-follows t c = straight_told _ _ _ _ _ _ _ _ c.behind_straight.ensures c.in-Straight.ensures
 
-pub nodes::tell_app-returns-in-Transfer : goal.nodes::tell_app-returns-in-Transfer
-nodes::tell_app-returns-in-Transfer t c = transfer_told _ _ _ _ _ _ _ _ c.behind_transfer.ensures c.in-Transfer.ensures
+pub nodes::tell_app-returns-in-Transfer-clause-follows : goal.nodes::tell_app-returns-in-Transfer-clause-follows
+nodes::tell_app-returns-in-Transfer-clause-follows t c = transfer_told _ _ _ _ _ _ _ _ c.behind_transfer.ensures c.in-Transfer.ensures
 
-pub nodes::tell_app-returns-in-Bodiless : goal.nodes::tell_app-returns-in-Bodiless
-nodes::tell_app-returns-in-Bodiless t c = bodiless_told _ _ _ _ _ _ _ _ c.behind_bodiless.ensures c.in-Bodiless.bodiless c.in-Bodiless.ensures
+pub nodes::tell_app-returns-in-Bodiless-clause-follows : goal.nodes::tell_app-returns-in-Bodiless-clause-follows
+nodes::tell_app-returns-in-Bodiless-clause-follows t c = bodiless_told _ _ _ _ _ _ _ _ c.behind_bodiless.ensures c.in-Bodiless.bodiless c.in-Bodiless.ensures
 
-pub nodes::tell_app-returns-in-SelfContract : goal.nodes::tell_app-returns-in-SelfContract
-nodes::tell_app-returns-in-SelfContract t c = self_told _ _ _ _ _ _ _ _ c.behind_self.ensures c.in-SelfContract.ensures
+pub nodes::tell_app-returns-in-SelfContract-clause-follows : goal.nodes::tell_app-returns-in-SelfContract-clause-follows
+nodes::tell_app-returns-in-SelfContract-clause-follows t c = self_told _ _ _ _ _ _ _ _ c.behind_self.ensures c.in-SelfContract.ensures
+
+pub nodes::tell_app-returns-in-Straight-clause-ends : goal.nodes::tell_app-returns-in-Straight-clause-ends
+nodes::tell_app-returns-in-Straight-clause-ends t c =
+    let e = c.behind_all.ensures in
+    whatever c.behind_straight.result (omega (arith, e))
+
+pub nodes::tell_app-returns-in-Transfer-clause-ends : goal.nodes::tell_app-returns-in-Transfer-clause-ends
+nodes::tell_app-returns-in-Transfer-clause-ends t c =
+    let e = c.behind_all-in-Transfer.ensures in
+    whatever c.behind_transfer.result (omega (arith, e))
+
+pub nodes::tell_app-returns-in-Bodiless-clause-ends : goal.nodes::tell_app-returns-in-Bodiless-clause-ends
+nodes::tell_app-returns-in-Bodiless-clause-ends t c =
+    let e = c.behind_all-in-Bodiless.ensures in
+    whatever c.behind_bodiless.result (omega (arith, e))
+
+pub nodes::tell_app-returns-in-SelfContract-clause-ends : goal.nodes::tell_app-returns-in-SelfContract-clause-ends
+nodes::tell_app-returns-in-SelfContract-clause-ends t c =
+    let e = c.behind_all-in-SelfContract.ensures in
+    whatever c.behind_self.result (omega (arith, e))
+
+pub nodes::tell_app-returns-in-Push-clause-ends : goal.nodes::tell_app-returns-in-Push-clause-ends
+nodes::tell_app-returns-in-Push-clause-ends t c =
+    let e = c.behind_all-in-Push.ensures in
+    whatever c.tell_push.result (omega (arith, e))
+
+pub nodes::tell_app-returns-in-CreateContract-clause-ends : goal.nodes::tell_app-returns-in-CreateContract-clause-ends
+nodes::tell_app-returns-in-CreateContract-clause-ends t c =
+    let e = c.behind_all-in-CreateContract.ensures in
+    whatever c.tell_create.result (omega (arith, e))
 
 -- ---- branches
 
-pub forms::tell_branch-returns-in_err-one_after : goal.forms::tell_branch-returns-in_err-one_after
-forms::tell_branch-returns-in_err-one_after t c =
+pub forms::tell_branch-returns-in_err-one_after-clause-follows : goal.forms::tell_branch-returns-in_err-one_after-clause-follows
+forms::tell_branch-returns-in_err-one_after-clause-follows t c =
     let st = rw c.in-Some-2.is at c.in_ok-first.ensures in
     let fault : IsFault (shift c.args.at (tree_type (prim c.args.app.now.name c.args.app.now.annots (trees c.args.app.now.args)) (context c.args.place) (kinds c.args.types))) c.in_err-one_after.field-0.0 =
-    branch_one _ _ _ _ _ _ _ c.requires.form _ _ _ _ c.in-Some.ensures st _ c.in_err-one_after.ensures in
+    branch_one _ _ _ _ _ _ _ c.requires.form _ _ _ _ c.in-Some.ensures st _ c.in_err-one_after.ensures.follows in
     search (rules, fault)
 
-pub forms::tell_branch-returns-in_err-other_after : goal.forms::tell_branch-returns-in_err-other_after
-forms::tell_branch-returns-in_err-other_after t c =
+pub forms::tell_branch-returns-in_err-other_after-clause-follows : goal.forms::tell_branch-returns-in_err-other_after-clause-follows
+forms::tell_branch-returns-in_err-other_after-clause-follows t c =
     let st = rw c.in-Some-2.is at c.in_ok-first.ensures in
     let fault : IsFault (shift c.args.at (tree_type (prim c.args.app.now.name c.args.app.now.annots (trees c.args.app.now.args)) (context c.args.place) (kinds c.args.types))) c.in_err-other_after.field-0.0 =
-    branch_other _ _ _ _ _ _ _ c.requires.form _ _ _ _ c.in-Some.ensures st _ _ c.behind.ensures c.in_ok-one_after.ensures.0 _ c.in_err-other_after.ensures in
+    branch_other _ _ _ _ _ _ _ c.requires.form _ _ _ _ c.in-Some.ensures st _ _ c.in_ok-one_after.ensures.ends c.in_ok-one_after.ensures.follows.0 _ c.in_err-other_after.ensures.follows in
     search (rules, fault)
 
-pub forms::tell_branch-returns : goal.forms::tell_branch-returns
-forms::tell_branch-returns t c =
+pub forms::tell_branch-returns-clause-follows : goal.forms::tell_branch-returns-clause-follows
+forms::tell_branch-returns-clause-follows t c =
     let st = rw c.in-Some-2.is at c.in_ok-first.ensures in
-    let one = c.in_ok-one_after.ensures in
-    let other = c.in_ok-other_after.ensures in
-    branch_told _ _ _ _ _ _ _ c.requires.form _ _ _ _ c.in-Some.ensures st _ _ c.behind.ensures one.0 _ other.0 _ _ _ one.1 other.1 _ c.joined.ensures
+    let one = c.in_ok-one_after.ensures.follows in
+    let other = c.in_ok-other_after.ensures.follows in
+    branch_told _ _ _ _ _ _ _ c.requires.form _ _ _ _ c.in-Some.ensures st _ _ c.in_ok-one_after.ensures.ends one.0 _ other.0 _ _ _ one.1 other.1 _ c.joined.ensures
+
+pub forms::tell_branch-returns-clause-ends : goal.forms::tell_branch-returns-clause-ends
+forms::tell_branch-returns-clause-ends t c =
+    let s = ap (λ ns. sizes (trees ns)) c.in-Some.ensures in
+    let e = c.in_ok-one_after.ensures.ends in
+    let f = c.in_ok-other_after.ensures.ends in
+    whatever c.joined.result (omega (arith, s, e, f))
 
 -- ---- loops
 
-pub forms::tell_loop-returns-in_err-ends : goal.forms::tell_loop-returns-in_err-ends
-forms::tell_loop-returns-in_err-ends t c =
+pub forms::tell_loop-returns-in_err-ends-clause-follows : goal.forms::tell_loop-returns-in_err-ends-clause-follows
+forms::tell_loop-returns-in_err-ends-clause-follows t c =
     let st = rw c.in-Some-2.is at c.in_ok-turning.ensures in
     let fault : IsFault (shift c.args.at (tree_type (prim c.args.app.now.name c.args.app.now.annots (trees c.args.app.now.args)) (context c.args.place) (kinds c.args.types))) c.in_err-ends.field-0.0 =
-    loop_body _ _ _ _ _ _ _ c.requires.form _ _ c.in-Some.ensures st _ c.in_err-ends.ensures in
+    loop_body _ _ _ _ _ _ _ c.requires.form _ _ c.in-Some.ensures st _ c.in_err-ends.ensures.follows in
     search (rules, fault)
 
-pub forms::tell_loop-returns-then-not-ends_in : goal.forms::tell_loop-returns-then-not-ends_in
-forms::tell_loop-returns-then-not-ends_in t c =
+pub forms::tell_loop-returns-then-not-ends_in-clause-follows : goal.forms::tell_loop-returns-then-not-ends_in-clause-follows
+forms::tell_loop-returns-then-not-ends_in-clause-follows t c =
     let st = rw c.in-Some-2.is at c.in_ok-turning.ensures in
-    loop_other _ _ _ _ _ _ _ c.requires.form _ _ c.in-Some.ensures st _ c.in_ok-ends.ensures.0 (sym c.if-not-ends_in.true ∙ c.ends_in.ensures)
+    loop_other _ _ _ _ _ _ _ c.requires.form _ _ c.in-Some.ensures st _ c.in_ok-ends.ensures.follows.0 (sym c.if-not-ends_in.true ∙ c.ends_in.ensures)
 
-pub forms::tell_loop-returns : goal.forms::tell_loop-returns
-forms::tell_loop-returns t c =
+pub forms::tell_loop-returns-clause-follows : goal.forms::tell_loop-returns-clause-follows
+forms::tell_loop-returns-clause-follows t c =
     let st = rw c.in-Some-2.is at c.in_ok-turning.ensures in
-    let b = c.in_ok-ends.ensures in
+    let b = c.in_ok-ends.ensures.follows in
     loop_told _ _ _ _ _ _ _ c.requires.form _ _ c.in-Some.ensures st _ b.0 _ _ b.1 (sym c.if-not-ends_in.false ∙ c.ends_in.ensures) c.in_ok-after.after c.in_ok-after.ensures
 
 -- ---- DIP
@@ -146,90 +194,110 @@ forms::tell_dip-tell_body-requires t c =
     let b = c.in_ok-dip.ensures.behind in
     (omega (arith, w, b, c.decreases, c.requires.fits), omega (arith, w, b, c.requires.fits))
 
-pub forms::tell_dip-returns-in_err-dip : goal.forms::tell_dip-returns-in_err-dip
-forms::tell_dip-returns-in_err-dip t c =
+pub forms::tell_dip-returns-in_err-dip-clause-follows : goal.forms::tell_dip-returns-in_err-dip-clause-follows
+forms::tell_dip-returns-in_err-dip-clause-follows t c =
     let fault : IsFault (shift c.args.at (tree_type (prim c.args.app.now.name c.args.app.now.annots (trees c.args.app.now.args)) (context c.args.place) (kinds c.args.types))) c.in_err-dip.field-0.0 =
     dip_read _ _ _ _ _ _ c.requires.form _ c.in_err-dip.ensures.read in
     search (rules, fault)
 
-pub forms::tell_dip-returns-in_err-ends : goal.forms::tell_dip-returns-in_err-ends
-forms::tell_dip-returns-in_err-ends t c =
+pub forms::tell_dip-returns-in_err-ends-clause-follows : goal.forms::tell_dip-returns-in_err-ends-clause-follows
+forms::tell_dip-returns-in_err-ends-clause-follows t c =
     let s = rw c.in-Some.is at c.in_ok-upper.ensures in
     let fault : IsFault (shift c.args.at (tree_type (prim c.args.app.now.name c.args.app.now.annots (trees c.args.app.now.args)) (context c.args.place) (kinds c.args.types))) c.in_err-ends.field-0.0 =
-    dip_body _ _ _ _ _ _ c.requires.form _ _ _ _ c.in_ok-dip.ensures.read c.counted.ensures _ _ s.0 s.1 s.2 _ c.in_err-ends.ensures in
+    dip_body _ _ _ _ _ _ c.requires.form _ _ _ _ c.in_ok-dip.ensures.read c.counted.ensures _ _ s.0 s.1 s.2 _ c.in_err-ends.ensures.follows in
     search (rules, fault)
 
-pub forms::tell_dip-returns-in_err-made : goal.forms::tell_dip-returns-in_err-made
-forms::tell_dip-returns-in_err-made t c =
+pub forms::tell_dip-returns-in_err-made-clause-follows : goal.forms::tell_dip-returns-in_err-made-clause-follows
+forms::tell_dip-returns-in_err-made-clause-follows t c =
     let s = rw c.in-Some.is at c.in_ok-upper.ensures in
-    let b = c.in_ok-ends.ensures in
+    let b = c.in_ok-ends.ensures.follows in
     let fault : IsFault (shift c.args.at (tree_type (prim c.args.app.now.name c.args.app.now.annots (trees c.args.app.now.args)) (context c.args.place) (kinds c.args.types))) c.in_err-made.field-0.0 =
     dip_told _ _ _ _ _ _ c.requires.form _ _ _ _ c.in_ok-dip.ensures.read c.counted.ensures _ _ s.0 s.1 s.2 _ b.0 _ _ b.1 c.in_ok-body.body c.in_ok-body.ensures (Err c.in_err-made.field-0.0) c.in_err-made.ensures in
     search (rules, fault)
 
-pub forms::tell_dip-returns : goal.forms::tell_dip-returns
-forms::tell_dip-returns t c =
+pub forms::tell_dip-returns-clause-follows : goal.forms::tell_dip-returns-clause-follows
+forms::tell_dip-returns-clause-follows t c =
     let s = rw c.in-Some.is at c.in_ok-upper.ensures in
-    let b = c.in_ok-ends.ensures in
+    let b = c.in_ok-ends.ensures.follows in
     dip_told _ _ _ _ _ _ c.requires.form _ _ _ _ c.in_ok-dip.ensures.read c.counted.ensures _ _ s.0 s.1 s.2 _ b.0 _ _ b.1 c.in_ok-body.body c.in_ok-body.ensures (Ok c.in_ok-made.made) c.in_ok-made.ensures
+
+pub forms::tell_dip-returns-clause-ends : goal.forms::tell_dip-returns-clause-ends
+forms::tell_dip-returns-clause-ends t c =
+    let w = c.in_ok-dip.ensures.within in
+    let e = c.in_ok-ends.ensures.ends in
+    omega (arith, w, e)
 
 -- ---- MAP
 
-pub forms::tell_map-returns-in_err-ends : goal.forms::tell_map-returns-in_err-ends
-forms::tell_map-returns-in_err-ends t c =
+pub forms::tell_map-returns-in_err-ends-clause-follows : goal.forms::tell_map-returns-in_err-ends-clause-follows
+forms::tell_map-returns-in_err-ends-clause-follows t c =
     let st = rw c.in-Some-2.is at c.in_ok-mapping.ensures in
     let fault : IsFault (shift c.args.at (tree_type (prim c.args.app.now.name c.args.app.now.annots (trees c.args.app.now.args)) (context c.args.place) (kinds c.args.types))) c.in_err-ends.field-0.0 =
-    map_body _ _ _ _ _ _ c.requires.form _ _ c.in-Some.ensures st _ c.in_err-ends.ensures in
+    map_body _ _ _ _ _ _ c.requires.form _ _ c.in-Some.ensures st _ c.in_err-ends.ensures.follows in
     search (rules, fault)
 
-pub forms::tell_map-returns-in_err-made : goal.forms::tell_map-returns-in_err-made
-forms::tell_map-returns-in_err-made t c =
+pub forms::tell_map-returns-in_err-made-clause-follows : goal.forms::tell_map-returns-in_err-made-clause-follows
+forms::tell_map-returns-in_err-made-clause-follows t c =
     let st = rw c.in-Some-2.is at c.in_ok-mapping.ensures in
-    let b = c.in_ok-ends.ensures in
+    let b = c.in_ok-ends.ensures.follows in
     let fault : IsFault (shift c.args.at (tree_type (prim c.args.app.now.name c.args.app.now.annots (trees c.args.app.now.args)) (context c.args.place) (kinds c.args.types))) c.in_err-made.field-0.0 =
     map_told _ _ _ _ _ _ c.requires.form _ _ c.in-Some.ensures st _ b.0 _ _ b.1 c.in_ok-body.body c.in_ok-body.ensures (Err c.in_err-made.field-0.0) c.in_err-made.ensures in
     search (rules, fault)
 
-pub forms::tell_map-returns : goal.forms::tell_map-returns
-forms::tell_map-returns t c =
+pub forms::tell_map-returns-clause-follows : goal.forms::tell_map-returns-clause-follows
+forms::tell_map-returns-clause-follows t c =
     let st = rw c.in-Some-2.is at c.in_ok-mapping.ensures in
-    let b = c.in_ok-ends.ensures in
+    let b = c.in_ok-ends.ensures.follows in
     map_told _ _ _ _ _ _ c.requires.form _ _ c.in-Some.ensures st _ b.0 _ _ b.1 c.in_ok-body.body c.in_ok-body.ensures (Ok c.in_ok-made.made) c.in_ok-made.ensures
+
+pub forms::tell_map-returns-clause-ends : goal.forms::tell_map-returns-clause-ends
+forms::tell_map-returns-clause-ends t c =
+    let s = ap (λ ns. sizes (trees ns)) c.in-Some.ensures in
+    let e = c.in_ok-ends.ensures.ends in
+    omega (arith, s, e)
 
 -- ---- LAMBDA
 
-pub forms::tell_lambda-returns-in_err-arrow : goal.forms::tell_lambda-returns-in_err-arrow
-forms::tell_lambda-returns-in_err-arrow t c =
+pub forms::tell_lambda-returns-in_err-arrow-clause-follows : goal.forms::tell_lambda-returns-in_err-arrow-clause-follows
+forms::tell_lambda-returns-in_err-arrow-clause-follows t c =
     let fault : IsFault (shift c.args.at (tree_type (prim c.args.app.now.name c.args.app.now.annots (trees c.args.app.now.args)) (context c.args._place) (kinds c.args.types))) c.in_err-arrow.field-0.0 =
     lambda_types _ _ _ _ _ _ _ c.requires.form _ _ _ c.in-Some.ensures _ c.in_err-arrow.ensures in
     search (rules, fault)
 
-pub forms::tell_lambda-returns-in_err-begins : goal.forms::tell_lambda-returns-in_err-begins
-forms::tell_lambda-returns-in_err-begins t c =
+pub forms::tell_lambda-returns-in_err-begins-clause-follows : goal.forms::tell_lambda-returns-in_err-begins-clause-follows
+forms::tell_lambda-returns-in_err-begins-clause-follows t c =
     let fault : IsFault (shift c.args.at (tree_type (prim c.args.app.now.name c.args.app.now.annots (trees c.args.app.now.args)) (context c.args._place) (kinds c.args.types))) c.in_err-begins.field-0.0 =
     lambda_begun _ _ _ _ _ _ _ c.requires.form _ _ _ c.in-Some.ensures _ _ c.in_ok-arrow.ensures _ c.in_err-begins.ensures in
     search (rules, fault)
 
-pub forms::tell_lambda-returns-in_err-ends : goal.forms::tell_lambda-returns-in_err-ends
-forms::tell_lambda-returns-in_err-ends t c =
+pub forms::tell_lambda-returns-in_err-ends-clause-follows : goal.forms::tell_lambda-returns-in_err-ends-clause-follows
+forms::tell_lambda-returns-in_err-ends-clause-follows t c =
     let g = c.in_ok-begins.ensures in
     let fault : IsFault (shift c.args.at (tree_type (prim c.args.app.now.name c.args.app.now.annots (trees c.args.app.now.args)) (context c.args._place) (kinds c.args.types))) c.in_err-ends.field-0.0 =
-    lambda_body _ _ _ _ _ _ _ c.requires.form _ _ _ c.in-Some.ensures _ _ c.in_ok-arrow.ensures _ _ _ g.0 g.1 c.behind.ensures c.behind-place.ensures _ c.in_err-ends.ensures in
+    lambda_body _ _ _ _ _ _ _ c.requires.form _ _ _ c.in-Some.ensures _ _ c.in_ok-arrow.ensures _ _ _ g.0 g.1 c.behind.ensures c.behind-place.ensures _ c.in_err-ends.ensures.follows in
     search (rules, fault)
 
-pub forms::tell_lambda-returns-in_err-made : goal.forms::tell_lambda-returns-in_err-made
-forms::tell_lambda-returns-in_err-made t c =
+pub forms::tell_lambda-returns-in_err-made-clause-follows : goal.forms::tell_lambda-returns-in_err-made-clause-follows
+forms::tell_lambda-returns-in_err-made-clause-follows t c =
     let g = c.in_ok-begins.ensures in
-    let b = c.in_ok-ends.ensures in
+    let b = c.in_ok-ends.ensures.follows in
     let fault : IsFault (shift c.args.at (tree_type (prim c.args.app.now.name c.args.app.now.annots (trees c.args.app.now.args)) (context c.args._place) (kinds c.args.types))) c.in_err-made.field-0.0 =
     lambda_told _ _ _ _ _ _ _ c.requires.form _ _ _ c.in-Some.ensures _ _ c.in_ok-arrow.ensures _ _ _ g.0 g.1 c.behind.ensures c.behind-place.ensures _ b.0 _ _ b.1 c.in_ok-body.body c.in_ok-body.ensures (Err c.in_err-made.field-0.0) c.in_err-made.ensures in
     search (rules, fault)
 
-pub forms::tell_lambda-returns : goal.forms::tell_lambda-returns
-forms::tell_lambda-returns t c =
+pub forms::tell_lambda-returns-clause-follows : goal.forms::tell_lambda-returns-clause-follows
+forms::tell_lambda-returns-clause-follows t c =
     let g = c.in_ok-begins.ensures in
-    let b = c.in_ok-ends.ensures in
+    let b = c.in_ok-ends.ensures.follows in
     lambda_told _ _ _ _ _ _ _ c.requires.form _ _ _ c.in-Some.ensures _ _ c.in_ok-arrow.ensures _ _ _ g.0 g.1 c.behind.ensures c.behind-place.ensures _ b.0 _ _ b.1 c.in_ok-body.body c.in_ok-body.ensures (Ok c.in_ok-made.made) c.in_ok-made.ensures
+
+pub forms::tell_lambda-returns-clause-ends : goal.forms::tell_lambda-returns-clause-ends
+forms::tell_lambda-returns-clause-ends t c =
+    let s = ap (λ ns. sizes (trees ns)) c.in-Some.ensures in
+    let e = c.in_ok-ends.ensures.ends in
+    let p = c.behind.ensures in
+    let q = c.behind-place.ensures in
+    omega (arith, s, e, p, q)
 
 -- ---- PUSH
 
@@ -256,7 +324,7 @@ pub literals::tell_push-returns : goal.literals::tell_push-returns
 literals::tell_push-returns t c =
     let r = c.in_ok-pending.ensures.read in
     let m = c.in_ok-made.ensures in
-    push_told _ _ _ _ _ _ c.requires.form _ _ c.in-Some.ensures _ _ c.in_ok-ty.ensures c.behind.ensures r.0 _ r.1 _ _ c.in_ok-tell_pending.ensures _ _ m.after m.code
+    push_told _ _ _ _ _ _ c.requires.form _ _ c.in-Some.ensures _ _ c.in_ok-ty.ensures c.behind.ensures r.0 _ r.1 _ _ c.in_ok-tell_pending.ensures _ m.after
 
 pub literals::tell_pending-returns-in_err-tell_item : goal.literals::tell_pending-returns-in_err-tell_item
 literals::tell_pending-returns-in_err-tell_item t c =
@@ -289,32 +357,32 @@ literals::tell_item-returns-in-Body t c =
 pub literals::tell_called-returns-in_err-after : goal.literals::tell_called-returns-in_err-after
 literals::tell_called-returns-in_err-after t c =
     let fault : Confirms {A = Unit {0}} (called_fault c.args.at (kind c.args.arg.now) (kind c.args.ret.now) c.args.recursive (tree c.args.node.now)) (called_entries c.args.at (kind c.args.arg.now) (kind c.args.ret.now) c.args.recursive (tree c.args.node.now)) c.args.told.now c.tell_body.new.told (Err c.in_err-after.field-0.0) =
-    called_failed _ _ _ _ _ c.requires.sequence _ c.in_ok-types.ensures (Unit {0}) [] c.args.told.now c.args.told.now _ c.in_err-after.ensures in
+    called_failed _ _ _ _ _ c.requires.sequence _ c.in_ok-types.ensures (Unit {0}) [] c.args.told.now c.args.told.now _ c.in_err-after.ensures.follows in
     search (rules, fault)
 
 pub literals::tell_called-returns : goal.literals::tell_called-returns
 literals::tell_called-returns t c =
-    called_good _ _ _ _ _ c.requires.sequence _ c.in_ok-types.ensures _ c.in_ok-after.ensures.0 _ c.in_ok-ends.ensures _ _ c.in_ok-after.ensures.1 (sym c.ends_in.ensures ∙ c.if-not-ends_in.false)
+    called_good _ _ _ _ _ c.requires.sequence _ c.in_ok-types.ensures _ c.in_ok-after.ensures.follows.0 _ c.in_ok-ends.ensures _ _ c.in_ok-after.ensures.follows.1 (sym c.ends_in.ensures ∙ c.if-not-ends_in.false)
 
 pub literals::tell_called-returns-then-not-ends_in : goal.literals::tell_called-returns-then-not-ends_in
 literals::tell_called-returns-then-not-ends_in t c =
-    called_other _ _ _ _ _ c.requires.sequence _ c.in_ok-types.ensures _ c.in_ok-after.ensures.0 _ c.in_ok-ends.ensures (sym c.ends_in.ensures ∙ c.if-not-ends_in.true)
+    called_other _ _ _ _ _ c.requires.sequence _ c.in_ok-types.ensures _ c.in_ok-after.ensures.follows.0 _ c.in_ok-ends.ensures (sym c.ends_in.ensures ∙ c.if-not-ends_in.true)
 
 -- ---- scripts
 
 pub scripts::tell_whole-returns-in_err-after : goal.scripts::tell_whole-returns-in_err-after
 scripts::tell_whole-returns-in_err-after t c =
     let fault : Confirms {A = Unit {0}} (body_fault c.args.at (body (tree c.args.node.now) c.args.at (context c.args.place) (kind c.args.ends.begins ∷ [])) (kind c.args.ends.ends)) (block_entries (tree c.args.node.now) c.args.at (context c.args.place) (kind c.args.ends.begins ∷ [])) c.args.told.now c.tell_body.new.told (Err c.in_err-after.field-0.0) =
-    whole_failed c.args.at (tree c.args.node.now) (context c.args.place) (kind c.args.ends.begins) (kind c.args.ends.ends) _ c.in_ok-begins.ensures (Unit {0}) [] c.args.told.now c.args.told.now _ c.in_err-after.ensures in
+    whole_failed c.args.at (tree c.args.node.now) (context c.args.place) (kind c.args.ends.begins) (kind c.args.ends.ends) _ c.in_ok-begins.ensures (Unit {0}) [] c.args.told.now c.args.told.now _ c.in_err-after.ensures.follows in
     search (rules, fault)
 
 pub scripts::tell_whole-returns : goal.scripts::tell_whole-returns
 scripts::tell_whole-returns t c =
-    whole_good _ _ _ _ _ _ c.in_ok-begins.ensures _ c.in_ok-after.ensures.0 _ c.in_ok-last.ensures _ _ c.in_ok-after.ensures.1 (sym c.ends_in.ensures ∙ c.if-not-ends_in.false)
+    whole_good _ _ _ _ _ _ c.in_ok-begins.ensures _ c.in_ok-after.ensures.follows.0 _ c.in_ok-last.ensures _ _ c.in_ok-after.ensures.follows.1 (sym c.ends_in.ensures ∙ c.if-not-ends_in.false)
 
 pub scripts::tell_whole-returns-then-not-ends_in : goal.scripts::tell_whole-returns-then-not-ends_in
 scripts::tell_whole-returns-then-not-ends_in t c =
-    whole_other c.args.at (tree c.args.node.now) (context c.args.place) (kind c.args.ends.begins) (kind c.args.ends.ends) _ c.in_ok-begins.ensures _ c.in_ok-after.ensures.0 _ c.in_ok-last.ensures (sym c.ends_in.ensures ∙ c.if-not-ends_in.true)
+    whole_other c.args.at (tree c.args.node.now) (context c.args.place) (kind c.args.ends.begins) (kind c.args.ends.ends) _ c.in_ok-begins.ensures _ c.in_ok-after.ensures.follows.0 _ c.in_ok-last.ensures (sym c.ends_in.ensures ∙ c.if-not-ends_in.true)
 
 pub scripts::tell_code-returns-in_err-ends : goal.scripts::tell_code-returns-in_err-ends
 scripts::tell_code-returns-in_err-ends t c =

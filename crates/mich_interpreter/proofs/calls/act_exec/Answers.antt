@@ -39,7 +39,7 @@ returns-clause-acts c = λ x fs d Z o h.
     let r = c.pop_lambda-body.result in
     let meets = rw (c.pop-argument.ensures x.sight, c.pop_lambda-body.ensures x.sight) at h in
     rw (c.replace-below.ensures.after, c.replace-below.ensures.value, c.in_ok-stack.ensures x.sight)
-    (opens_paid g.Exec 0 _ c.pay.new.meter p.1 (exec_any_opens (seen x.sight c.pop-argument.result) (tree r.0) r.1 (tops x.sight c.pop_lambda-body.new.stack) p.0 c.in_ok-code.ensures.1 meets))
+    (opens_paid g.Exec 0 _ c.pay.new.meter p.1 (exec_any_opens (seen x.sight c.pop-argument.result) (tree r.0) r.1 (tops x.sight c.pop_lambda-body.new.stack) p.0 c.in_ok-code.ensures meets))
 
 pub returns-clause-less : goal.returns-clause-less
 returns-clause-less c =

@@ -6,7 +6,7 @@ use Rattle.rules_data.specs.values.Val.{Val, number}
 use Rattle.rules_code.specs.evaluation.Operations.{origination, new_contract}
 use Rattle.mich_gas.specs.View.{listed}
 use Rattle.mich_instr.specs.View.{script_code, script_node}
-use Rattle.mich_instr.specs.declared.issued.Issued.TheVariants as i
+use Rattle.mich_ops.specs.declared.issued.Issued.TheVariants as i
 use Rattle.mich_stack.specs.Views.{seen}
 use Rattle.mich_interpreter.specs.View.{tops}
 use Rattle.mich_interpreter.proofs.Founded.{storage_third, create_typed, create_any_top, create_any_broke, create_any_acts, create_any_over}

@@ -9,7 +9,7 @@ use Rattle.mich_stack.specs.Views.{seen}
 use Rattle.mich_frames.proofs.ForCallers.{push_pushable, push_acts, push_broke}
 use Rattle.mich_step.proofs.prices_lemmas.ForCallers.{found_weighs}
 use Rattle.mich_interpreter.proofs.Capped.{paid_is, broke_is}
-use Rattle.mich_interpreter.proofs.Spelled.{push_small, push_literal}
+use Rattle.mich_interpreter.proofs.Spelled.{push_small, push_lambdas, push_literal}
 use Rattle.mich_interpreter.proofs.Paid.{stands_paid, paid_less}
 use Rattle.mich_interpreter.proofs.giving.act_push.Goals as goal
 
@@ -21,6 +21,10 @@ literal_value-requires-clause-small c = push_small (kind c.args.ty.now) c.requir
 
 pub literal_value-requires-clause-literal : goal.literal_value-requires-clause-literal
 literal_value-requires-clause-literal c = push_literal (kind c.args.ty.now) c.requires.0 (tree c.args.literal.now) c.requires.1.5
+
+pub literal_value-requires-clause-lambdas : goal.literal_value-requires-clause-lambdas
+literal_value-requires-clause-lambdas c =
+    (1 + size c.requires.0, push_lambdas (kind c.args.ty.now) c.requires.0 (tree c.args.literal.now) c.requires.1.5)
 
 pub returns-then-not-pay_capped-clause-acts : goal.returns-then-not-pay_capped-clause-acts
 returns-then-not-pay_capped-clause-acts c = λ written x fs d Z o h.

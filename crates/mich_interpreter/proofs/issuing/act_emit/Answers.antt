@@ -2,7 +2,7 @@ use Rattle.rules_data.specs.declared.gas.Kind.TheVariants as g
 use Rattle.rules_code.specs.evaluation.Operations.{event}
 use Rattle.mich_base.specs.TypeView.{kind}
 use Rattle.mich_gas.specs.View.{listed}
-use Rattle.mich_instr.specs.declared.issued.Issued.TheVariants as i
+use Rattle.mich_ops.specs.declared.issued.Issued.TheVariants as i
 use Rattle.mich_stack.specs.Views.{seen}
 use Rattle.mich_interpreter.specs.View.{tops}
 use Rattle.mich_frames.proofs.ForCallers.{emit_top, emit_acts, emit_over, row_broke}

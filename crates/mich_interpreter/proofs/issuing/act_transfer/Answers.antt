@@ -6,7 +6,7 @@ use Rattle.rules_data.specs.declared.gas.Kind.TheVariants as g
 use Rattle.mich_gas.specs.View.{listed}
 use Rattle.rules_code.specs.evaluation.Operations.{transfer}
 use Rattle.mich_forms.specs.Spelled.{address_bytes}
-use Rattle.mich_instr.specs.declared.issued.Issued.TheVariants as i
+use Rattle.mich_ops.specs.declared.issued.Issued.TheVariants as i
 use Rattle.mich_stack.specs.Views.{seen}
 use Rattle.mich_interpreter.specs.View.{tops}
 use Rattle.mich_frames.proofs.ForCallers.{transfer_top, transfer_acts, transfer_over, row_broke}

@@ -1,7 +1,6 @@
 use Rattle.std.proofs.Common.{ap, ◌∙◌}
 use Rattle.mich_base.specs.View.{tree, trees}
-use Rattle.mich_base.specs.TypeView.{kind}
-use Rattle.mich_instr.specs.View.{code, codes}
+use Rattle.mich_instr.specs.View.{code}
 use Rattle.mich_base.specs.View.{app_tree}
 use Rattle.mich_interpreter.proofs.Codes.{code_if, code_if_none, code_if_left, code_if_cons, code_loop, code_loop_left, code_iter, code_map, code_dip, code_exec, code_apply, code_create, code_failwith, code_lambda, code_never, code_push, code_self, code_straight}
 use Rattle.mich_interpreter.proofs.machine.perform.Goals as goal
@@ -19,12 +18,12 @@ pub act_lambda-requires : goal.act_lambda-requires
 act_lambda-requires c =
     let r = c.requires.comes in
     let l = c.in-Lambda in
-    (kind l.arg, kind l.ret, trees l.written, codes l.code, (r.0, r.1, r.2, r.3, r.4, rw (ap code l.is ∙ code_lambda l.recursive l.arg l.ret l.written l.body l.code) at r.5))
+    (trees l.written, (r.0, r.1, r.2, r.3, r.4, rw (ap code l.is ∙ code_lambda l.recursive l.arg l.ret l.written l.body l.code) at r.5))
 
 pub returns-in_ok-act_lambda-in-Lambda-clause-acts : goal.returns-in_ok-act_lambda-in-Lambda-clause-acts
 returns-in_ok-act_lambda-in-Lambda-clause-acts c = λ x fs d Z o h w.
     let l = c.in-Lambda in
-    c.in_ok-act_lambda-in-Lambda.ensures.acts (kind l.arg) (kind l.ret) (trees l.written) (codes l.code) x fs d Z o (rw (ap code l.is ∙ code_lambda l.recursive l.arg l.ret l.written l.body l.code) at h)
+    c.in_ok-act_lambda-in-Lambda.ensures.acts (trees l.written) x fs d Z o (rw (ap code l.is ∙ code_lambda l.recursive l.arg l.ret l.written l.body l.code) at h)
 
 pub act_straight-requires : goal.act_straight-requires
 act_straight-requires c =
@@ -41,12 +40,12 @@ pub act_push-requires : goal.act_push-requires
 act_push-requires c =
     let r = c.requires.comes in
     let p = c.in-Push in
-    (tree p.written, (r.0, r.1, r.2, r.3, r.4, rw (ap code p.is ∙ code_push p.ty p.written p.literal) at r.5))
+    (tree p.written, (r.0, r.1, r.2, r.3, r.4, rw (ap code p.is ∙ code_push p.ty p.written p.literal p.lambdas) at r.5))
 
 pub returns-in_ok-act_push-in-Push-clause-acts : goal.returns-in_ok-act_push-in-Push-clause-acts
 returns-in_ok-act_push-in-Push-clause-acts c = λ x fs d Z o h w.
     let p = c.in-Push in
-    c.in_ok-act_push-in-Push.ensures.acts (tree p.written) x fs d Z o (rw (ap code p.is ∙ code_push p.ty p.written p.literal) at h)
+    c.in_ok-act_push-in-Push.ensures.acts (tree p.written) x fs d Z o (rw (ap code p.is ∙ code_push p.ty p.written p.literal p.lambdas) at h)
 
 pub act_self-requires : goal.act_self-requires
 act_self-requires c =

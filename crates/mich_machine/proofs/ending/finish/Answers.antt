@@ -4,7 +4,7 @@ use Rattle.std.specs.declared.option.Option.{Option}
 use Rattle.std.specs.Map.{values_of}
 use Rattle.rules_code.specs.steps.Changes.{burns}
 use Rattle.mich_store_steps.specs.seen.Sights.{sight}
-use Rattle.mich_instr.specs.declared.issued.Issued.{Issued}
+use Rattle.mich_ops.specs.declared.issued.Issued.{Issued}
 use Rattle.mich_tickets.specs.Effects.{Tells}
 use Rattle.mich_tickets.specs.Limits.{IsReady}
 use Rattle.mich_world.proofs.ForCallers.{world_same, world_trans, ledger_lent}

@@ -2,7 +2,7 @@ use Rattle.std.proofs.lemmas.Grind.{common_steps}
 use Rattle.std.proofs.Common.{rules, arith, ◌≡◌, List, [], ◌∷◌, map, Some, None, refl, sym, subst}
 use Rattle.std.specs.declared.option.Option.{Option}
 use Rattle.std.specs.Vec.Iter.{into_iter_items}
-use Rattle.mich_instr.specs.declared.issued.Issued.{Issued}
+use Rattle.mich_ops.specs.declared.issued.Issued.{Issued}
 use Rattle.mich_stack.specs.Views.{seen}
 use Rattle.mich_term.specs.View.{vals_of}
 use Rattle.mich_term.specs.declared.value.Value.{Value}

@@ -2,7 +2,7 @@ use Rattle.std.proofs.Common.{◌≡◌, None, rules, subst, sym}
 use Rattle.rules_world.specs.world.Application.{apply}
 use Rattle.rules_world.specs.world.Groups.{setting_of}
 use Rattle.mich_gas.specs.View.{listed}
-use Rattle.mich_instr.specs.declared.issued.Issued.{Issued}
+use Rattle.mich_ops.specs.declared.issued.Issued.{Issued}
 use Rattle.mich_machine.specs.Calls.{counts_of, IsHanded}
 use Rattle.mich_world.proofs.ForCallers.{world_same}
 use Rattle.mich_operations.specs.Going.{Begins, EndsAs, issued_by}

@@ -8,7 +8,7 @@ use Rattle.std.specs.Prelude.{nat_eq}
 use Rattle.rules_text.specs.nodes.Limits.{file_limit}
 use Rattle.mich_replay.specs.Coming.{Pauses}
 use Rattle.rules_files.specs.commands.Replay.{RefusedAt, ending_of}
-use Rattle.mich_reader.specs.Held.{Held, fresh}
+use Rattle.mich_text.specs.pieces.Held.{Held, fresh}
 use Rattle.mich_replay.specs.Output.{output}
 use Rattle.mich_replay.specs.Pace.{NoneIsClosedAt}
 use Rattle.mich_replay.specs.View.{file_fault_seen}

@@ -1,5 +1,4 @@
 use Rattle.std.proofs.Common.{sym, ◌∙◌}
-use Rattle.rules_text.specs.nodes.Tree.{depth}
 use Rattle.mich_base.specs.View.{tree}
 use Rattle.mich_cert.proofs.telling_lemmas.Certified.{certified_as, refused_at}
 use Rattle.mich_cert.proofs.telling.certifying.certify.Goals as goal

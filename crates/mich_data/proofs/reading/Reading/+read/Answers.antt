@@ -26,32 +26,32 @@ use Rattle.mich_data.proofs.reading.Reading.+read.Goals as goal
 
 pub read-returns-in-Pair-clause-found : goal.read-returns-in-Pair-clause-found
 read-returns-in-Pair-clause-found t c =
-    at_kind (kind c.args.ty.now) (k.pair (kind c.get-in-Pair.result.now) (kind c.get-in-Pair-2.result.now)) _ _ _ _
+    at_kind (kind c.args.ty.now) (k.pair (kind c.get-in-Pair.result.now) (kind c.get-in-Pair-2.result.now)) _ c.args.self.now c.read_pair.new.self _
     (ap kind c.in-Pair.is ∙ kind_pair c.in-Pair.first c.in-Pair.second ∙ sym (λ i. k.pair (kind (c.get-in-Pair.ensures i)) (kind (c.get-in-Pair-2.ensures i)))) c.read_pair.ensures.found
 
 pub read-returns-in-List-clause-found : goal.read-returns-in-List-clause-found
 read-returns-in-List-clause-found t c =
-    at_kind (kind c.args.ty.now) (k.list (kind c.get-in-List.result.now)) _ _ _ _
+    at_kind (kind c.args.ty.now) (k.list (kind c.get-in-List.result.now)) _ c.args.self.now c.read_list.new.self _
     (ap kind c.in-List.is ∙ kind_list c.in-List.part ∙ sym (ap (λ x. k.list (kind x)) c.get-in-List.ensures)) c.read_list.ensures.found
 
 pub read-returns-in-Set-clause-found : goal.read-returns-in-Set-clause-found
 read-returns-in-Set-clause-found t c =
-    at_kind (kind c.args.ty.now) (k.set (kind c.get-in-Set.result.now)) _ _ _ _
+    at_kind (kind c.args.ty.now) (k.set (kind c.get-in-Set.result.now)) _ c.args.self.now c.read_set.new.self _
     (ap kind c.in-Set.is ∙ kind_set c.in-Set.part ∙ sym (ap (λ x. k.set (kind x)) c.get-in-Set.ensures)) c.read_set.ensures.found
 
 pub read-returns-in-Map-clause-found : goal.read-returns-in-Map-clause-found
 read-returns-in-Map-clause-found t c =
-    at_kind (kind c.args.ty.now) (k.map (kind c.get-in-Map.result.now) (kind c.get-in-Map-2.result.now)) _ _ _ _
+    at_kind (kind c.args.ty.now) (k.map (kind c.get-in-Map.result.now) (kind c.get-in-Map-2.result.now)) _ c.args.self.now c.read_map.new.self _
     (ap kind c.in-Map.is ∙ kind_map c.in-Map.key c.in-Map.value ∙ sym (λ i. k.map (kind (c.get-in-Map.ensures i)) (kind (c.get-in-Map-2.ensures i)))) c.read_map.ensures.found
 
 pub read-returns-in-BigMap-clause-found : goal.read-returns-in-BigMap-clause-found
 read-returns-in-BigMap-clause-found t c =
-    at_kind (kind c.args.ty.now) (k.big_map (kind c.get-in-BigMap.result.now) (kind c.get-in-BigMap-2.result.now)) _ _ _ _
+    at_kind (kind c.args.ty.now) (k.big_map (kind c.get-in-BigMap.result.now) (kind c.get-in-BigMap-2.result.now)) _ c.args.self.now c.read_big_map.new.self _
     (ap kind c.in-BigMap.is ∙ kind_big_map c.in-BigMap.key c.in-BigMap.value ∙ sym (λ i. k.big_map (kind (c.get-in-BigMap.ensures i)) (kind (c.get-in-BigMap-2.ensures i)))) c.read_big_map.ensures.found
 
 pub read_rest-returns-in-Pair-clause-found : goal.read_rest-returns-in-Pair-clause-found
 read_rest-returns-in-Pair-clause-found t c =
-    rest_at_kind (kind c.args.ty.now) (k.pair (kind c.get.result.now) (kind c.get-in-Pair.result.now)) _ _ _ _ _
+    rest_at_kind (kind c.args.ty.now) (k.pair (kind c.get.result.now) (kind c.get-in-Pair.result.now)) _ _ c.args.self.now c.read_parts.new.self _
     (ap kind c.in-Pair.is ∙ kind_pair c.in-Pair.first c.in-Pair.second ∙ sym (λ i. k.pair (kind (c.get.ensures i)) (kind (c.get-in-Pair.ensures i)))) c.read_parts.ensures.found
 
 pub read_elements-returns-in_err-value-clause-found : goal.read_elements-returns-in_err-value-clause-found

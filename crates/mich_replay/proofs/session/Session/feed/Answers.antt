@@ -1,5 +1,5 @@
 use Rattle.std.proofs.Common.{◌++◌, subst, sym}
-use Rattle.mich_reader.specs.Held.{Held}
+use Rattle.mich_text.specs.pieces.Held.{Held}
 use Rattle.mich_replay.specs.Coming.{Came}
 use Rattle.mich_replay.proofs.Coming.{not_ended}
 use Rattle.mich_replay.proofs.Happening.{came_fed}

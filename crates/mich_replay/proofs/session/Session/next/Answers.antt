@@ -1,6 +1,6 @@
 use Rattle.std.proofs.Common.{Ok, Err, subst}
-use Rattle.mich_reader.specs.Reading.{IsNext}
-use Rattle.mich_reader.specs.declared.reader.Next.{Next}
+use Rattle.mich_text.specs.pieces.Reading.{IsNext}
+use Rattle.mich_text.specs.declared.pieces.reader.Next.{Next}
 use Rattle.mich_text.specs.declared.fault.TextError.{TextError}
 use Rattle.mich_replay.proofs.Happening.{room, small, statement_happens, more_happens, end_happens, fault_happens}
 use Rattle.mich_replay.proofs.session.Session.next.Goals as goal

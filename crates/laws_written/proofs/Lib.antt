@@ -1,0 +1,6 @@
+pub mod values
+pub mod evaluation
+pub mod locations
+pub mod worlds
+pub mod files
+pub mod Agreement

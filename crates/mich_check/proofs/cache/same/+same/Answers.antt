@@ -1,8 +1,0 @@
-use Rattle.std.proofs.Common.{arith}
-use Rattle.std.proofs.lemmas.Grind.{common_steps}
-use Rattle.std.proofs.lemmas.List.{take_more_same}
-use Rattle.std.proofs.lemmas.Option.{get_or_from_slice_get}
-use Rattle.mich_check.proofs.cache.same.+same.Goals as goal
-
-pub same_nodes-loop-i-preserved : goal.same_nodes-loop-i-preserved
-same_nodes-loop-i-preserved t c = grind (arith, common_steps, take_more_same, get_or_from_slice_get)
