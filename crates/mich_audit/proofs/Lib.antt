@@ -3,6 +3,7 @@ pub mod Counts
 pub mod Forms
 pub mod Kept
 pub mod Keys
+pub mod OneVerdict
 pub mod Pieced
 pub mod Pieces
 pub mod Reversed

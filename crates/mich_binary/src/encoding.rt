@@ -11,7 +11,9 @@ use crate::writing::put_node;
 use mich_base::{Bytes, Node};
 use std::alloc::Global;
 
-fn spelt(alloc: Global, node: &Node) -> Result<Bytes, EncodeError>
+/// The binary form of a node, in which a name that is no primitive's has the code 0. TooLong where it has more than 268,435,456 bytes.
+/// Memory where there is no room for it.
+pub fn spelt(alloc: Global, node: &Node) -> Result<Bytes, EncodeError>
     ensures { IsEncoded result (spelt (tree node.now)) }
 {
     let mut out = Vec::new(alloc);

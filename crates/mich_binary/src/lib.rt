@@ -12,6 +12,6 @@ mod nodes;
 mod writing;
 
 pub use decoding::decode;
-pub use encoding::encode;
+pub use encoding::{encode, spelt};
 pub use errors::{DecodeError, EncodeError};
 pub use rules_text::binary::DecodeKind;

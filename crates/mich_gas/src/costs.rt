@@ -1,16 +1,18 @@
 // Tables of prices.
-ghost use Rattle.std.specs.Prelude.{◌≡◌, ◌^◌, ◌<◌, pos, ◌≤ℤ◌, option_map, is_some, true, false, IsTrue, MatchOption};
+ghost use Rattle.std.specs.Prelude.{◌≡◌, ◌^◌, ◌<◌, pos, ◌≤ℤ◌, option_map, is_some, true, false, IsTrue, MatchOption, IfOk, length, map, slice_get};
 ghost use Rattle.rules_text.specs.nodes.Limits.{most_price};
 ghost use Rattle.rules_text.specs.nodes.Tree.{size};
-ghost use Rattle.rules_data.specs.gas.Kinds.{place};
+ghost use Rattle.rules_data.specs.gas.Kinds.{kinds_by_name, place};
+ghost use Rattle.rules_data.specs.declared.gas.Kind.{Kind};
 ghost use Rattle.rules_data.specs.gas.Prices.{nothing_listed, with_price, price_of, standard_price};
 ghost use Rattle.rules_data.specs.gas.Tables.{are_fields, is_row, is_table, is_between, price_from, listing, listing_of, table_of};
 ghost use Rattle.mich_base.specs.View.{tree};
 ghost use Rattle.mich_gas.specs.View.{seen_price, listed, seen_listing, reading};
 
-use crate::names::kind_of_name;
-use mich_base::{MOST_PRICE, Node};
+use crate::names::{KINDS, kind_of_name};
+use mich_base::{MOST_PRICE, Memory, Node, Rows};
 use rules_data::gas::Kind;
+use std::alloc::Global;
 use thiserror::Error;
 
 /// The nodes of a row: itself, its name and two numbers.
@@ -66,6 +68,36 @@ impl Costs {
         ensures { seen_price result ≡ price_of (listed self.now) kind }
     {
         self.listed[place_of(kind)].unwrap_or(STANDARD)
+    }
+
+    /// The table that lists these prices, each for the kind at its place; what is behind the places of kinds is left out. It takes no memory.
+    pub fn of_prices(prices: &[Price]) -> Costs
+        requires { length prices.now ≡ 98 }
+        ensures { (kind : Kind) → listed result kind ≡ slice_get (map seen_price prices.now) (place kind) }
+    {
+        let mut listed = [None; 98];
+        for (place, price) in prices.iter().enumerate() {
+            listed[place] = Some(*price);
+        }
+        Costs { listed }
+    }
+
+    // The prices of the kinds in rows of a table of names. Memory where there is no room for them.
+    fn prices_in(&self, alloc: Global, table: &[(&str, Kind)]) -> Result<Rows<Price>, Memory>
+        ensures { IfOk result (λ ps. map seen_price ps ≡ map (λ row. price_of (listed self.now) row.1) table.now) }
+    {
+        let mut prices = Rows::new(alloc);
+        for (_, kind) in table {
+            prices.push(self.price(*kind))?;
+        }
+        Ok(prices)
+    }
+
+    /// The prices of all kinds, in the order of their names. Memory where there is no room for them.
+    pub fn prices(&self, alloc: Global) -> Result<Rows<Price>, Memory>
+        ensures { IfOk result (λ ps. map seen_price ps ≡ map (λ e. price_of (listed self.now) e.1) kinds_by_name) }
+    {
+        self.prices_in(alloc, &KINDS)
     }
 
     fn is_listed(&self, kind: Kind) -> bool

@@ -9,7 +9,7 @@ use mich_base::Text;
 use rules_data::gas::Kind;
 
 /// Each kind beside its name, in the order of the bytes of the names.
-static KINDS: [(&str, Kind); 98] = [
+pub(crate) static KINDS: [(&str, Kind); 98] = [
     ("ABS", Kind::Abs),
     ("ADD", Kind::Add),
     ("ADDRESS", Kind::Address),

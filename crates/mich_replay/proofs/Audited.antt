@@ -13,7 +13,7 @@ use Rattle.rules_audit.specs.Form.{Form, bad_form, ended, Holds, Tells, can_foll
 use Rattle.rules_audit.specs.Audits.{verdict_on}
 use Rattle.rules_files.specs.commands.Answers.{Answer}
 use Rattle.rules_files.specs.commands.Audits.{IsAuditAnswer, verdict_answer}
-use Rattle.laws_audit.proofs.OneVerdict.{one_verdict}
+use Rattle.mich_audit.proofs.OneVerdict.{one_verdict}
 use Rattle.mich_replay.proofs.Readable.{Readable, is_node, is_fault, is_end, readable}
 
 some_left : (left : ℕ) → (suc left == 0) ≡ false

@@ -1,6 +1,7 @@
-mod Same
-mod Loops
-mod Written
-mod Walks
-mod Rest
-mod Summing
+pub mod Same
+pub mod Loops
+pub mod Written
+pub mod Walks
+pub mod Rest
+pub mod Summing
+pub mod ForCallers

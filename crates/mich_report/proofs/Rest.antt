@@ -112,7 +112,7 @@ module _ {X : Type 0} (f : List ℕ → X → Tree) (g : List ℕ → Option X) 
 abbrev pub contracts_nodes : Bases → Holders → List (List ℕ) → List Tree
 contracts_nodes bs h keys = flat_map (λ hash. one_node (λ c. contract_node h.rate (hash, plain bs c)) (contract_at h hash)) keys
 
-keys_in : (bs : Bases) (cs : List (List ℕ × Contract)) → keys_of (map (contract_in bs) cs) ≡ keys_of cs
+pub keys_in : (bs : Bases) (cs : List (List ℕ × Contract)) → keys_of (map (contract_in bs) cs) ≡ keys_of cs
 keys_in bs [] = refl
 keys_in bs (c ∷ cs) = ap (λ (ks : List (List ℕ)). c.0 ∷ ks) (keys_in bs cs)
 
@@ -152,7 +152,7 @@ account_seen w who balance = account_node (who, record { balance = balance; hold
 abbrev pub accounts_nodes : PlainWorld → Holders → List (List ℕ) → List Tree
 accounts_nodes w h keys = flat_map (λ who. one_node (account_seen w who) (account_at h who)) keys
 
-keys_purse : (as' : List (List ℕ × Account)) → keys_of (map purse as') ≡ keys_of as'
+pub keys_purse : (as' : List (List ℕ × Account)) → keys_of (map purse as') ≡ keys_of as'
 keys_purse [] = refl
 keys_purse (a ∷ as') = ap (λ (ks : List (List ℕ)). a.0 ∷ ks) (keys_purse as')
 
@@ -162,7 +162,7 @@ balance_found v w who s =
     ap (λ (es : List (List ℕ × ℕ)). lookup (is_at (slice_cmp nat_cmp who)) es) (sym s.those.accounts)
     ∙ lookup-map_values (λ (a : Account). a.balance) (is_at (slice_cmp nat_cmp who)) w.accounts
 
-balances : (v : World) (w : PlainWorld) → StandsFor v w → (as' : List (List ℕ × Account))
+pub balances : (v : World) (w : PlainWorld) → StandsFor v w → (as' : List (List ℕ × Account))
     → AllByRecursion (λ a. plain_account_at w a.0 ≡ Some a.1) as' → AllByRecursion (λ a. account_at v.funds.present a.0 ≡ Some a.1.balance) as'
 balances v w s [] h = tt
 balances v w s (a ∷ as') h =

@@ -25,8 +25,8 @@ use std::marker::Model;
 
 /// An identity with the text of its type, by whose bytes it stands.
 #[derive(Debug, Drop)]
-pub(crate) struct Printed {
-    pub(crate) id: TicketId,
+pub struct Printed {
+    pub id: TicketId,
     text: Text,
 }
 
@@ -48,8 +48,8 @@ impl Model for Printed {
 }
 
 impl Printed {
-    // An identity. Memory where there is no room for it.
-    fn of(alloc: Global, id: &TicketId) -> Result<Printed, Memory>
+    /// An identity. Memory where there is no room for it.
+    pub fn of(alloc: Global, id: &TicketId) -> Result<Printed, Memory>
         ensures { IfOk result (λ p. p ≡ id.now) }
     {
         let node = type_node(alloc, &id.ty)?;
@@ -103,8 +103,8 @@ impl Ord for Printed {
 
 /// Positive amounts of tickets: by the bytes of issuers, then by those of the texts of types, then by contents.
 #[derive(Debug, Drop)]
-pub(crate) struct Amounts {
-    pub(crate) map: BTreeMap<Printed, i128>,
+pub struct Amounts {
+    pub map: BTreeMap<Printed, i128>,
 }
 
 impl Model for Amounts {

@@ -17,7 +17,7 @@ use std::alloc::Global;
 use std::collections::BTreeMap;
 
 /// What each account holds, by the bytes of its key hash.
-pub(crate) type Purses = BTreeMap<KeyHash, Amounts>;
+pub type Purses = BTreeMap<KeyHash, Amounts>;
 
 // Writes an amount of a ticket that an account holds, where something is known of the account.
 fn write_held(
@@ -78,7 +78,7 @@ fn add_owners(
 }
 
 /// What each account holds. Memory where there is no room for it.
-pub(crate) fn held_by_accounts(alloc: Global, lines: &Lines) -> Result<Purses, Memory>
+pub fn held_by_accounts(alloc: Global, lines: &Lines) -> Result<Purses, Memory>
     ensures { IfOk result (λ ps. Gathers lines.now.entries ps.entries) }
 {
     let _count = lines.len();
@@ -90,7 +90,7 @@ pub(crate) fn held_by_accounts(alloc: Global, lines: &Lines) -> Result<Purses, M
 }
 
 /// What was ever minted of each ticket, where something was. Memory where there is no room for it.
-pub(crate) fn all_minted(alloc: Global, lines: &Lines) -> Result<Amounts, Memory>
+pub fn all_minted(alloc: Global, lines: &Lines) -> Result<Amounts, Memory>
     ensures { IfOk result (λ es. Mints lines.now.entries es) }
 {
     let _count = lines.len();

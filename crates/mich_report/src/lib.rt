@@ -12,6 +12,8 @@ mod receipts;
 mod state;
 mod summary;
 
+pub use amounts::{Amounts, Printed};
+pub use gathering::{Purses, all_minted, held_by_accounts};
 pub use line::node_line;
 pub use receipts::receipt_text;
 pub use state::{state_lines, state_text};

@@ -63,9 +63,9 @@ impl Burner for Collector {
     }
 }
 
-// The tickets of a value, parts from left to right and entries by key: those of a copy that is discarded. Memory where there is
-// no room for them.
-fn tickets_of(alloc: Global, value: &Value) -> Result<Rows<Ticket>, Memory>
+/// The tickets of a value, parts from left to right and entries by key: those of a copy that is discarded. Memory where there is
+/// no room for them.
+pub fn tickets_of(alloc: Global, value: &Value) -> Result<Rows<Ticket>, Memory>
     ensures { IfOk result (λ ts. map held ts ≡ tickets (val value.now)) }
 {
     let copy = shadow(alloc, value)?;

@@ -21,7 +21,7 @@ mod totals;
 mod views;
 mod writing;
 
-pub use carrying::Collector;
+pub use carrying::{Collector, tickets_of};
 pub use errors::{DebitError, MintError};
 pub use holdings::Holdings;
 pub use ledger::Ledger;

@@ -11,3 +11,4 @@ pub mod Sums
 pub mod ForCallers
 pub mod simulation_lemmas
 pub mod preconditions_lemmas
+pub mod restoring_lemmas

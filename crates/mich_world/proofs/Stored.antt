@@ -20,7 +20,7 @@ use Rattle.mich_world.specs.World.{World}
 use Rattle.mich_world.specs.declared.contract.Contract.{Contract}
 
 module _ {K X : Type 0} (P : X → Type 0) where
-  all_inserted : (R : K → K → Ordering) (es : List (K × X)) (k : K) (v : X) → AllByRecursion (λ e. P e.1) es → P v → AllByRecursion (λ e. P e.1) (insert_entry R es k v)
+  pub all_inserted : (R : K → K → Ordering) (es : List (K × X)) (k : K) (v : X) → AllByRecursion (λ e. P e.1) es → P v → AllByRecursion (λ e. P e.1) (insert_entry R es k v)
   all_inserted R [] k v h p = (p, tt)
   all_inserted R (e ∷ es) k v h p =
       elim (R k e.0) as (λ o. AllByRecursion (λ (x : K × X). P x.1) (match_ordering o ((k, v) ∷ e ∷ es) ((e.0, v) ∷ es) (e ∷ insert_entry R es k v)))
@@ -46,7 +46,7 @@ module _ {K X : Type 0} (P : X → Type 0) where
 abbrev All : Bases → Holders → Type 0
 All bs h = AllByRecursion (λ (e : List ℕ × Contract). IsStored bs e.1) h.contracts
 
-all_extended : (old new : Bases) (cs : List (List ℕ × Contract)) → Extends old new → AllByRecursion (λ e. IsStored old e.1) cs → AllByRecursion (λ e. IsStored new e.1) cs
+pub all_extended : (old new : Bases) (cs : List (List ℕ × Contract)) → Extends old new → AllByRecursion (λ e. IsStored old e.1) cs → AllByRecursion (λ e. IsStored new e.1) cs
 all_extended old new [] x h = tt
 all_extended old new (c ∷ cs) x h =
     (record { formed = h.0.formed; based = based_later old new c.1.storage x h.0.based; shared = h.0.shared }, all_extended old new cs x h.1)

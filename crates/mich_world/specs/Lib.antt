@@ -1,11 +1,13 @@
 pub mod Answers
 pub mod Before
+pub mod Gifts
 pub mod Holders
 pub mod Journal
 pub mod Kept
 pub mod Laws
 pub mod Lending
 pub mod Marks
+pub mod Restoring
 pub mod Standing
 pub mod Storages
 pub mod World

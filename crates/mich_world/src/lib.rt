@@ -15,6 +15,7 @@ mod maps;
 mod mark;
 mod moving;
 pub mod preconditions;
+mod restoring;
 pub mod simulation;
 mod storing;
 mod world;
@@ -25,4 +26,5 @@ pub use laws::{
     balances_agree, fees_agree, marks_come_back, marks_stay, moves_agree, supplies_agree,
 };
 pub use mark::Mark;
+pub use restoring::{Saved, SavedAccount, SavedContract};
 pub use world::World;

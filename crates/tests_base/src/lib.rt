@@ -1,4 +1,4 @@
-//! Tests of the lowest crates, and of values and their literals, by their public calls.
+//! Tests of the lowest crates, of values and their literals, and of instructions without bodies, by their public calls.
 #![tactic(auto)]
 
 pub mod base;
@@ -7,8 +7,10 @@ pub mod data;
 pub mod forms;
 pub mod gas;
 pub mod generate;
+pub mod instructions;
 pub mod io;
 pub mod num;
+pub mod saved;
 #[cfg(test)]
 mod support;
 pub mod term;

@@ -93,7 +93,7 @@ hash_of hash h = front_is 20 hash (0 ∷ []) h
 
 -- ---- what owners hold
 
-without_last : (xs ys : List ℕ) → xs ++ 0 ∷ [] ≡ ys ++ 0 ∷ [] → xs ≡ ys
+pub without_last : (xs ys : List ℕ) → xs ++ 0 ∷ [] ≡ ys ++ 0 ∷ [] → xs ≡ ys
 without_last [] [] e = refl
 without_last [] (y ∷ []) e = absurd cc
 without_last [] (y ∷ z ∷ ys) e = absurd cc

@@ -20,7 +20,7 @@ use Rattle.mich_world.specs.simulation.Laws.{RunsBegin, RunsGoOn, LedgersRun, St
 none_more : (a : ℤ) → a ≡ a +ℤ pos 0
 none_more a = omega (arith, ints)
 
-adds_nothing : (b : Books) → Adds [] b b
+pub adds_nothing : (b : Books) → Adds [] b b
 adds_nothing b = record { minted = λ j. none_more (minted_of b j); burnt = λ j. none_more (burnt_of b j); held = λ j o. refl; listed = refl }
 
 regroup : (a b c : ℤ) → (a +ℤ b) +ℤ c ≡ a +ℤ (b +ℤ c)

@@ -1,6 +1,0 @@
-use Rattle.laws_typing.specs.literals.Laws.{told_by}
-use Rattle.laws_audit.proofs.Tickets.{fitting_tells}
-use Rattle.laws_audit.proofs.literals_tell_tickets.Goals as goal
-
-pub returns : goal.returns
-returns c = λ is_contract is_issued. fitting_tells (told_by is_contract is_issued)

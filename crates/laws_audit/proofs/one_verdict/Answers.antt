@@ -1,5 +1,0 @@
-use Rattle.laws_audit.proofs.OneVerdict.{one_verdict}
-use Rattle.laws_audit.proofs.one_verdict.Goals as goal
-
-pub returns : goal.returns
-returns c = one_verdict

@@ -1,5 +1,0 @@
-use Rattle.mich_audit.proofs.Same.{trees_decided, identities_decided}
-use Rattle.laws_audit.proofs.same_nodes.Goals as goal
-
-pub returns : goal.returns
-returns c = (trees_decided, identities_decided)

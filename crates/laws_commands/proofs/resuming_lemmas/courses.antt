@@ -1,0 +1,5 @@
+pub mod Alike
+pub mod Heads
+pub mod Prices
+pub mod Loaded
+pub mod Good

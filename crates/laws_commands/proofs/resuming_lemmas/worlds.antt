@@ -1,0 +1,4 @@
+pub mod Relogged
+pub mod Runs
+pub mod Applied
+pub mod Groups

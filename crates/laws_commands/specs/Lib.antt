@@ -1,0 +1,4 @@
+pub mod audits
+pub mod written
+pub mod reached
+pub mod resuming

@@ -1,0 +1,14 @@
+pub mod Cuts
+pub mod ForCallers
+pub mod Fronts
+pub mod Gathered
+pub mod Levels
+pub mod Lines
+pub mod Links
+pub mod Nothings
+pub mod Passes
+pub mod Placed
+pub mod Places
+pub mod Storages
+pub mod Wholes
+pub mod Writings

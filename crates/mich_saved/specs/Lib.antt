@@ -1,0 +1,10 @@
+pub mod Formed
+pub mod Kept
+pub mod KeptStates
+pub mod Parts
+pub mod Pushes
+pub mod Results
+pub mod Shown
+pub mod Sound
+pub mod Types
+pub mod Whole

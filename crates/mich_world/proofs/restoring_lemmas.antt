@@ -1,0 +1,9 @@
+pub mod Alone
+pub mod Bounds
+pub mod Finding
+pub mod Gifts
+pub mod Given
+pub mod Putting
+pub mod Restored
+pub mod Stages
+pub mod Totals
