@@ -19,7 +19,7 @@ use Rattle.mich_snapshot.specs.Sums.{found_in}
 use Rattle.mich_snapshot.specs.Tried.{Tries}
 use Rattle.mich_saved.specs.declared.errors.LoadError.{LoadError}
 use Rattle.mich_saved.specs.declared.errors.LoadError.TheVariants as errors
-use Rattle.mich_snapshot.proofs.Faults.{first_told, next_told, text_of}
+use Rattle.mich_snapshot.proofs.Faults.{first_told, next_told, text_of, told_alike}
 use Rattle.mich_snapshot.proofs.Found.{HoldsWell, StoresWell, all_found}
 use Rattle.mich_snapshot.proofs.KeptHeads.{front_length}
 use Rattle.mich_snapshot.proofs.SoundParts.{Hold, account_holdings, each_holds}
@@ -96,7 +96,7 @@ contracts_told X Y s e spelt front accounts h =
     behind_front {X = Y} s (Err e) spelt front (behind_accounts {X = Y} s (Err e) accounts
     (first_told X Y (851 + n) C T e (behind_count {X = X} (851 + n) (859 + n) (length s.contracts) (contracts_of s) (Err e) at h)))
 
-pub tickets_told : {X : Type 0} (s : State) (r : Result X LoadError) → IsSpelt s → first_fault 0 (front_parts s) ≡ None → first_fault 851 (accounts_of s) ≡ None
+tickets_told : {X : Type 0} (s : State) (r : Result X LoadError) → IsSpelt s → first_fault 0 (front_parts s) ≡ None → first_fault 851 (accounts_of s) ≡ None
     → first_fault (859 + length (flat_map account_spelling s.accounts)) (contracts_of s) ≡ None
     → Tries (867 + length (flat_map account_spelling s.accounts) + length (flat_map contract_spelling s.contracts)) (tickets_of s) r → Tries 0 (parts s) r
 tickets_told s r spelt front accounts contracts h =
@@ -110,6 +110,17 @@ tickets_told s r spelt front accounts contracts h =
     behind_front s r spelt front (behind_accounts s r accounts
     (next_told {A = ℕ} (851 + n) (859 + n + m) C T 0 r place (behind_count {X = ℕ} (851 + n) (859 + n) (length s.contracts) (contracts_of s) (Ok 0) at contracts)
     (behind_count (859 + n + m) (867 + n + m) (length s.tickets) (tickets_of s) r later h)))
+
+pub tickets_fail : (X Y : Type 0) (s : State) (e : LoadError) → IsSpelt s → first_fault 0 (front_parts s) ≡ None → first_fault 851 (accounts_of s) ≡ None
+    → first_fault (859 + length (flat_map account_spelling s.accounts)) (contracts_of s) ≡ None
+    → Tries {A = X} (867 + length (flat_map account_spelling s.accounts) + length (flat_map contract_spelling s.contracts)) (tickets_of s) (Err e) → Tries {A = Y} 0 (parts s) (Err e)
+tickets_fail X Y s e spelt front accounts contracts h =
+    told_alike X Y 0 (parts s) e (tickets_told {X = X} s (Err e) spelt front accounts contracts h)
+
+pub all_stand : (s : State) → IsSpelt s → first_fault 0 (front_parts s) ≡ None → first_fault 851 (accounts_of s) ≡ None
+    → first_fault (859 + length (flat_map account_spelling s.accounts)) (contracts_of s) ≡ None
+    → first_fault (867 + length (flat_map account_spelling s.accounts) + length (flat_map contract_spelling s.contracts)) (tickets_of s) ≡ None → first_fault 0 (parts s) ≡ None
+all_stand s spelt front accounts contracts h = tickets_told {X = ℕ} s (Ok 0) spelt front accounts contracts h
 
 -- ---- where there is no fault
 

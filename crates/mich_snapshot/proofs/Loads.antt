@@ -35,7 +35,7 @@ use Rattle.mich_snapshot.proofs.LoadedAs.{read_is}
 -- there are as many prices as kinds of cost
 pub prices_long : (p : plain.State) (ps : List Price) → IsSpelt p → map seen_price ps ≡ p.prices → length ps ≡ 98
 unfolding kinds_by_name
-prices_long p ps spelt e = sym (length-map seen_price ps) ∙ ap length e ∙ spelt.prices.0
+prices_long p ps spelt e = sym (length-map ps seen_price) ∙ ap length e ∙ spelt.prices.0
 
 pub loaded_as : (p : plain.State) (x : ReadState) (h : Head) (ps : List Price) (saved : Saved) (w : World) (costs : Costs) → IsReadOf p x → h ≡ x.head → IsSoundState p ps saved
     → StandsFor w (restored saved) → ((kind : Kind) → listed costs kind ≡ slice_get (map seen_price ps) (place kind))

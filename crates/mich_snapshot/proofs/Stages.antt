@@ -1,6 +1,6 @@
 -- What was read of a state is tried stage by stage.
 use Rattle.std.proofs.Common.{◌≡◌, ℕ, ◌+◌, List, [], ◌∷◌, length, map, Some, None, refl, sym, ap, ◌∙◌}
-use Rattle.std.specs.Prelude.{Option, if◌then◌else◌}
+use Rattle.std.specs.Prelude.{ℤ, Option, if◌then◌else◌}
 use Rattle.std.specs.List.{All, AllByRecursion, flat_map}
 use Rattle.std.proofs.lemmas.List.Elements.{All-head, All-tail}
 use Rattle.rules_code.specs.evaluation.Surroundings.{Contract}
@@ -18,7 +18,11 @@ use Rattle.mich_saved.specs.declared.parts.ReadContract.{ReadContract}
 use Rattle.mich_saved.specs.declared.parts.ReadTotal.{ReadTotal}
 use Rattle.mich_saved.specs.declared.reading.ReadState.{ReadState}
 use Rattle.mich_world.specs.Restoring.{IsAlone, account_of, contract_of}
+use Rattle.mich_term.specs.declared.ticket.TicketId.{TicketId}
+use Rattle.mich_tickets.specs.declared.totals.Totals.{Totals}
 use Rattle.mich_world.specs.declared.restoring.Saved.{Saved}
+use Rattle.mich_world.specs.declared.restoring.SavedAccount.{SavedAccount}
+use Rattle.mich_world.specs.declared.restoring.SavedContract.{SavedContract}
 use Rattle.mich_snapshot.specs.Holders.{AreOfSpelt, IsReckoned, total_of}
 use Rattle.mich_snapshot.specs.Loaded.{IsReadOf, IsSoundState}
 use Rattle.mich_snapshot.specs.Sums.{found_in}
@@ -46,6 +50,20 @@ pub record IsMadeOf (read : ReadState) (saved : Saved) : Type 0 where
   pub rate : saved.rate ≡ (if read.head.pays then Some read.head.rate else None)
   pub fees : saved.fees ≡ read.fees
   pub burned : saved.burned ≡ read.storage_burn
+
+-- what is saved of what was read, at a moment
+abbrev pub made_of : ReadState → ℤ → Option ℕ → List SavedAccount → List SavedContract → List (TicketId × Totals) → Saved
+made_of read moment rate accounts contracts totals = record {
+  chain = read.head.moment.chain;
+  level = read.head.moment.level;
+  moment = moment;
+  rate = rate;
+  fees = read.fees;
+  burned = read.storage_burn;
+  accounts = accounts;
+  contracts = contracts;
+  totals = totals;
+}
 
 -- the parts are saved as they are
 pub record AreSaved (s : State) (saved : Saved) : Type 0 where

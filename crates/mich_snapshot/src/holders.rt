@@ -1,5 +1,7 @@
 // The rules of accounts, of contracts and of tickets.
-ghost use Rattle.std.specs.Prelude.{◌≡◌, ◌<◌, ◌^◌, ◌&&◌, int_lt, option_map, is_some, pos, true, IfOk, IfSome, IsSome, MatchOption, ℕ, List, Option, None, map};
+ghost use Rattle.std.specs.Prelude.{◌≡◌, ◌<◌, ◌^◌, ◌&&◌, int_lt, option_map, is_some, pos, true, IfOk, IfSome, IsSome, MatchOption, ℕ, List, Option, None, map, take, drop, replicate};
+ghost use Rattle.std.specs.Int.{from_be_bytes, w64};
+ghost use Rattle.std.specs.Str.{bytes_eq};
 ghost use Rattle.std.specs.List.{AllByRecursion};
 ghost use Rattle.rules_code.specs.evaluation.Surroundings.{Contract as PlainContract};
 ghost use Rattle.rules_code.specs.instructions.Arguments.{fault};
@@ -156,14 +158,34 @@ fn hash_is_above(former: &Option<[u8; 20]>, hash: &[u8; 20]) -> bool
     }
 }
 
+// The number with which the 20 bytes begin.
+fn number_of(hash: &[u8; 20]) -> u64
+    ensures { result ≡ from_be_bytes w64 (take 8 hash.now) }
+{
+    let mut first = [0; 8];
+    first.copy_from_slice(&hash[..8]);
+    u64::from_be_bytes(first)
+}
+
+fn ends_with_zeros(hash: &[u8; 20]) -> bool
+    ensures { result ≡ bytes_eq (drop 12 hash.now) (replicate 8 0) }
+{
+    hash[12..] == [0; 8]
+}
+
 // Whether the 20 bytes begin with the number of a group that there was, and end with 8 zeros.
 fn hash_holds(groups: u64, hash: &[u8; 20]) -> bool
     ensures { (s : State) → s.groups ≡ groups → result ≡ is_hash s hash.now }
 {
-    let mut first = [0; 8];
-    first.copy_from_slice(&hash[..8]);
-    let number = u64::from_be_bytes(first);
-    1 <= number && number <= groups && hash[12..] == [0; 8]
+    let number = number_of(hash);
+    1 <= number && number <= groups && ends_with_zeros(hash)
+}
+
+// Whether so, above the 20 bytes before.
+fn hash_stands(groups: u64, former: &Option<[u8; 20]>, hash: &[u8; 20]) -> bool
+    ensures { (s : State) → s.groups ≡ groups → result ≡ (is_above byte_order former.now hash.now && is_hash s hash.now) }
+{
+    hash_is_above(former, hash) && hash_holds(groups, hash)
 }
 
 // The typed script of a node. None where it is ill typed.
@@ -212,9 +234,10 @@ fn storage_holds(
         → IsPaying contract.now.paid (tree contract.now.script) (val storage.now) c
         → IfOk result (Finds s (storage_rules s pays (kind ty.now) c) (more_tickets found (tickets c.storage)) sums.new.found.entries) }
 {
-    if !value_fits(alloc, ty, storage)?
-        || !paid_holds(pays, contract.paid, &contract.script, storage)
-    {
+    if !value_fits(alloc, ty, storage)? {
+        return Ok(false);
+    }
+    if !paid_holds(pays, contract.paid, &contract.script, storage) {
         return Ok(false);
     }
     tickets_hold(alloc, sums, storage)
@@ -238,7 +261,7 @@ fn sound_script(
     let Some(storage) = &contract.storage else {
         return Ok(None);
     };
-    if !hash_is_above(former, &contract.hash) || !hash_holds(head.groups, &contract.hash) {
+    if !hash_stands(head.groups, former, &contract.hash) {
         return Ok(None);
     }
     let Some(script) = typed_script(alloc, &contract.script)? else {

@@ -1,7 +1,7 @@
 // Snapshots that were worked out by hand: what is loaded and saved again, and what is refused at which place.
-use crate::{LoadError, State, load, save};
 use mich_base::Memory;
 use mich_forms::{KeyHash, Place};
+use mich_snapshot::{LoadError, State, load, save};
 use std::alloc::Global;
 use std::test::Fail;
 
