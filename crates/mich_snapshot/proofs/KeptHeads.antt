@@ -17,7 +17,7 @@ use Rattle.rules_code.specs.evaluation.Surroundings.{Contract}
 use Rattle.rules_world.specs.world.World.{Account}
 use Rattle.rules_files.specs.snapshots.State.{State}
 use Rattle.rules_files.specs.snapshots.Rules.{is_head, are_costs, are_sums, all_mutez, is_price, is_standard}
-use Rattle.mich_saved.specs.KeptStates.{IsKeptAccount, IsKeptState, IsPlacedContract, head_of}
+use Rattle.mich_saved.specs.KeptStates.{IsKeptAccount, IsKeptState, IsPlacedContract}
 use Rattle.mich_saved.specs.Parts.{Head, KeptContract, KeptState}
 use Rattle.mich_saved.specs.Sound.{Each}
 use Rattle.mich_snapshot.specs.Heads.{all_kept_mutez, front_parts, is_kept_head, are_kept_costs, are_kept_sums}

@@ -1,5 +1,5 @@
 -- What is left of a list, and what was taken.
-use Rattle.std.proofs.Common.{◌≡◌, ℕ, suc, ◌+◌, ◌<◌, add-one, drop-cons, Bool, true, false, ◌&&◌, List, [], ◌∷◌, ◌++◌, drop, take, get_or, length, map, refl, sym, ap, ◌∙◌}
+use Rattle.std.proofs.Common.{◌≡◌, ℕ, suc, ◌+◌, ◌<◌, add-one, drop-cons, Bool, true, false, ◌&&◌, List, [], ◌∷◌, ◌++◌, drop, take, get_or, length, map, sym, ap, ◌∙◌}
 use Rattle.std.specs.List.{list_all}
 use Rattle.std.proofs.lemmas.List.{map-append, take_more}
 
