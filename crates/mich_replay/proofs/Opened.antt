@@ -1,5 +1,5 @@
 -- A snapshot that was loaded, and the file that goes on from it.
-use Rattle.std.proofs.Common.{◌≡◌, ◌≢◌, ◌⊎◌, ◌+◌, ◌<◌, ◌≤◌, ◌^◌, ℕ, Bool, true, false, ◌||◌, not, List, [], ◌∷◌, ◌++◌, length, map, codes, Option, Some, None, IsSome, Result, Ok, Err, IfOk, refl, sym, ap, ◌∙◌, subst, inl, inr, append-nil, arith}
+use Rattle.std.proofs.Common.{◌≡◌, ◌⊎◌, ◌+◌, ◌<◌, ℕ, Bool, true, false, ◌||◌, not, List, [], ◌∷◌, ◌++◌, length, map, codes, Option, Some, None, IsSome, Result, Ok, Err, refl, sym, ap, ◌∙◌, subst, inl, inr, append-nil, arith}
 use Rattle.std.proofs.lemmas.Bool.Decides.{nat_tests}
 use Rattle.std.proofs.lemmas.List.{length-append}
 use Rattle.std.specs.List.{AllByRecursion}
@@ -7,12 +7,11 @@ use Rattle.std.specs.Prelude.{nat_lt}
 use Rattle.rules_text.specs.nodes.Limits.{file_limit}
 use Rattle.rules_files.specs.commands.Answers.{Answer, refused_with}
 use Rattle.rules_files.specs.commands.Commands.{Resuming, AreTold, IsAnswer, IsTold, IsToldBehind}
-use Rattle.rules_files.specs.commands.Lines.{group_lines, ending_lines, refusal_line}
-use Rattle.rules_files.specs.commands.Replay.{Replay}
-use Rattle.rules_files.specs.commands.Resuming.{IsResumed, Resumes, load_answer, resumed_answer}
+use Rattle.rules_files.specs.commands.Lines.{refusal_line}
+use Rattle.rules_files.specs.commands.Resuming.{Resumes, load_answer, resumed_answer}
 use Rattle.rules_files.specs.course.Course.{Course as PlainCourse}
-use Rattle.rules_files.specs.snapshots.Course.{course_of, listed as listed_of, world_of}
-use Rattle.rules_files.specs.snapshots.Loading.{LoadFault, BadForm, Unsound, loaded, of_read}
+use Rattle.rules_files.specs.snapshots.Course.{course_of, world_of}
+use Rattle.rules_files.specs.snapshots.Loading.{LoadFault, BadForm, Unsound, loaded}
 use Rattle.rules_files.specs.snapshots.Reading.{read, snapshot_limit}
 use Rattle.rules_files.specs.snapshots.Rules.{is_sound}
 use Rattle.rules_files.specs.snapshots.Spelt.{IsSpelt}
@@ -25,7 +24,6 @@ use Rattle.mich_group.specs.course.Following.{Follows}
 use Rattle.mich_group.specs.declared.course.course.Course.{Course}
 use Rattle.mich_instr.specs.Scripts.{IsTypedScript}
 use Rattle.mich_machine.specs.Calls.{IsHosting}
-use Rattle.mich_saved.specs.declared.errors.LoadError.{LoadError}
 use Rattle.mich_saved.specs.declared.errors.LoadError.TheVariants as errors
 use Rattle.mich_snapshot.specs.Loaded.{IsLoaded, IsLoadedAs}
 use Rattle.mich_snapshot.specs.declared.state.State.{State as Kept}
@@ -35,8 +33,8 @@ use Rattle.mich_world.specs.Storages.{AreStored}
 use Rattle.mich_replay.specs.Coming.{Comes, EndsAs}
 use Rattle.mich_replay.specs.Fronts.{IsReadOf, IsRest}
 use Rattle.mich_replay.specs.Opening.{GoesOnAs, IsOpened, IsOpenedFrom, PacesAs, ResumesAs}
-use Rattle.mich_replay.specs.Output.{Output, RefusesWith, Writes, WritesFront}
-use Rattle.mich_replay.specs.Pace.{NotStarted, PacesBehind, TakesInStep, WritesBehind}
+use Rattle.mich_replay.specs.Output.{Output, RefusesWith, WritesFront}
+use Rattle.mich_replay.specs.Pace.{PacesBehind, TakesInStep, WritesBehind}
 use Rattle.mich_replay.specs.Taken.{HasTaken, TakesBoth, TakesFile}
 use Rattle.mich_replay.specs.View.{status_in}
 use Rattle.mich_replay.specs.declared.resuming.Loaded.{Loaded}

@@ -2,7 +2,7 @@
 use Rattle.std.proofs.Common.{◌≡◌, ◌≤◌, ◌+◌, ℕ, Bool, false, true, List, [], ◌++◌, length, Some, None, Result, Ok, Err, inl, inr, refl, sym, ap, ◌∙◌, subst, append-nil, arith}
 use Rattle.std.specs.declared.option.Option.{Option}
 use Rattle.std.specs.Io.KnownBytes.{Appends, Consumes}
-use Rattle.std.specs.Prelude.{OnOk, OnErr, IsErrOf}
+use Rattle.std.specs.Prelude.{IsErrOf}
 use Rattle.std.proofs.KnownBytes.{Appends-nil, Appends-trans}
 use Rattle.rules_text.specs.nodes.Limits.{file_limit}
 use Rattle.rules_files.specs.commands.Answers.{status_of}
@@ -13,7 +13,7 @@ use Rattle.rules_files.specs.course.Course.{Course as PlainCourse}
 use Rattle.mich_text.specs.pieces.Held.{Held}
 use Rattle.mich_replay.specs.Coming.{Closes, Grows, Told}
 use Rattle.mich_replay.specs.Pace.{Gives, NoneIsClosedAt, NotStarted, TakesInStep, groups_in, piece_limit}
-use Rattle.mich_replay.specs.Output.{Output, Writes, WritesFront}
+use Rattle.mich_replay.specs.Output.{Output}
 use Rattle.mich_replay.specs.View.{status_in, whole_seen}
 use Rattle.mich_replay.specs.declared.command.WholeVerb.{WholeVerb}
 use Rattle.mich_replay.specs.declared.command.WholeVerb.TheVariants as wholes
@@ -29,10 +29,6 @@ grows_nothing a = ([], Appends-nil a)
 
 pub grows_trans : (a b c : Option (List ℕ)) → Grows a b → Grows b c → Grows a c
 grows_trans a b c p q = (p.0 ++ q.0, Appends-trans a b c p.0 q.0 p.1 q.1)
-
-pub grows_by : {T E : Type 0} → (a b : Output) (lines : List (List ℕ)) (r : Result T E) → OnOk r (Writes a b lines) → OnErr r (WritesFront a b lines) → Grows a.written b.written
-grows_by a b lines (Ok t) p q = (text_of lines, p.text)
-grows_by a b lines (Err e) p q = (q.text.0, q.text.3)
 
 pub grows_closed : (a b : Output) (ending : Ending) (r : Result ℕ Stop) → Closes a b ending r → Grows a.written b.written
 grows_closed a b ending (Ok status) p = (text_of (ending_lines ending), p.1.text)

@@ -1,16 +1,16 @@
 -- The course that goes on from a sound state.
-use Rattle.std.proofs.Common.{◌≡◌, ◌≤◌, ◌<◌, ◌+◌, ◌^◌, ℕ, zero, suc, Bool, true, false, ◌&&◌, ◌||◌, not, List, [], ◌∷◌, length, map, take, Option, Some, None, refl, sym, ap, ◌∙◌, subst, arith}
+use Rattle.std.proofs.Common.{◌≡◌, ◌≤◌, ◌<◌, ◌+◌, ◌^◌, ℕ, zero, suc, Bool, true, false, ◌&&◌, ◌||◌, not, List, [], ◌∷◌, length, map, take, Option, None, refl, sym, ap, ◌∙◌, arith}
 use Rattle.std.proofs.lemmas.Bool.{and_parts}
 use Rattle.std.proofs.lemmas.Bool.Decides.{nat_tests}
 use Rattle.std.proofs.lemmas.Nat.{from_be_bytes-to_be_bytes_8}
 use Rattle.std.specs.Int.{w64, from_be_bytes, to_be_bytes}
 use Rattle.std.proofs.lemmas.List.Sums.{sum_by-cons}
-use Rattle.std.specs.List.{All, list_all, sum_by}
+use Rattle.std.specs.List.{list_all, sum_by}
 use Rattle.std.specs.Prelude.{◌-◌, nat_le, slice_get, unwrap_or, if◌then◌else◌}
 use Rattle.rules_code.specs.evaluation.Surroundings.{Contract}
 use Rattle.rules_data.specs.gas.Kinds as kinds
 use Rattle.rules_data.specs.gas.Prices.{Price, standard_price}
-use Rattle.rules_files.specs.snapshots.Course.{course_of, listed, world_of}
+use Rattle.rules_files.specs.snapshots.Course.{course_of, world_of}
 use Rattle.rules_files.specs.snapshots.Rules.{all_mutez, has_begun, is_contract, is_head, is_price, is_sound, is_standard}
 use Rattle.rules_files.specs.snapshots.Spelling.{contract_spelling}
 use Rattle.rules_files.specs.snapshots.Spelt.{IsSpelt, IsSpeltContract}
@@ -19,7 +19,6 @@ use Rattle.rules_text.specs.nodes.Limits.{most_level, most_rate}
 use Rattle.rules_world.specs.world.Balances.{supply}
 use Rattle.rules_world.specs.world.Good.{IsGood, IsNewGroup}
 use Rattle.rules_world.specs.world.World.{Account}
-use Rattle.laws_code.specs.evaluation.Laws.{IsCharged}
 use Rattle.laws_files.specs.Laws.{IsGoodCourse}
 use Rattle.mich_snapshot.proofs.SoundParts.{contract_parts, each_holds, sound_parts}
 

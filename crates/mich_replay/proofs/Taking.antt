@@ -33,20 +33,6 @@ repeated (stops RepeatedAccount) None h = absurd h
 repeated (stops SupplyLimit) None h = absurd h
 repeated stuck_step None h = absurd h
 
-pub too_much : (s : Step) (c : Option Course) → Leads s c (Err error.SupplyLimit) → s ≡ stops SupplyLimit
-too_much (goes_on p rs) (Some c) h = absurd h
-too_much (stops BadOrder) (Some c) h = absurd h
-too_much (stops BadCosts) (Some c) h = absurd h
-too_much (stops RepeatedAccount) (Some c) h = absurd h
-too_much (stops SupplyLimit) (Some c) h = refl
-too_much stuck_step (Some c) h = absurd h
-too_much (goes_on p rs) None h = absurd h
-too_much (stops BadOrder) None h = absurd h
-too_much (stops BadCosts) None h = absurd h
-too_much (stops RepeatedAccount) None h = absurd h
-too_much (stops SupplyLimit) None h = absurd h
-too_much stuck_step None h = absurd h
-
 -- ---- the first statement
 
 pub begun : (s : Step) (c : Course) → Begins s (Ok c) → Goes s c (Ok None)

@@ -2,7 +2,7 @@
 use Rattle.std.proofs.Common.{◌≡◌, ℕ, Bool, true, false, ◌&&◌, cond, List, [], ◌∷◌, drop, codes, Some, None, sym, ap}
 use Rattle.std.specs.declared.option.Option.{Option}
 use Rattle.std.specs.Str.{bytes_eq}
-use Rattle.rules_files.specs.commands.Commands.{OnFile, Resuming, NoCommand, Verb, is_path, verb_of, on_file, on_files, calls_of, on_calls, command_of}
+use Rattle.rules_files.specs.commands.Commands.{OnFile, Resuming, NoCommand, Verb, is_path, verb_of, on_file, calls_of, on_calls, command_of}
 
 module _ (verb : Verb) (path : List ℕ) where
   no_calls : (o : Option ℕ) → OnFile verb path ≡ on_calls o → ⊥

@@ -24,9 +24,9 @@ HasOneAnswer command = (content : List ℕ → Option (List ℕ)) (a b : Answer)
 -- a snapshot that a command loads is made of bytes
 abbrev pub LoadsBytes : Command → (List ℕ → Option (List ℕ)) → Type 0
 LoadsBytes (Resuming snapshot path) content = (bytes : List ℕ) → content snapshot ≡ Some bytes → IsBytes bytes
-LoadsBytes (OnFile verb path) content = Unit {0}
-LoadsBytes (Generating calls) content = Unit {0}
-LoadsBytes NoCommand content = Unit {0}
+LoadsBytes (OnFile _ _) _ = Unit {0}
+LoadsBytes (Generating _) _ = Unit {0}
+LoadsBytes NoCommand _ = Unit {0}
 
 -- and where it is known what it reads, it has one
 abbrev pub HasAnAnswer : Command → Type 0

@@ -1,5 +1,5 @@
 // Pieces of a file that are read and fed to a replay.
-ghost use Rattle.std.specs.Prelude.{◌≡◌, ◌≤◌, ℕ, List, false, IsErrOf, IfOk, Option};
+ghost use Rattle.std.specs.Prelude.{◌≤◌, ℕ, List, false, IsErrOf, IfOk, Option};
 ghost use Rattle.std.specs.Io.KnownBytes.{Consumes};
 ghost use Rattle.rules_files.specs.course.Course.{Course as PlainCourse};
 ghost use Rattle.rules_text.specs.streams.Causes.{HasCause};

@@ -1,5 +1,5 @@
 // A snapshot that is loaded, and a file that goes on from its state.
-ghost use Rattle.std.specs.Prelude.{◌≡◌, ◌⊎◌, ◌||◌, not, ℕ, List, Option, Some, Result, Contains, IfOk, OnOk, OnErr, IsErrOf};
+ghost use Rattle.std.specs.Prelude.{◌≡◌, ◌⊎◌, ◌||◌, not, Some, Result, Contains, IfOk, OnOk, OnErr, IsErrOf};
 ghost use Rattle.std.specs.Io.KnownBytes.{IsAtEnd};
 ghost use Rattle.rules_files.specs.commands.Commands.{Resuming};
 ghost use Rattle.rules_files.specs.course.Course.{Course as PlainCourse};

@@ -1,5 +1,5 @@
 // A replay that goes on as the bytes of its file come.
-ghost use Rattle.std.specs.Prelude.{◌≡◌, ◌≤◌, ◌<◌, ◌++◌, ◌^◌, ℕ, List, [], Bool, true, false, None, Some, Option, IfOk, OnOk};
+ghost use Rattle.std.specs.Prelude.{◌<◌, ◌++◌, ◌^◌, ℕ, List, [], Bool, false, None, Some, Option, IfOk, OnOk};
 ghost use Rattle.rules_files.specs.course.Course.{Course as PlainCourse};
 ghost use Rattle.rules_world.specs.world.Receipts.{Receipt};
 ghost use Rattle.mich_group.specs.course.Following.{Follows};

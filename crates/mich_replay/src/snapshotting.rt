@@ -1,5 +1,5 @@
 // A file that is replayed, and the snapshot of the state that it comes to.
-ghost use Rattle.std.specs.Prelude.{◌≡◌, ◌≤◌, ◌⊎◌, ℕ, List, [], false, Option, Contains, IfOk, OnOk, OnErr, IsErrOf};
+ghost use Rattle.std.specs.Prelude.{◌≡◌, ◌⊎◌, ℕ, List, Option, Contains, IfOk, OnOk, OnErr, IsErrOf};
 ghost use Rattle.std.specs.Io.KnownBytes.{IsAtEnd};
 ghost use Rattle.rules_files.specs.commands.Answers.{done_with};
 ghost use Rattle.rules_files.specs.commands.Commands.{OnFile, Snapshotting};

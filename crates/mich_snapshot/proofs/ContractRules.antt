@@ -13,7 +13,6 @@ use Rattle.rules_code.specs.typing.Scripts.{Script}
 use Rattle.rules_data.specs.types.Kind.{Kind}
 use Rattle.rules_data.specs.values.Forms.{is_ticket_amount}
 use Rattle.rules_data.specs.values.Tickets.{Identity, tickets}
-use Rattle.rules_data.specs.values.Val.{Val}
 use Rattle.rules_world.specs.world.World.{identity_order}
 use Rattle.rules_files.specs.snapshots.Reading.{storage_kind}
 use Rattle.rules_files.specs.snapshots.Rules.{amount_there, byte_order, has_storage, has_total, is_above, is_content, is_contract, is_hash, is_paid, is_stored, is_total}
@@ -22,7 +21,7 @@ use Rattle.rules_files.specs.snapshots.State.{State, Total}
 use Rattle.mich_saved.specs.KeptStates.{IsKeptContract}
 use Rattle.mich_saved.specs.Parts.{KeptContract}
 use Rattle.mich_saved.specs.Sound.{IsKept}
-use Rattle.mich_snapshot.specs.Holders.{is_left, is_whole_total, storage_rules}
+use Rattle.mich_snapshot.specs.Holders.{is_whole_total, storage_rules}
 use Rattle.mich_snapshot.proofs.Scripts.{storage_is}
 
 third_fails : (a b c d e : Bool) → c ≡ false → a && b && c && d && e ≡ false
@@ -44,7 +43,8 @@ same_kind : (t : List ℕ × Contract) (a : Kind) (typed : Script) → storage_k
 same_kind c a typed told e = let same : Some a ≡ Some typed.storage = sym told ∙ storage_is c.1.script typed e in cc
 
 -- a storage that isn't kept isn't one of its type
-pub no_storage : (s : State) (former : Option (List ℕ)) (c : List ℕ × Contract) (d : List ℕ × KeptContract) → IsKeptContract c d → d.1.storage ≡ None → is_contract s former c ≡ false
+pub no_storage : (s : State) (former : Option (List ℕ)) (c : List ℕ × Contract) (d : List ℕ × KeptContract) → IsKeptContract c d → d.1.storage ≡ None
+    → is_contract s former c ≡ false
 no_storage s former c d h none =
     let wrong : is_stored h.storage.0 c.1.storage ≡ false = subst (IsKept h.storage.0 c.1.storage) none h.storage.2 in
     third_fails (is_above byte_order former c.0) (is_hash s c.0) (has_storage (script c.1.script) c.1.storage) (is_paid s.pays c.1)
@@ -55,7 +55,8 @@ no_storage s former c d h none =
     by (fault l) e g = refl
     by (found typed) e g = ap (λ (a : Kind). is_stored a c.1.storage) (sym (same_kind c h.storage.0 typed h.storage.1 e)) ∙ g
 
-pub bad_hash : (s : State) (former : Option (List ℕ)) (c : List ℕ × Contract) → is_above byte_order former c.0 && is_hash s c.0 ≡ false → is_contract s former c ≡ false
+pub bad_hash : (s : State) (former : Option (List ℕ)) (c : List ℕ × Contract) → is_above byte_order former c.0 && is_hash s c.0 ≡ false
+    → is_contract s former c ≡ false
 bad_hash s former c h =
     first_fail (is_above byte_order former c.0) (is_hash s c.0) (has_storage (script c.1.script) c.1.storage) (is_paid s.pays c.1)
     (list_all (λ t. has_total s (identity_of t)) (tickets c.1.storage)) h
@@ -98,17 +99,19 @@ reordered a c i m b e h = ap (λ x. x && c && i && m && b && e) h ∙ by c
     by true = grouped i ∙ with_true (i && (m && b && e))
     by false = with_false (i && (m && b && e))
 
-pub whole_total : (s : State) (former : Option Identity) (t : Total) (n : ℕ) → pos n ≡ amount_there s t.identity → is_above identity_order former t.identity ≡ true
+pub whole_total : (s : State) (former : Option Identity) (t : Total) (n : ℕ) → pos n ≡ amount_there s t.identity
+    → is_above identity_order former t.identity ≡ true
     → is_total s former t ≡ is_whole_total s.contracts n t
 whole_total s former t n reckoned h =
     ap
     (λ x. is_above identity_order former t.identity && is_content t.identity && list_any (λ c. bytes_eq c.0 (hash_in t.identity.issuer)) s.contracts
     && is_ticket_amount t.minted && int_le (pos 0) t.burnt && int_eq x (t.minted -ℤ t.burnt)) (sym reckoned)
-    ∙ reordered (is_above identity_order former t.identity) (is_content t.identity) (list_any (λ c. bytes_eq c.0 (hash_in t.identity.issuer)) s.contracts) (is_ticket_amount t.minted)
+    ∙ reordered (is_above identity_order former t.identity) (is_content t.identity) (list_any (λ c. bytes_eq c.0 (hash_in t.identity.issuer)) s.contracts)
+    (is_ticket_amount t.minted)
     (int_le (pos 0) t.burnt) (int_eq (pos n) (t.minted -ℤ t.burnt)) h
 
 pub not_above : (s : State) (former : Option Identity) (t : Total) → is_above identity_order former t.identity ≡ false → is_total s former t ≡ false
 not_above s former t h =
     ap
-    (λ x. x && is_content t.identity && list_any (λ c. bytes_eq c.0 (hash_in t.identity.issuer)) s.contracts && is_ticket_amount t.minted && int_le (pos 0) t.burnt
-    && int_eq (amount_there s t.identity) (t.minted -ℤ t.burnt)) h
+    (λ x. x && is_content t.identity && list_any (λ c. bytes_eq c.0 (hash_in t.identity.issuer)) s.contracts && is_ticket_amount t.minted
+    && int_le (pos 0) t.burnt && int_eq (amount_there s t.identity) (t.minted -ℤ t.burnt)) h

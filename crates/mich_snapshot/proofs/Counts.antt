@@ -1,6 +1,6 @@
 -- What is found of tickets, as it is counted.
-use Rattle.std.proofs.Common.{◌≡◌, ℕ, ◌+◌, ◌-◌, ◌^◌, ◌<◌, min, nat_eq, Bool, true, false, cond, List, [], ◌∷◌, Option, Some, None, refl, sym, ap, subst, ◌∙◌, arith, eqb-true, eq-eqb, take, map, get_or, length, ◌++◌}
-use Rattle.std.specs.Prelude.{ℤ, pos, negsuc, ◌≤ℤ◌, FitsSigned, ◌||◌, ◌&&◌, unsigned_abs, option_map, if◌then◌else◌}
+use Rattle.std.proofs.Common.{◌≡◌, ℕ, ◌+◌, ◌-◌, ◌^◌, ◌<◌, min, nat_eq, Bool, true, false, cond, List, [], ◌∷◌, Option, Some, None, refl, sym, ap, subst, ◌∙◌, arith, eqb-true, eq-eqb, map, ◌++◌}
+use Rattle.std.specs.Prelude.{ℤ, pos, negsuc, ◌≤ℤ◌, FitsSigned, ◌||◌, unsigned_abs, option_map, if◌then◌else◌}
 use Rattle.std.specs.Int.{w128}
 use Rattle.std.specs.List.{list_any}
 use Rattle.std.specs.Cmp.{both_ways}
@@ -14,13 +14,13 @@ use Rattle.rules_code.specs.steps.Changes.{is_alike}
 use Rattle.rules_data.specs.values.Tickets.{Identity}
 use Rattle.rules_files.specs.snapshots.Rules.{has_total}
 use Rattle.rules_files.specs.snapshots.State.{State, Total}
-use Rattle.mich_term.specs.IdentityOrder.{identity_lawful, identity_order}
+use Rattle.mich_term.specs.IdentityOrder.{identity_lawful}
 use Rattle.mich_term.specs.TicketView.{identity}
 use Rattle.mich_term.specs.declared.ticket.TicketId.{TicketId}
 use Rattle.mich_tickets.specs.Lines.{by_identity, is_of}
 use Rattle.mich_snapshot.specs.Sums.{AreFound, IsFound, Sums, more, nothing}
 use Rattle.mich_tickets.proofs.ForCallers.{alike}
-use Rattle.mich_snapshot.proofs.Alikes.{alike_back, total_alike}
+use Rattle.mich_snapshot.proofs.Alikes.{alike_back}
 use Rattle.mich_tickets.proofs.ForCallers.{found_changed, found_inserted}
 
 -- ---- nothing yet
@@ -32,9 +32,6 @@ any_of j (k ∷ ks) = is_of j k || any_of j ks
 -- the keys are there, each with nothing
 abbrev pub AreNothing : List TicketId → Sums → Type 0
 AreNothing ks es = (j : Identity) → lookup (is_of j) es ≡ (if any_of j ks then Some 0 else None)
-
-pub none_nothing : AreNothing [] []
-none_nothing j = refl
 
 any_push : (j : Identity) (ks : List TicketId) (k : TicketId) → any_of j (ks ++ k ∷ []) ≡ (is_of j k || any_of j ks)
 any_push j [] k = refl

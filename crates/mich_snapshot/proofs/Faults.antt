@@ -4,7 +4,7 @@ use Rattle.std.specs.Prelude.{Result, Ok, Err}
 use Rattle.std.specs.List.{flat_map}
 use Rattle.std.proofs.lemmas.List.{length-append}
 use Rattle.rules_files.specs.snapshots.Rules.{Part, first_fault}
-use Rattle.mich_snapshot.specs.Tried.{Tries}
+use Rattle.mich_snapshot.specs.Tried.{Tries, TriesPart}
 use Rattle.mich_saved.specs.declared.errors.LoadError.{LoadError}
 use Rattle.mich_saved.specs.declared.errors.LoadError.TheVariants as errors
 
@@ -65,3 +65,8 @@ pub told_alike : (A B : Type 0) (place : ℕ) (ps : List Part) (e : LoadError) �
 told_alike A B place ps (errors.Unsound p) h = h
 told_alike A B place ps errors.Memory h = tt
 told_alike A B place ps (errors.BadForm p) h = h
+
+pub part_alike : (A B : Type 0) (holds : Bool) (place : ℕ) (P : A → Type 0) (Q : B → Type 0) (e : LoadError) → TriesPart holds place P (Err e) → TriesPart holds place Q (Err e)
+part_alike A B holds place P Q (errors.Unsound p) h = h
+part_alike A B holds place P Q errors.Memory h = tt
+part_alike A B holds place P Q (errors.BadForm p) h = h

@@ -1,5 +1,5 @@
 -- The 20 bytes of contracts, in a set.
-use Rattle.std.proofs.Common.{◌≡◌, ℕ, Bool, true, false, ◌||◌, List, [], ◌∷◌, ◌++◌, length, map, refl, ap, sym, subst, ◌∙◌, arith}
+use Rattle.std.proofs.Common.{◌≡◌, ℕ, Bool, true, false, ◌||◌, List, [], ◌∷◌, ◌++◌, length, refl, ap, sym, ◌∙◌, arith}
 use Rattle.std.specs.BTreeMap.{is_at}
 use Rattle.std.specs.BTreeSet.{insert_key}
 use Rattle.std.specs.Cmp.Lexicographic.{slice_cmp}
@@ -61,9 +61,6 @@ any_inserted q (x ∷ xs) k = by (by_bytes k x) refl (any_inserted q xs k)
 any_push : (q : List ℕ) (cs : List (List ℕ × Contract)) (c : List ℕ × Contract) → list_any (λ (d : List ℕ × Contract). bytes_eq d.0 q) (cs ++ c ∷ []) ≡ bytes_eq c.0 q || list_any (λ (d : List ℕ × Contract). bytes_eq d.0 q) cs
 any_push q [] c = refl
 any_push q (d ∷ ds) c = ap (λ b. bytes_eq d.0 q || b) (any_push q ds c) ∙ later (bytes_eq c.0 q) (bytes_eq d.0 q) (list_any (λ (d : List ℕ × Contract). bytes_eq d.0 q) ds)
-
-pub no_hashes : AreHashes [] []
-no_hashes q = refl
 
 pub hashes_go : (cs : List (List ℕ × Contract)) (c : List ℕ × Contract) (ks ls : List (List ℕ)) → AreHashes cs ks → ls ≡ insert_key by_bytes ks c.0 → AreHashes (cs ++ c ∷ []) ls
 hashes_go cs c ks ls h e q =

@@ -17,7 +17,7 @@ use Rattle.rules_code.specs.evaluation.Surroundings.{Contract}
 use Rattle.rules_world.specs.world.World.{Account}
 use Rattle.rules_files.specs.snapshots.State.{State}
 use Rattle.rules_files.specs.snapshots.Rules.{is_head, are_costs, are_sums, all_mutez, is_price, is_standard}
-use Rattle.mich_saved.specs.KeptStates.{IsKeptAccount, IsKeptState, IsPlacedContract, head_of}
+use Rattle.mich_saved.specs.KeptStates.{IsKeptAccount, IsKeptState, IsPlacedContract}
 use Rattle.mich_saved.specs.Parts.{Head, KeptContract, KeptState}
 use Rattle.mich_saved.specs.Sound.{Each}
 use Rattle.mich_snapshot.specs.Heads.{all_kept_mutez, front_parts, is_kept_head, are_kept_costs, are_kept_sums}
@@ -119,9 +119,6 @@ pub front_length : (s : State) → IsSpelt s → length (text_of (front_parts s)
 front_length s h =
     added 43 800 (head_spelling s) (costs_spelling s ++ (sums_spelling s ++ [])) (head_length s h)
     (added 784 16 (costs_spelling s) (sums_spelling s ++ []) (costs_length s h) (added 16 0 (sums_spelling s) [] (sums_length s) refl))
-
-pub head_fails : (s : State) (k : KeptState) → IsKeptState s k → is_kept_head k ≡ false → first_fault 0 (front_parts s) ≡ Some 0
-head_fails s k e h = fails 0 (part (head_spelling s) (is_head s)) (part (costs_spelling s) (are_costs s) ∷ part (sums_spelling s) (are_sums s) ∷ []) (head_kept s k e ∙ h)
 
 behind_head : (s : State) (k : KeptState) → IsSpelt s → IsKeptState s k → is_kept_head k ≡ true
     → first_fault 0 (front_parts s) ≡ first_fault 43 (part (costs_spelling s) (are_costs s) ∷ part (sums_spelling s) (are_sums s) ∷ [])

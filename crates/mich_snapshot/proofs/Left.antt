@@ -1,6 +1,5 @@
 -- What is left of a list, and what was taken.
-use Rattle.std.proofs.Common.{◌≡◌, ℕ, suc, ◌+◌, ◌<◌, add-one, drop-cons, Bool, true, false, ◌&&◌, List, [], ◌∷◌, ◌++◌, drop, take, get_or, length, map, refl, sym, ap, ◌∙◌}
-use Rattle.std.specs.List.{list_all}
+use Rattle.std.proofs.Common.{◌≡◌, ℕ, suc, ◌+◌, ◌<◌, add-one, drop-cons, List, [], ◌∷◌, ◌++◌, drop, take, get_or, length, map, sym, ap, ◌∙◌}
 use Rattle.std.proofs.lemmas.List.{map-append, take_more}
 
 -- the first that is left
@@ -10,14 +9,3 @@ first_left xs i x h e = drop-cons xs i x h ∙ ap (λ y. y ∷ drop (suc i) xs) 
 -- one more that was taken
 pub one_taken : {A B : Type 0} (f : A → B) (xs : List A) (i : ℕ) (x : A) → i < length xs → x ≡ get_or xs i x → map f (take (i + 1) xs) ≡ map f (take i xs) ++ f x ∷ []
 one_taken f xs i x h e = ap (map f) (take_more xs i x h ∙ ap (λ y. take i xs ++ y ∷ []) (sym e)) ∙ map-append f (take i xs) (x ∷ [])
-
--- the test of all, where the first that is left fails or passes
-pub left_fails : {A B : Type 0} (p : B → Bool) (f : A → B) (whole : Bool) (xs : List A) (i : ℕ) (x : A) → i < length xs → x ≡ get_or xs i x → whole ≡ list_all p (map f (drop i xs)) → p (f x) ≡ false
-    → whole ≡ false
-left_fails p f whole xs i x h e w fails =
-    w ∙ ap (λ l. list_all p (map f l)) (first_left xs i x h e) ∙ ap (λ b. b && list_all p (map f (drop (i + 1) xs))) fails
-
-pub left_passes : {A B : Type 0} (p : B → Bool) (f : A → B) (whole : Bool) (xs : List A) (i : ℕ) (x : A) → i < length xs → x ≡ get_or xs i x → whole ≡ list_all p (map f (drop i xs)) → p (f x) ≡ true
-    → whole ≡ list_all p (map f (drop (i + 1) xs))
-left_passes p f whole xs i x h e w passes =
-    w ∙ ap (λ l. list_all p (map f l)) (first_left xs i x h e) ∙ ap (λ b. b && list_all p (map f (drop (i + 1) xs))) passes

@@ -35,7 +35,8 @@ read_is (Err p) x h = absurd h
 judged_is : (bs : List ℕ) (s : plain.State) (o : Option ℕ) → read bs ≡ Ok s → first_fault 0 (parts s) ≡ o → loaded bs ≡ judged s o
 judged_is bs s o e h = ap of_read e ∙ ap (judged s) h
 
-pub rules_fail : (A : Type 0) (bs : List ℕ) (s : plain.State) (e : LoadError) → read bs ≡ Ok s → Tries {A = A} 0 (parts s) (Err e) → IsLoaded (loaded bs) (Err e)
+pub rules_fail : (A : Type 0) (bs : List ℕ) (s : plain.State) (e : LoadError) → read bs ≡ Ok s → Tries {A = A} 0 (parts s) (Err e)
+    → IsLoaded (loaded bs) (Err e)
 rules_fail A bs s (errors.Unsound p) e h = subst (λ x. IsLoaded x (Err (errors.Unsound p))) (sym (judged_is bs s (Some p) e h)) refl
 rules_fail A bs s errors.Memory e h = no_room (loaded bs)
 rules_fail A bs s (errors.BadForm p) e h = absurd h

@@ -1,12 +1,11 @@
 -- A state that is sound is loaded as what it is.
-use Rattle.std.proofs.Common.{◌≡◌, ℕ, Bool, List, [], ◌∷◌, length, map, refl, sym, ap, subst, ◌∙◌, arith}
-use Rattle.std.specs.Prelude.{Result, Ok, slice_get}
-use Rattle.std.specs.List.{All, AllByRecursion}
+use Rattle.std.proofs.Common.{◌≡◌, ℕ, List, [], ◌∷◌, length, map, sym, ap, subst, ◌∙◌}
+use Rattle.std.specs.Prelude.{Ok, slice_get}
+use Rattle.std.specs.List.{AllByRecursion}
 use Rattle.std.proofs.lemmas.List.{length-map}
 use Rattle.rules_data.specs.declared.gas.Kind.{Kind}
 use Rattle.rules_data.specs.gas.Kinds.{kinds_by_name, place}
 use Rattle.rules_data.specs.gas.Prices as rules
-use Rattle.rules_files.specs.snapshots.Course.{world_of}
 use Rattle.rules_files.specs.snapshots.Reading.{read}
 use Rattle.rules_files.specs.snapshots.Spelt.{IsSpelt}
 use Rattle.rules_files.specs.snapshots.State as plain
@@ -29,15 +28,15 @@ use Rattle.mich_world.specs.Standing.{StandsFor}
 use Rattle.mich_world.specs.declared.restoring.Saved.{Saved}
 use Rattle.mich_world.specs.declared.world.World.{World}
 use Rattle.mich_snapshot.specs.Loaded.{IsLoadedAs, IsReadOf, IsSoundState}
-use Rattle.mich_snapshot.specs.declared.state.State.{State}
 use Rattle.mich_snapshot.proofs.LoadedAs.{read_is}
 
 -- there are as many prices as kinds of cost
 pub prices_long : (p : plain.State) (ps : List Price) → IsSpelt p → map seen_price ps ≡ p.prices → length ps ≡ 98
 unfolding kinds_by_name
-prices_long p ps spelt e = sym (length-map seen_price ps) ∙ ap length e ∙ spelt.prices.0
+prices_long p ps spelt e = sym (length-map ps seen_price) ∙ ap length e ∙ spelt.prices.0
 
-pub loaded_as : (p : plain.State) (x : ReadState) (h : Head) (ps : List Price) (saved : Saved) (w : World) (costs : Costs) → IsReadOf p x → h ≡ x.head → IsSoundState p ps saved
+pub loaded_as : (p : plain.State) (x : ReadState) (h : Head) (ps : List Price) (saved : Saved) (w : World) (costs : Costs) → IsReadOf p x → h ≡ x.head
+    → IsSoundState p ps saved
     → StandsFor w (restored saved) → ((kind : Kind) → listed costs kind ≡ slice_get (map seen_price ps) (place kind))
     → IsLoadedAs p (record { world = w; costs = costs; groups = h.groups; costs_stood = h.costs_stood; started = h.started })
 loaded_as p x h ps saved w costs of e sound stands prices = record {
@@ -57,7 +56,8 @@ scripts_all : {A : Type 0} (f : A → Script) (xs : List A) → AllByRecursion I
 scripts_all f [] all = tt
 scripts_all f (x ∷ xs) all = (all.0, scripts_all f xs all.1)
 
-pub scripts_typed : {A B : Type 0} (f : A → Script) (g : B → Script) (xs : List A) (ys : List B) → map f xs ≡ map g ys → AllByRecursion (λ y. IsTypedScript (g y)) ys
+pub scripts_typed : {A B : Type 0} (f : A → Script) (g : B → Script) (xs : List A) (ys : List B) → map f xs ≡ map g ys
+    → AllByRecursion (λ y. IsTypedScript (g y)) ys
     → AllByRecursion (λ x. IsTypedScript (f x)) xs
 scripts_typed f g xs ys e all = scripts_all f xs (subst (AllByRecursion IsTypedScript) (sym e) (all_scripts g ys all))
 
@@ -67,7 +67,8 @@ pub record IsRead (bs : List ℕ) (x : ReadState) : Type 0 where
   pub is : read bs ≡ Ok plain_state
   pub of : IsReadOf plain_state x
 
-pub read_of : (bs : List ℕ) (x : ReadState) → IsBytes bs → IsReadAs (read bs) (Ok x) → ((s : plain.State) → read bs ≡ Ok s → ArePlaced s (state x)) → IsRead bs x
+pub read_of : (bs : List ℕ) (x : ReadState) → IsBytes bs → IsReadAs (read bs) (Ok x) → ((s : plain.State) → read bs ≡ Ok s → ArePlaced s (state x))
+    → IsRead bs x
 read_of bs x fits h placed =
     let r = read_is (read bs) x h in
     record { plain_state = r.0; is = r.1; of = record { spelt = read_have_spelling bs r.0 fits r.1; kept = r.2; placed = placed r.0 r.1 } }

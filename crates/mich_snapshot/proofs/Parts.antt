@@ -1,36 +1,29 @@
 -- The parts of a state as they are put.
-use Rattle.std.proofs.Common.{◌≡◌, ℕ, ℤ, pos, Bool, true, false, cond, ◌+◌, ◌≤◌, List, [], ◌∷◌, ◌++◌, map, length, drop, Some, None, Result, Ok, Err, refl, sym, ap, subst, ◌∙◌, append_assoc}
+use Rattle.std.proofs.Common.{◌≡◌, ℕ, ℤ, pos, Bool, true, false, ◌≤◌, List, [], ◌∷◌, ◌++◌, map, length, drop, Some, None, Ok, Err, refl, sym, ap, subst, ◌∙◌, append_assoc}
 use Rattle.std.specs.Prelude.{suc, is_some, unwrap_or, ◌<ℤ◌, if◌then◌else◌}
 use Rattle.std.specs.declared.option.Option.{Option}
 use Rattle.std.specs.Ordering.{nat_cmp}
 use Rattle.std.specs.Cmp.Lexicographic.{slice_cmp}
 use Rattle.std.specs.Int.{w64}
-use Rattle.std.specs.List.{AllByRecursion, flat_map, list_any}
+use Rattle.std.specs.List.{AllByRecursion, flat_map}
 use Rattle.std.specs.List.Sorted.{IsStrictlySortedBy}
 use Rattle.std.specs.Map.{keys_of}
 use Rattle.std.proofs.Math.ListN.{drop_of_length-le}
-use Rattle.std.proofs.lemmas.Grind.{flat_map-append}
 use Rattle.rules_text.specs.nodes.Tree.{Tree}
 use Rattle.rules_code.specs.evaluation.Surroundings.{Contract as PlainContract}
 use Rattle.rules_data.specs.values.Tickets.{Identity}
-use Rattle.rules_world.specs.world.Holdings.{identities, minted_ever, burnt_ever}
-use Rattle.rules_world.specs.world.World.{World as PlainWorld, Account, account_or_none, account_at as plain_account_at}
+use Rattle.rules_world.specs.world.Holdings.{identities, minted_ever}
+use Rattle.rules_world.specs.world.World.{World as PlainWorld, Account, account_at as plain_account_at}
 use Rattle.rules_files.specs.snapshots.Course.{total_of}
-use Rattle.rules_files.specs.snapshots.Loading.{bodies, is_long, nodes_in, saved}
-use Rattle.rules_files.specs.snapshots.Spelling.{account_spelling, contract_spelling, costs_spelling, counted, eight, four, head_spelling, holding_spelling, magic, mark, profile, signed, state_spelling, sums_spelling, total_spelling}
-use Rattle.rules_files.specs.snapshots.State.{Total}
-use Rattle.laws_world.specs.lines.Laws.{told}
+use Rattle.rules_files.specs.snapshots.Spelling.{account_spelling, contract_spelling, costs_spelling, counted, eight, four, head_spelling, magic, profile, signed, state_spelling, sums_spelling, total_spelling}
 use Rattle.mich_base.specs.View.{tree}
 use Rattle.mich_bigmap.specs.Bases.{Bases}
 use Rattle.mich_instr.specs.View.{instr_step, node_of, script_node, script_step, view_step}
 use Rattle.mich_instr.specs.declared.instr.Script.{Script, out-Script}
 use Rattle.mich_instr.specs.declared.instr.Instr.TheFolds.{fold_out-Script}
 use Rattle.mich_instr.specs.Code.{Code, ScriptCode, ViewCode}
-use Rattle.mich_tickets.specs.Books.{Books}
-use Rattle.mich_tickets.specs.Lines.{Lines, by_identity}
-use Rattle.mich_tickets.specs.Sums.{burnt_of, minted_of}
-use Rattle.mich_world.specs.Holders.{Holders, account_at, contract_at}
-use Rattle.mich_world.specs.Standing.{StandsFor, contract_in, plain, purse}
+use Rattle.mich_world.specs.Holders.{account_at, contract_at}
+use Rattle.mich_world.specs.Standing.{StandsFor, contract_in, plain}
 use Rattle.mich_world.specs.World.{World}
 use Rattle.mich_world.specs.declared.contract.Contract.{Contract}
 use Rattle.mich_report.specs.Amounts.{Amounts, by_print, seen}
@@ -122,17 +115,20 @@ contracts_text v keys = flat_map (contract_text_at v) keys
 abbrev pub contracts_nodes : World → List (List ℕ) → List Tree
 contracts_nodes v keys = flat_map (contract_nodes_at v) keys
 
-alike : {A : Type 0} (f : List ℕ × PlainContract → List A) (bs : Bases) (cs : List (List ℕ × Contract)) → AllByRecursion (λ c. f (c.0, plain bs c.1) ≡ f (contract_in bs c)) cs
+alike : {A : Type 0} (f : List ℕ × PlainContract → List A) (bs : Bases) (cs : List (List ℕ × Contract))
+    → AllByRecursion (λ c. f (c.0, plain bs c.1) ≡ f (contract_in bs c)) cs
 alike f bs [] = tt
 alike f bs (c ∷ cs) = (refl, alike f bs cs)
 
-over_plain : {A : Type 0} (f : List ℕ × PlainContract → List A) (bs : Bases) (cs : List (List ℕ × Contract)) → flat_map (λ c. f (contract_in bs c)) cs ≡ flat_map f (map (contract_in bs) cs)
+over_plain : {A : Type 0} (f : List ℕ × PlainContract → List A) (bs : Bases) (cs : List (List ℕ × Contract))
+    → flat_map (λ c. f (contract_in bs c)) cs ≡ flat_map f (map (contract_in bs) cs)
 over_plain f bs [] = refl
 over_plain {A = A} f bs (c ∷ cs) = ap (λ (l : List A). f (contract_in bs c) ++ l) (over_plain f bs cs)
 
 -- what stands for the keys of all contracts is what stands for the contracts of the world
 contracts_are : {A : Type 0} (f : List ℕ × PlainContract → List A) (v : World) (w : PlainWorld) → IsAtRest v w
-    → flat_map (λ hash. on_list (λ c. f (hash, plain v.store.bases.present c)) (contract_at v.funds.present hash)) (keys_of v.funds.present.contracts) ≡ flat_map f w.contracts
+    → flat_map (λ hash. on_list (λ c. f (hash, plain v.store.bases.present c)) (contract_at v.funds.present hash)) (keys_of v.funds.present.contracts)
+    ≡ flat_map f w.contracts
 contracts_are f v w r =
     keys_lists (contract_at v.funds.present) (λ hash c. f (hash, plain bs c)) (λ c. f (contract_in bs c)) (λ c. c) cs (each_found cs sorted) (alike f bs cs)
     ∙ over_plain f bs cs
@@ -211,7 +207,3 @@ not_saved text old new true errors.TooLong h = tt
 not_saved text old new false errors.TooLong h = absurd cc
 not_saved text old new true errors.Memory h = tt
 not_saved text old new false errors.Memory h = tt
-
-pub memory_saved : (o : Option (List ℕ)) → IsSaved o (Err errors.Memory)
-memory_saved (Some text) = tt
-memory_saved None = tt

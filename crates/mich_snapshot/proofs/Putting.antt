@@ -1,5 +1,7 @@
 -- What is put behind what was there, and which binary forms in it are too long.
-use Rattle.std.proofs.Common.{◌≡◌, ◌<◌, ◌≤◌, ◌+◌, ◌-◌, ℕ, suc, Bool, true, false, ◌||◌, List, [], ◌∷◌, ◌++◌, length, get_or, reverse, take, Some, None, Result, Ok, Err, refl, sym, ap, subst, ◌∙◌, append_assoc, append-nil, arith}
+use Rattle.std.proofs.Common.{◌≡◌, ◌<◌, ◌≤◌, ◌+◌, ℕ, suc, Bool, true, false, ◌||◌, List, [], ◌∷◌, ◌++◌, length, get_or, drop, reverse, take, Some, None, Result, Ok, Err, refl, sym, ap, subst, ◌∙◌, append_assoc, append-nil, arith}
+use denote.Param.Weighed.{most}
+use Rattle.std.proofs.lemmas.List.{reverse-reverse}
 use Rattle.std.specs.Prelude.{OnOk, if◌then◌else◌, option_map}
 use Rattle.std.specs.declared.option.Option.{Option}
 use Rattle.std.proofs.lemmas.List.Folds.{list_any-append}
@@ -20,7 +22,7 @@ use Rattle.mich_term.proofs.ForCallers.{big_is}
 use Rattle.mich_snapshot.specs.declared.errors.SaveError.{SaveError}
 use Rattle.mich_snapshot.specs.declared.errors.SaveError.TheVariants as errors
 use Rattle.mich_snapshot.specs.Puts.{IsPut}
-use Rattle.mich_snapshot.proofs.Fits.{turned_more}
+use Rattle.mich_snapshot.proofs.Fits.{turned_at}
 
 -- ---- texts
 
@@ -79,7 +81,8 @@ put_then a b c x y ts us (Err errors.TooLong) p q h = second_of (any_long (ts ++
 put_then a b c x y ts us (Err errors.Memory) p q h = tt
 
 -- the first of what is left isn't put
-pub put_stops : (a b c d x y : List ℕ) (ts us : List Tree) (w : Bool) (e : SaveError) → IsPut a b x (any_long ts) (Err e) → any_long (ts ++ us) ≡ w → IsPut c d y w (Err e)
+pub put_stops : (a b c d x y : List ℕ) (ts us : List Tree) (w : Bool) (e : SaveError)
+    → IsPut a b x (any_long ts) (Err e) → any_long (ts ++ us) ≡ w → IsPut c d y w (Err e)
 put_stops a b c d x y ts us w errors.TooLong h s = long_now ts us w h s
 put_stops a b c d x y ts us w errors.Memory h s = tt
 
@@ -89,7 +92,8 @@ put_other a b c d x y w errors.TooLong h = h
 put_other a b c d x y w errors.Memory h = tt
 
 -- the first of the forms isn't put
-pub put_fails_at : (a b c d x y : List ℕ) (t : Tree) (us : List Tree) (e : SaveError) → IsPut a b x (is_long t) (Err e) → IsPut c d y (any_long (t ∷ us)) (Err e)
+pub put_fails_at : (a b c d x y : List ℕ) (t : Tree) (us : List Tree) (e : SaveError)
+    → IsPut a b x (is_long t) (Err e) → IsPut c d y (any_long (t ∷ us)) (Err e)
 put_fails_at a b c d x y t us errors.TooLong h = ap (λ (q : Bool). q || any_long us) h
 put_fails_at a b c d x y t us errors.Memory h = tt
 
@@ -152,8 +156,13 @@ node_coded t l h = at (is_long t) h
 
 -- ---- lists, whose heads are last
 
--- what is left to the front of a place is the value before it, and what is left to the front of that
-pub turned_back : (items : List Value) (i : ℕ) (x : Value) → 0 < i → i ≤ length items → x ≡ get_or items (i - 1) x → reverse (take i items) ≡ x ∷ reverse (take (i - 1) items)
-turned_back items i x p h e =
-    let k : i - 1 + 1 ≡ i = omega arith in
-    ap (λ (n : ℕ). reverse (take n items)) (sym k) ∙ turned_more items (i - 1) x (omega arith) e
+-- what is measured of a value is no more than the most of all
+one_most : (h : Value → ℕ) (vs ws : List Value) (x : Value) → h x ≤ most h (vs ++ x ∷ ws)
+one_most h [] ws x = omega arith
+one_most h (v ∷ vs) ws x = let rest : h x ≤ most h (vs ++ x ∷ ws) = one_most h vs ws x in omega arith
+
+pub turned_most : (h : Value → ℕ) (values items : List Value) (i : ℕ) (x : Value)
+    → items ≡ reverse values → i < length items → x ≡ get_or items i x → h x ≤ most h values
+turned_most h values items i x t p e =
+    subst (λ (vs : List Value). h x ≤ most h vs) (sym (turned_at items i x p e) ∙ ap reverse t ∙ reverse-reverse values)
+    (one_most h (reverse (drop (i + 1) items)) (reverse (take i items)) x)

@@ -73,7 +73,8 @@ least_minted m h = grind (arith, ints)
 no_more_burnt : (m b a : ℤ) (n : ℕ) → a ≡ m -ℤ b → pos n ≡ a → b ≤ℤ m
 no_more_burnt m b a n e g = omega (arith, ints)
 
-totals_are : (p : State) (found : Identity → ℕ) (ts : List (TicketId × Totals)) → IsReckoned p found → All (IsSoundTotal p) (map total_of ts) → AllByRecursion (λ t. AreTotals t.1) ts
+totals_are : (p : State) (found : Identity → ℕ) (ts : List (TicketId × Totals)) → IsReckoned p found → All (IsSoundTotal p) (map total_of ts)
+    → AllByRecursion (λ t. AreTotals t.1) ts
 totals_are p found [] reckoned all = tt
 totals_are p found (t ∷ ts) reckoned all =
     let here : IsSoundTotal p (total_of t) = All-head (IsSoundTotal p) (total_of t) (map total_of ts) all in (
@@ -89,7 +90,8 @@ pub may_be_restored : (p : State) (found : Identity → ℕ) (saved : Saved) →
     → AllByRecursion IsAlone saved.contracts → IsRestorable saved
 may_be_restored p found saved spelt sound reckoned h alone =
     let totals : All (IsSoundTotal p) p.tickets =
-    each_holds total_spelling (is_total p) (λ t. t.identity) IsSpeltTotal (IsSoundTotal p) (λ former t _ g. total_parts p former t g) None p.tickets spelt.tickets.1 (sound_parts p sound).tickets in
+    each_holds total_spelling (is_total p) (λ t. t.identity) IsSpeltTotal (IsSoundTotal p)
+    (λ former t _ g. total_parts p former t g) None p.tickets spelt.tickets.1 (sound_parts p sound).tickets in
     record {
       good = subst (λ (w : World). IsGood w []) (sym (world_is p saved h)) (sound_worlds_are_good p spelt sound);
       totals = totals_are p found saved.totals reckoned (subst (λ (ts : List Total). All (IsSoundTotal p) ts) (sym h.totals) totals);

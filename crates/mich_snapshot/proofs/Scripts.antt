@@ -4,7 +4,7 @@ use Rattle.rules_text.specs.nodes.Tree.{Tree, int, str, bytes, prim, seq, Trees,
 use Rattle.rules_text.specs.nodes.Primitives.{primitive_of_name}
 use Rattle.rules_text.specs.declared.nodes.Primitive.{Primitive}
 use Rattle.rules_text.specs.declared.nodes.Primitive.TheVariants as p
-use Rattle.rules_data.specs.types.Kind.{Kind, nodes}
+use Rattle.rules_data.specs.types.Kind.{Kind}
 use Rattle.rules_data.specs.types.Kind as k
 use Rattle.rules_data.specs.types.Attributes.{storable}
 use Rattle.rules_data.specs.types.Reading.{Former, simple_type, operation_type, one_argument, two_arguments, pair_type, former_of_name, asked_of_argument, of_argument, asked_of_first, asked_of_second, of_arguments, any_kind, Read, good, bad, Part, part, with_part, on_good, paired, applied, typed, parts, Reading, a_type, bad_type, too_large, limited, type_at}
@@ -87,12 +87,6 @@ mutual
   parts_alike : (at bt : ℕ) (ts : Trees) → AlikeParts (parts at ts) (parts bt ts)
   parts_alike at bt none = tt
   parts_alike at bt (more t ts) = (typed_alike at bt t, parts_alike (at + size t) (bt + size t) ts)
-
-limited_alike : (x y : Read) (a : Kind) → Alike x y → limited x ≡ a_type a → limited y ≡ a_type a
-limited_alike (good b) (good c) a e h = sym (ap (λ (d : Kind). limited (good d)) e) ∙ h
-limited_alike (bad l) (bad m) a e h = absurd cc
-limited_alike (good b) (bad m) a e h = absurd e
-limited_alike (bad l) (good c) a e h = absurd e
 
 storable_by : (b : Bool) (c a : Kind) (at : ℕ) → cond b (found c) (fault at) ≡ found a → cond b (Some c) None ≡ Some a
 storable_by true c a at e = cc

@@ -1,15 +1,13 @@
 -- What was read of a state is tried stage by stage.
-use Rattle.std.proofs.Common.{◌≡◌, ℕ, ◌+◌, List, [], ◌∷◌, length, map, Some, None, refl, sym, ap, ◌∙◌}
-use Rattle.std.specs.Prelude.{Option, if◌then◌else◌}
-use Rattle.std.specs.List.{All, AllByRecursion, flat_map}
+use Rattle.std.proofs.Common.{◌≡◌, ℕ, List, [], ◌∷◌, map, Some, None, refl, sym, ap, ◌∙◌}
+use Rattle.std.specs.Prelude.{ℤ, Option, if◌then◌else◌}
+use Rattle.std.specs.List.{All, AllByRecursion}
 use Rattle.std.proofs.lemmas.List.Elements.{All-head, All-tail}
 use Rattle.rules_code.specs.evaluation.Surroundings.{Contract}
 use Rattle.rules_files.specs.snapshots.Rules.{first_fault, parts}
-use Rattle.rules_files.specs.snapshots.Spelling.{account_spelling, contract_spelling}
 use Rattle.rules_files.specs.snapshots.Spelt.{IsSpeltContract}
 use Rattle.rules_files.specs.snapshots.State.{State, Total}
 use Rattle.mich_instr.specs.Scripts.{IsTypedScript}
-use Rattle.mich_gas.specs.declared.costs.Price.{Price}
 use Rattle.mich_saved.specs.KeptStates.{IsKeptTotal, IsPlacedContract}
 use Rattle.mich_saved.specs.Parts as kept
 use Rattle.mich_saved.specs.Shown.{contract, total}
@@ -18,7 +16,11 @@ use Rattle.mich_saved.specs.declared.parts.ReadContract.{ReadContract}
 use Rattle.mich_saved.specs.declared.parts.ReadTotal.{ReadTotal}
 use Rattle.mich_saved.specs.declared.reading.ReadState.{ReadState}
 use Rattle.mich_world.specs.Restoring.{IsAlone, account_of, contract_of}
+use Rattle.mich_term.specs.declared.ticket.TicketId.{TicketId}
+use Rattle.mich_tickets.specs.declared.totals.Totals.{Totals}
 use Rattle.mich_world.specs.declared.restoring.Saved.{Saved}
+use Rattle.mich_world.specs.declared.restoring.SavedAccount.{SavedAccount}
+use Rattle.mich_world.specs.declared.restoring.SavedContract.{SavedContract}
 use Rattle.mich_snapshot.specs.Holders.{AreOfSpelt, IsReckoned, total_of}
 use Rattle.mich_snapshot.specs.Loaded.{IsReadOf, IsSoundState}
 use Rattle.mich_snapshot.specs.Sums.{found_in}
@@ -31,7 +33,8 @@ tickets_kept (t ∷ ts) (u ∷ us) h = λ i. sym h.0 i ∷ tickets_kept ts us h.
 tickets_kept [] (u ∷ us) h = absurd h
 tickets_kept (t ∷ ts) [] h = absurd h
 
-pub contracts_spelt : (cs : List (List ℕ × Contract)) (ds : List ReadContract) → All IsSpeltContract cs → Each IsPlacedContract cs (map contract ds) → AreOfSpelt ds
+pub contracts_spelt : (cs : List (List ℕ × Contract)) (ds : List ReadContract) → All IsSpeltContract cs → Each IsPlacedContract cs (map contract ds)
+    → AreOfSpelt ds
 contracts_spelt [] [] all h = tt
 contracts_spelt (c ∷ cs) (d ∷ ds) all h =
     ((c, All-head IsSpeltContract c cs all, h.0), contracts_spelt cs ds (All-tail IsSpeltContract c cs all) h.1)
@@ -46,6 +49,20 @@ pub record IsMadeOf (read : ReadState) (saved : Saved) : Type 0 where
   pub rate : saved.rate ≡ (if read.head.pays then Some read.head.rate else None)
   pub fees : saved.fees ≡ read.fees
   pub burned : saved.burned ≡ read.storage_burn
+
+-- what is saved of what was read, at a moment
+abbrev pub made_of : ReadState → ℤ → Option ℕ → List SavedAccount → List SavedContract → List (TicketId × Totals) → Saved
+made_of read moment rate accounts contracts totals = record {
+  chain = read.head.moment.chain;
+  level = read.head.moment.level;
+  moment = moment;
+  rate = rate;
+  fees = read.fees;
+  burned = read.storage_burn;
+  accounts = accounts;
+  contracts = contracts;
+  totals = totals;
+}
 
 -- the parts are saved as they are
 pub record AreSaved (s : State) (saved : Saved) : Type 0 where
@@ -68,7 +85,8 @@ saved_of s read saved of made are =
       totals = are.totals;
     }
 
-pub state_is_sound : (s : State) (read : ReadState) (saved : Saved) → IsReadOf s read → IsMadeOf read saved → AreSaved s saved → IsReckoned s (found_in s.accounts s.contracts)
+pub state_is_sound : (s : State) (read : ReadState) (saved : Saved) → IsReadOf s read → IsMadeOf read saved → AreSaved s saved
+    → IsReckoned s (found_in s.accounts s.contracts)
     → first_fault 0 (parts s) ≡ None → AllByRecursion IsAlone saved.contracts → AllByRecursion (λ c. IsTypedScript c.contract.script) saved.contracts
     → IsSoundState s read.prices saved
 state_is_sound s read saved of made are reckoned holds alone typed =

@@ -1,5 +1,5 @@
 -- Tickets and holdings are found one by one.
-use Rattle.std.proofs.Common.{◌≡◌, ℕ, Bool, true, false, ◌&&◌, List, [], ◌∷◌, ◌++◌, Option, Some, None, refl, sym, ap, subst, ◌∙◌}
+use Rattle.std.proofs.Common.{◌≡◌, ℕ, Bool, true, false, ◌&&◌, List, [], ◌∷◌, Option, Some, None, refl, sym, ap, subst, ◌∙◌}
 use Rattle.std.specs.Prelude.{ℤ}
 use Rattle.rules_code.specs.steps.Changes.{identity_of}
 use Rattle.rules_data.specs.values.Tickets.{Held, Identity}
@@ -49,19 +49,23 @@ pub record HoldingsLeft (s : State) (found : Identity → ℕ) (all : List (Iden
 pub holdings_start : (s : State) (found : Identity → ℕ) (all : List (Identity × ℤ)) (es : Sums) → AreFound s found es → HoldingsLeft s found all None all es
 holdings_start s found all es h = record { now = found; sums = h; test = refl; adds = refl }
 
-pub holdings_go : (s : State) (found : Identity → ℕ) (all : List (Identity × ℤ)) (former : Option Identity) (h : Identity × ℤ) (left : List (Identity × ℤ)) (es fs : Sums)
-    → HoldingsLeft s found all former (h ∷ left) es → is_holding s former h ≡ true → ((f : Identity → ℕ) → AreFound s f es → AreFound s (more f h.0 h.1) fs)
+pub holdings_go : (s : State) (found : Identity → ℕ) (all : List (Identity × ℤ)) (former : Option Identity) (h : Identity × ℤ) (left : List (Identity × ℤ)) (es fs : Sums) (b : Bool)
+    → b ≡ true → HoldingsLeft s found all former (h ∷ left) es → ((f : Identity → ℕ) → AreFound s f es → Finds s (is_holding s former h) (more f h.0 h.1) fs b)
     → HoldingsLeft s found all (Some h.0) left fs
-holdings_go s found all former h left es fs w holds finds = record {
-  now = more w.now h.0 h.1;
-  sums = finds w.now w.sums;
-  test = w.test ∙ ap (λ x. x && are_holdings s (Some h.0) left) holds;
-  adds = w.adds;
-}
+holdings_go s found all former h left es fs b said w finds =
+    let told = finds w.now w.sums in record {
+      now = more w.now h.0 h.1;
+      sums = told.1 said;
+      test = w.test ∙ ap (λ x. x && are_holdings s (Some h.0) left) (sym told.0 ∙ said);
+      adds = w.adds;
+    }
 
-pub holdings_stop : (s : State) (found g : Identity → ℕ) (all : List (Identity × ℤ)) (former : Option Identity) (h : Identity × ℤ) (left : List (Identity × ℤ)) (es fs : Sums)
-    → HoldingsLeft s found all former (h ∷ left) es → is_holding s former h ≡ false → Finds s (are_holdings s None all) g fs false
-holdings_stop s found g all former h left es fs w fails = (sym (w.test ∙ ap (λ x. x && are_holdings s (Some h.0) left) fails), λ e. absurd cc)
+pub holdings_stop : (s : State) (found g : Identity → ℕ) (all : List (Identity × ℤ)) (former : Option Identity) (h : Identity × ℤ) (left : List (Identity × ℤ)) (es fs : Sums) (b : Bool)
+    → b ≡ false → HoldingsLeft s found all former (h ∷ left) es → ((f : Identity → ℕ) → AreFound s f es → Finds s (is_holding s former h) (more f h.0 h.1) fs b)
+    → Finds s (are_holdings s None all) g fs false
+holdings_stop s found g all former h left es fs b wrong w finds =
+    let told = finds w.now w.sums in
+    (sym (w.test ∙ ap (λ x. x && are_holdings s (Some h.0) left) (sym told.0 ∙ wrong)), λ e. absurd cc)
 
 pub holdings_end : (s : State) (found : Identity → ℕ) (all : List (Identity × ℤ)) (former : Option Identity) (es : Sums) → HoldingsLeft s found all former [] es
     → Finds s (are_holdings s None all) (more_held found all) es true

@@ -1,14 +1,8 @@
 -- The rules of a total, one after the other.
-use Rattle.std.proofs.Common.{◌≡◌, ℕ, Bool, true, false, ◌&&◌, List, [], ◌∷◌, ◌++◌, map, append_assoc, Option, None, refl, sym, ap, ◌∙◌, arith}
-use Rattle.std.specs.Prelude.{ℤ, pos, ◌-ℤ◌, ◌≤ℤ◌, ◌<ℤ◌, int_le}
-use Rattle.std.specs.Ordering.{int_eq}
-use Rattle.std.proofs.lemmas.Int.{ints}
+use Rattle.std.proofs.Common.{◌≡◌, ℕ, Bool, true, false, ◌&&◌, List, [], ◌∷◌, ◌++◌, map, append_assoc, refl, ap, ◌∙◌}
 use Rattle.std.proofs.lemmas.List.{map-append}
 use Rattle.rules_code.specs.evaluation.Surroundings.{Contract}
-use Rattle.rules_data.specs.values.Forms.{is_ticket_amount}
-use Rattle.rules_data.specs.values.Tickets.{Identity}
 use Rattle.rules_files.specs.snapshots.Rules.{is_content}
-use Rattle.rules_text.specs.nodes.Limits.{most_tickets}
 use Rattle.rules_files.specs.snapshots.State.{Total}
 use Rattle.mich_saved.specs.Shown.{total}
 use Rattle.mich_saved.specs.declared.parts.ReadTotal.{ReadTotal}
@@ -20,35 +14,15 @@ none_after : (a : Bool) → a && false ≡ false
 none_after true = refl
 none_after false = refl
 
-pub none_minted : (n : ℕ) (t : Total) → t.minted <ℤ pos 1 → is_left n t ≡ false
-none_minted n t h =
-    let few : int_le (pos 1) t.minted ≡ false = grind (arith, ints) in
-    ap (λ x. (x && int_le t.minted (pos most_tickets)) && int_le (pos 0) t.burnt && int_eq (pos n) (t.minted -ℤ t.burnt)) few
-
-pub burnt_below : (n : ℕ) (t : Total) → t.burnt <ℤ pos 0 → is_left n t ≡ false
-burnt_below n t h =
-    let few : int_le (pos 0) t.burnt ≡ false = grind (arith, ints) in
-    ap (λ x. is_ticket_amount t.minted && x && int_eq (pos n) (t.minted -ℤ t.burnt)) few ∙ none_after (is_ticket_amount t.minted)
-
-pub more_burnt : (n : ℕ) (t : Total) → t.minted <ℤ t.burnt → is_left n t ≡ false
-more_burnt n t h =
-    let other : int_eq (pos n) (t.minted -ℤ t.burnt) ≡ false = grind (arith, ints) in
-    ap (λ x. is_ticket_amount t.minted && int_le (pos 0) t.burnt && x) other
-    ∙ ap (λ x. is_ticket_amount t.minted && x) (none_after (int_le (pos 0) t.burnt))
-    ∙ none_after (is_ticket_amount t.minted)
-
-pub left_is : (n : ℕ) (t : Total) → is_ticket_amount t.minted ≡ true → pos 0 ≤ℤ t.burnt → is_left n t ≡ int_eq (pos n) (t.minted -ℤ t.burnt)
-left_is n t m h =
-    let positive : int_le (pos 0) t.burnt ≡ true = grind (arith, ints) in
-    (λ k. m k && positive k && int_eq (pos n) (t.minted -ℤ t.burnt))
-
 -- ---- a whole total
 
 pub not_issued : (cs : List (List ℕ × Contract)) (n : ℕ) (t : Total) → is_issued cs t.identity.issuer ≡ false → is_whole_total cs n t ≡ false
 not_issued cs n t h = ap (λ x. x && is_left n t && is_content t.identity) h
 
 pub not_left : (cs : List (List ℕ × Contract)) (n : ℕ) (t : Total) → is_left n t ≡ false → is_whole_total cs n t ≡ false
-not_left cs n t h = ap (λ x. is_issued cs t.identity.issuer && x && is_content t.identity) h ∙ none_after (is_issued cs t.identity.issuer)
+not_left cs n t h =
+    ap (λ x. is_issued cs t.identity.issuer && x && is_content t.identity) h
+    ∙ ap (λ x. x && is_content t.identity) (none_after (is_issued cs t.identity.issuer))
 
 pub content_decides : (cs : List (List ℕ × Contract)) (n : ℕ) (t : Total) → is_issued cs t.identity.issuer ≡ true → is_left n t ≡ true → is_whole_total cs n t ≡ is_content t.identity
 content_decides cs n t h g = λ k. h k && g k && is_content t.identity

@@ -1,6 +1,6 @@
 -- Accounts, contracts and tickets are tried one by one.
 use Rattle.std.proofs.Common.{◌≡◌, ℕ, ◌+◌, length, Bool, true, false, List, [], ◌∷◌, ◌++◌, map, Option, Some, None, refl, sym, ap, subst, ◌∙◌}
-use Rattle.std.specs.Prelude.{Ok, Err, ◌||◌, option_map}
+use Rattle.std.specs.Prelude.{Ok, Err, ◌||◌}
 use Rattle.std.specs.List.{All, AllByRecursion, list_any}
 use Rattle.std.proofs.lemmas.List.Elements.{All-head, All-tail}
 use Rattle.rules_code.specs.evaluation.Surroundings.{Contract}
@@ -28,7 +28,7 @@ use Rattle.mich_world.specs.declared.restoring.SavedContract.{SavedContract}
 use Rattle.mich_snapshot.specs.Holders.{AreAccounts, AreContracts, TriesAccount, TriesContract, total_of}
 use Rattle.mich_snapshot.specs.Sums.{AreFound, Sums, more_account, more_contract}
 use Rattle.mich_snapshot.specs.Tried.{Tries, TriesPart}
-use Rattle.mich_snapshot.proofs.Walks.{OnWay, Next, ends, goes_on, next_is, starts, stops}
+use Rattle.mich_snapshot.proofs.Walks.{OnWay, ends, goes_on, next_is, starts, stops}
 
 -- what is so of each is so with one more
 pub all_pushed : {A : Type 0} (P : A → Type 0) (xs ys : List A) (x : A) → ys ≡ xs ++ x ∷ [] → AllByRecursion P xs → P x → AllByRecursion P ys
@@ -76,8 +76,8 @@ accounts_go s found place former x rest saved after z es fs w tries pushed =
       left = n.xs;
       now = more_account w.now n.x;
       way = subst
-          (λ (a : List ℕ × Account). OnWay account_spelling (is_account s) account_key SameAccount account_of more_account place s.accounts found (Some a.0) (map account rest) after _ n.xs
-          (more_account w.now n.x))
+          (λ (a : List ℕ × Account). OnWay account_spelling (is_account s) account_key SameAccount account_of more_account place s.accounts found (Some a.0) (map account rest) after
+          (x.place + length (account_spelling n.x)) n.xs (more_account w.now n.x))
           n.is
           (goes_on account_spelling (is_account s) account_key SameAccount account_of more_account place s.accounts found former (account x) (map account rest) saved after w.now z n
           tried.0 tried.1.0 pushed);
@@ -129,12 +129,12 @@ contracts_go s found place former x rest saved after z es fs w tries pushed =
     let n = next_is contract_spelling (is_contract s) contract_key IsKeptContract contract_of more_contract place s.contracts found former (contract x) (map contract rest) saved w.here w.left w.now w.way in
     let tried = tries w.now n.x w.sums n.is in
     record {
-      here = _;
+      here = x.place + length (contract_spelling n.x);
       left = n.xs;
       now = more_contract w.now n.x;
       way = subst
-          (λ (k : List ℕ). OnWay contract_spelling (is_contract s) contract_key IsKeptContract contract_of more_contract place s.contracts found (Some k) (map contract rest) after _ n.xs
-          (more_contract w.now n.x))
+          (λ (k : List ℕ). OnWay contract_spelling (is_contract s) contract_key IsKeptContract contract_of more_contract place s.contracts found (Some k) (map contract rest) after
+          (x.place + length (contract_spelling n.x)) n.xs (more_contract w.now n.x))
           n.is.hash
           (goes_on contract_spelling (is_contract s) contract_key IsKeptContract contract_of more_contract place s.contracts found former (contract x) (map contract rest) saved after w.now z n
           tried.0 tried.1.0 pushed);
@@ -223,7 +223,8 @@ totals_go s place former x rest saved after z w tried pushed =
       left = n.xs;
       now = w.now;
       way = subst
-          (λ (t : Total). OnWay total_spelling (is_total s) total_key SpeltTotal total_of no_more place s.tickets 0 (Some t.identity) (map total rest) after _ n.xs w.now)
+          (λ (t : Total). OnWay total_spelling (is_total s) total_key SpeltTotal total_of no_more place s.tickets 0 (Some t.identity) (map total rest) after
+          (x.place + length (total_spelling n.x)) n.xs w.now)
           n.is.0
           (goes_on total_spelling (is_total s) total_key SpeltTotal total_of no_more place s.tickets 0 former (total x) (map total rest) saved after w.now z n
           (ap (is_total s former) n.is.0 ∙ tried.0) (tried.1 ∙ sym n.is.0) pushed);

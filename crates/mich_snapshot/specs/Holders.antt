@@ -1,5 +1,5 @@
 -- What comes of trying the rules of an account, of a contract and of a ticket.
-use Rattle.std.specs.Prelude.{◌≡◌, ℕ, pos, ◌-ℤ◌, int_le, Bool, ◌&&◌, List, Option, Some, None, Result, Ok, Err, fold, map}
+use Rattle.std.specs.Prelude.{◌≡◌, ℕ, pos, ◌-ℤ◌, int_le, Bool, ◌&&◌, List, [], ◌∷◌, ◌++◌, Option, Some, None, Result, Ok, Err, fold, map}
 use Rattle.std.specs.BTreeMap.{is_at}
 use Rattle.std.specs.Cmp.Lexicographic.{slice_cmp}
 use Rattle.std.specs.List.{All, AllByRecursion, list_any}
@@ -84,6 +84,10 @@ AreOfSpelt cs = AllByRecursion (λ c. IsOfSpelt (contract c).1) cs
 -- a ticket with its totals
 abbrev pub total_of : TicketId × Totals → Total
 total_of t = record { identity = identity t.0; minted = t.1.minted; burnt = t.1.burnt }
+
+-- one that stands for this total was put behind the others
+abbrev pub IsPushed : List (TicketId × Totals) → List (TicketId × Totals) → Total → Type 0
+IsPushed old new t = (z : TicketId × Totals) × (new ≡ old ++ z ∷ []) × (total_of z ≡ t)
 
 -- as much was found of each as there is
 abbrev pub IsReckoned : State → (Identity → ℕ) → Type 0

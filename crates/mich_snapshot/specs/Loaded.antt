@@ -1,5 +1,5 @@
 -- The state that bytes are loaded as.
-use Rattle.std.specs.Prelude.{◌≡◌, ℕ, List, [], map, Result, Ok, Err}
+use Rattle.std.specs.Prelude.{◌≡◌, List, [], map, Result, Ok, Err}
 use Rattle.std.specs.List.{AllByRecursion}
 use Rattle.rules_world.specs.world.Good.{IsGood}
 use Rattle.rules_files.specs.snapshots.Course.{listed as listed_of, world_of}
@@ -18,7 +18,6 @@ use Rattle.mich_saved.specs.declared.reading.ReadState.{ReadState}
 use Rattle.mich_world.specs.Restoring.{IsRestorable, world_of as restored}
 use Rattle.mich_world.specs.Standing.{StandsFor}
 use Rattle.mich_world.specs.declared.restoring.Saved.{Saved}
-use Rattle.mich_world.specs.declared.restoring.SavedContract.{SavedContract}
 use Rattle.mich_snapshot.specs.declared.state.State.{State}
 
 -- its world stands for that of the state, which is a good one in which nothing waits, with the same prices, groups and marks

@@ -1,5 +1,5 @@
 -- What is put of the parts of a state.
-use Rattle.std.specs.Prelude.{◌≡◌, ℕ, ℤ, Bool, List, [], ◌∷◌, ◌++◌, Option, Some, None, is_some, unwrap_or, Result, OnOk, map}
+use Rattle.std.specs.Prelude.{◌≡◌, ℕ, ℤ, List, [], ◌∷◌, ◌++◌, Option, Some, None, is_some, unwrap_or, Result, OnOk, map}
 use Rattle.std.specs.Int.{w64}
 use Rattle.std.specs.List.{flat_map, list_any}
 use Rattle.rules_text.specs.nodes.Tree.{Tree}
@@ -44,14 +44,16 @@ head_text s = moment_text s.world ++ (rate_text s.world.funds.present.rate ++ ma
 
 -- whatever tickets an account holds, they are put
 abbrev pub PutsHoldings : Purses → List ℕ → List ℕ → List ℕ → Result (Unit {0}) Memory → Type 0
-PutsHoldings ps who old new r = (holdings : List (Identity × ℤ)) → AreInOrder holdings → Holds ps who holdings → OnOk r (new ≡ old ++ counted holding_spelling holdings)
+PutsHoldings ps who old new r =
+    (holdings : List (Identity × ℤ)) → AreInOrder holdings → Holds ps who holdings → OnOk r (new ≡ old ++ counted holding_spelling holdings)
 
 abbrev pub account_text : List ℕ → ℕ → List (Identity × ℤ) → List ℕ
 account_text who balance holdings = account_spelling (who, record { balance = balance; holdings = holdings })
 
 -- and the account
 abbrev pub PutsAccount : Purses → List ℕ → ℕ → List ℕ → List ℕ → Result (Unit {0}) Memory → Type 0
-PutsAccount ps who balance old new r = (holdings : List (Identity × ℤ)) → AreInOrder holdings → Holds ps who holdings → OnOk r (new ≡ old ++ account_text who balance holdings)
+PutsAccount ps who balance old new r =
+    (holdings : List (Identity × ℤ)) → AreInOrder holdings → Holds ps who holdings → OnOk r (new ≡ old ++ account_text who balance holdings)
 
 -- what stands for what is found
 abbrev pub on_list : {X A : Type 0} → (X → List A) → Option X → List A

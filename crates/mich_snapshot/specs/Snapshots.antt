@@ -1,5 +1,5 @@
 -- The state of the rules that a state stands for.
-use Rattle.std.specs.Prelude.{◌≡◌, ℕ, List, is_some, unwrap_or, map}
+use Rattle.std.specs.Prelude.{is_some, unwrap_or, map}
 use Rattle.rules_world.specs.world.Holdings.{identities}
 use Rattle.rules_world.specs.world.World.{World as PlainWorld}
 use Rattle.rules_files.specs.snapshots.Course.{all_prices, total_of}

@@ -3,6 +3,7 @@ ghost use Rattle.std.specs.Prelude.{◌≡◌, ◌&&◌, false, IfOk, MatchOptio
 ghost use Rattle.rules_data.specs.types.Kind as k;
 ghost use Rattle.rules_data.specs.values.Val.{bytes as bytes_val, number as number_val, text as text_val};
 ghost use Rattle.rules_files.specs.snapshots.Rules.{is_stored};
+ghost use Rattle.rules_text.specs.nodes.Tree.{bytes as bytes_tree};
 ghost use Rattle.mich_base.specs.TypeView.{kind};
 ghost use Rattle.mich_base.specs.View.{tree};
 ghost use Rattle.mich_snapshot.specs.Leaves.{is_leaf, is_simple};
@@ -63,11 +64,16 @@ pub fn text_fits(alloc: Global, ty: &Ty, text: &Text) -> Result<bool, Memory>
     is_literal(alloc, ty, &node)
 }
 
-#[tactic(auto, using(crate::proofs::Leaves::bytes_leaf))]
+fn bytes_node(alloc: Global, bytes: &Bytes) -> Result<Node, Memory>
+    ensures { IfOk result (λ n. tree n ≡ bytes_tree bytes.now) }
+{
+    Ok(Node::Bytes(bytes.copy(alloc)?))
+}
+
 pub fn bytes_fit(alloc: Global, ty: &Ty, bytes: &Bytes) -> Result<bool, Memory>
     ensures { IfOk result (λ b. b ≡ is_stored (kind ty.now) (bytes_val bytes.now)) }
 {
-    let node = Node::Bytes(bytes.copy(alloc)?);
+    let node = bytes_node(alloc, bytes)?;
     is_literal(alloc, ty, &node)
 }
 

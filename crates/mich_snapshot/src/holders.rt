@@ -1,13 +1,13 @@
 // The rules of accounts, of contracts and of tickets.
-ghost use Rattle.std.specs.Prelude.{◌≡◌, ◌<◌, ◌^◌, ◌&&◌, int_lt, option_map, is_some, pos, true, IfOk, IfSome, IsSome, MatchOption, ℕ, List, Option, None, map};
+ghost use Rattle.std.specs.Prelude.{◌≡◌, ◌<◌, ◌^◌, ◌&&◌, int_lt, option_map, is_some, pos, true, IfOk, IfSome, IsSome, ℕ, List, Option, None, map, take, drop, replicate};
+ghost use Rattle.std.specs.Int.{from_be_bytes, w64};
+ghost use Rattle.std.specs.Str.{bytes_eq};
 ghost use Rattle.std.specs.List.{AllByRecursion};
 ghost use Rattle.rules_code.specs.evaluation.Surroundings.{Contract as PlainContract};
-ghost use Rattle.rules_code.specs.instructions.Arguments.{fault};
-ghost use Rattle.rules_code.specs.typing.Nodes.{script as script_of};
 ghost use Rattle.rules_data.specs.values.Tickets.{Identity, tickets};
 ghost use Rattle.rules_text.specs.nodes.Tree.{size};
 ghost use Rattle.rules_world.specs.world.World.{identity_order};
-ghost use Rattle.rules_files.specs.snapshots.Rules.{are_holdings, byte_order, has_total, is_above, is_account, is_contract, is_content, is_hash, is_paid, is_stored, is_total, parts_of};
+ghost use Rattle.rules_files.specs.snapshots.Rules.{are_holdings, byte_order, has_total, is_above, is_account, is_contract, is_content, is_hash, is_holding, is_paid, is_total, parts_of};
 ghost use Rattle.rules_files.specs.snapshots.Spelling.{account_spelling, contract_spelling, total_spelling};
 ghost use Rattle.rules_files.specs.snapshots.Spelt.{HasSpelling, IsIssuer};
 ghost use Rattle.rules_files.specs.snapshots.State.{State};
@@ -23,8 +23,8 @@ ghost use Rattle.mich_term.specs.TicketView.{identity};
 ghost use Rattle.mich_term.specs.ValueView.{val};
 ghost use Rattle.mich_world.specs.Restoring.{IsAlone, contract_of};
 ghost use Rattle.mich_snapshot.specs.Heads.{HasHead};
-ghost use Rattle.mich_snapshot.specs.Holders.{AreAccounts, AreContracts, AreHashes, AreOfSpelt, AreReady, IsOfSpelt, IsPaying, IsReckoned, IsScriptOf, TriesAccount, TriesContract, TypedAs, is_issued, is_left, is_whole_total, storage_rules, total_of};
-ghost use Rattle.mich_snapshot.specs.Sums.{AreFound, Finds, have_totals, more, more_contract, more_held, more_tickets};
+ghost use Rattle.mich_snapshot.specs.Holders.{AreAccounts, AreContracts, AreHashes, AreOfSpelt, AreReady, IsOfSpelt, IsPaying, IsPushed, IsReckoned, IsScriptOf, TriesAccount, TriesContract, TypedAs, is_issued, is_left, is_whole_total, storage_rules, total_of};
+ghost use Rattle.mich_snapshot.specs.Sums.{AreFound, Finds, have_totals, more, more_account, more_contract, more_held, more_tickets};
 ghost use Rattle.mich_snapshot.specs.Tried.{Tries, TriesPart};
 
 use crate::forms::datum_fits;
@@ -41,7 +41,6 @@ use mich_term::{TicketId, Value};
 use mich_tickets::{Totals, tickets_of};
 use mich_world::{Contract, SavedAccount, SavedContract};
 use std::alloc::Global;
-use std::cmp::Ordering;
 use std::collections::BTreeSet;
 
 // ---- accounts
@@ -51,7 +50,7 @@ fn id_is_above(former: &Option<Printed>, id: &Printed) -> bool
     ensures { result ≡ is_above identity_order (option_map identity former.now) (identity id.now) }
 {
     match former {
-        Some(former) => former.cmp(id) == Ordering::Less,
+        Some(former) => former.cmp(id).is_lt(),
         None => true,
     }
 }
@@ -67,10 +66,55 @@ fn holding_holds(
         → IfOk result (Finds s (int_lt (pos 0) amount && is_content (identity id.now) && has_total s (identity id.now))
         (more found (identity id.now) amount) sums.new.found.entries) }
 {
-    if amount < 1 || !datum_fits(alloc, &id.ty, &id.content)? {
+    if amount < 1 {
+        return Ok(false);
+    }
+    let fits = datum_fits(alloc, &id.ty, &id.content)?;
+    if !fits {
         return Ok(false);
     }
     Ok(sums.add(id, amount))
+}
+
+// Whether so, and it stands above the one before.
+fn next_holds(
+    alloc: Global,
+    sums: &mut Sums,
+    former: &Option<Printed>,
+    printed: &Printed,
+    id: &TicketId,
+    amount: i128,
+) -> Result<bool, Memory>
+    requires { printed.now ≡ id.now }
+    ensures { (s : State) (found : Identity → ℕ) → AreFound s found sums.old.found.entries
+        → IfOk result (Finds s (is_holding s (option_map identity former.now) (identity id.now, amount))
+        (more found (identity id.now) amount) sums.new.found.entries) }
+{
+    if !id_is_above(former, printed) {
+        return Ok(false);
+    }
+    holding_holds(alloc, sums, id, amount)
+}
+
+// The ticket of a holding, where so much holds of it. None where it doesn't.
+fn next_holding(
+    alloc: Global,
+    sums: &mut Sums,
+    former: &Option<Printed>,
+    id: &TicketId,
+    amount: i128,
+) -> Result<Option<Printed>, Memory>
+    ensures holds { (s : State) (found : Identity → ℕ) → AreFound s found sums.old.found.entries
+        → IfOk result (λ o. Finds s (is_holding s (option_map identity former.now) (identity id.now, amount))
+        (more found (identity id.now) amount) sums.new.found.entries (is_some o)) }
+    ensures same { IfOk result (λ o. IfSome o (λ printed. printed ≡ id.now)) }
+{
+    let printed = Printed::of(alloc, id)?;
+    let holds = next_holds(alloc, sums, former, &printed, id, amount)?;
+    if !holds {
+        return Ok(None);
+    }
+    Ok(Some(printed))
 }
 
 // Whether so of each, and each stands above the one before.
@@ -84,11 +128,11 @@ fn holdings_hold(
 {
     let mut former = None;
     for (id, amount) in holdings.as_slice() {
-        let printed = Printed::of(alloc, id)?;
-        if !id_is_above(&former, &printed) || !holding_holds(alloc, sums, id, *amount)? {
+        let next = next_holding(alloc, sums, &former, id, *amount)?;
+        if next.is_none() {
             return Ok(false);
         }
-        former = Some(printed);
+        former = next;
     }
     Ok(true)
 }
@@ -97,9 +141,26 @@ fn who_is_above(former: &Option<KeyHash>, who: &KeyHash) -> bool
     ensures { result ≡ is_above byte_order former.now who.now }
 {
     match former {
-        Some(former) => former.cmp(who) == Ordering::Less,
+        Some(former) => former.cmp(who).is_lt(),
         None => true,
     }
+}
+
+// Whether the rules of an account hold.
+fn account_holds(
+    alloc: Global,
+    sums: &mut Sums,
+    former: &Option<KeyHash>,
+    account: &ReadAccount,
+) -> Result<bool, Memory>
+    ensures { (s : State) (found : Identity → ℕ) → AreFound s found sums.old.found.entries
+        → IfOk result (Finds s (is_account s former.now (shown_account account.now).1)
+        (more_account found (shown_account account.now).1) sums.new.found.entries) }
+{
+    if !who_is_above(former, &account.who) {
+        return Ok(false);
+    }
+    holdings_hold(alloc, sums, &account.holdings)
 }
 
 // An account, whose rules hold.
@@ -112,7 +173,8 @@ fn sound_account(
     ensures { (s : State) (found : Identity → ℕ) → AreFound s found sums.old.found.entries
         → TriesAccount s found former.now account.place (shown_account account).1 sums.new.found.entries result }
 {
-    if !who_is_above(former, &account.who) || !holdings_hold(alloc, sums, &account.holdings)? {
+    let holds = account_holds(alloc, sums, former, &account)?;
+    if !holds {
         return Err(LoadError::Unsound(account.place));
     }
     Ok(SavedAccount {
@@ -151,19 +213,39 @@ fn hash_is_above(former: &Option<[u8; 20]>, hash: &[u8; 20]) -> bool
     ensures { result ≡ is_above byte_order former.now hash.now }
 {
     match former {
-        Some(former) => former.cmp(hash) == Ordering::Less,
+        Some(former) => former.cmp(hash).is_lt(),
         None => true,
     }
+}
+
+// The number with which the 20 bytes begin.
+fn number_of(hash: &[u8; 20]) -> u64
+    ensures { result ≡ from_be_bytes w64 (take 8 hash.now) }
+{
+    let mut first = [0; 8];
+    first.copy_from_slice(&hash[..8]);
+    u64::from_be_bytes(first)
+}
+
+fn ends_with_zeros(hash: &[u8; 20]) -> bool
+    ensures { result ≡ bytes_eq (drop 12 hash.now) (replicate 8 0) }
+{
+    hash[12..] == [0; 8]
 }
 
 // Whether the 20 bytes begin with the number of a group that there was, and end with 8 zeros.
 fn hash_holds(groups: u64, hash: &[u8; 20]) -> bool
     ensures { (s : State) → s.groups ≡ groups → result ≡ is_hash s hash.now }
 {
-    let mut first = [0; 8];
-    first.copy_from_slice(&hash[..8]);
-    let number = u64::from_be_bytes(first);
-    1 <= number && number <= groups && hash[12..] == [0; 8]
+    let number = number_of(hash);
+    1 <= number && number <= groups && ends_with_zeros(hash)
+}
+
+// Whether so, above the 20 bytes before.
+fn hash_stands(groups: u64, former: &Option<[u8; 20]>, hash: &[u8; 20]) -> bool
+    ensures { (s : State) → s.groups ≡ groups → result ≡ (is_above byte_order former.now hash.now && is_hash s hash.now) }
+{
+    hash_is_above(former, hash) && hash_holds(groups, hash)
 }
 
 // The typed script of a node. None where it is ill typed.
@@ -212,9 +294,10 @@ fn storage_holds(
         → IsPaying contract.now.paid (tree contract.now.script) (val storage.now) c
         → IfOk result (Finds s (storage_rules s pays (kind ty.now) c) (more_tickets found (tickets c.storage)) sums.new.found.entries) }
 {
-    if !value_fits(alloc, ty, storage)?
-        || !paid_holds(pays, contract.paid, &contract.script, storage)
-    {
+    if !value_fits(alloc, ty, storage)? {
+        return Ok(false);
+    }
+    if !paid_holds(pays, contract.paid, &contract.script, storage) {
         return Ok(false);
     }
     tickets_hold(alloc, sums, storage)
@@ -238,7 +321,7 @@ fn sound_script(
     let Some(storage) = &contract.storage else {
         return Ok(None);
     };
-    if !hash_is_above(former, &contract.hash) || !hash_holds(head.groups, &contract.hash) {
+    if !hash_stands(head.groups, former, &contract.hash) {
         return Ok(None);
     }
     let Some(script) = typed_script(alloc, &contract.script)? else {
@@ -372,10 +455,33 @@ fn total_holds(
         → AreHashes cs hashes.now.keys → has_total s (identity total.now.id) ≡ true → IsIssuer (place_bytes total.now.id.issuer)
         → IfOk result (λ b. b ≡ is_whole_total cs (found (identity total.now.id)) (shown_total total.now).1) }
 {
-    if !issuer_holds(hashes, &total.id.issuer) || !totals_hold(sums, total) {
+    if !issuer_holds(hashes, &total.id.issuer) {
+        return Ok(false);
+    }
+    if !totals_hold(sums, total) {
         return Ok(false);
     }
     datum_fits(alloc, &total.id.ty, &total.id.content)
+}
+
+// Whether so, and its ticket stands above the one before.
+fn next_total_holds(
+    alloc: Global,
+    sums: &Sums,
+    hashes: &BTreeSet<[u8; 20]>,
+    former: &Option<Printed>,
+    printed: &Printed,
+    total: &ReadTotal,
+) -> Result<bool, Memory>
+    requires { printed.now ≡ total.now.id }
+    ensures { (s : State) (found : Identity → ℕ) → IsReckoned s found → AreFound s found sums.now.found.entries → AreHashes s.contracts hashes.now.keys
+        → has_total s (identity total.now.id) ≡ true → IsIssuer (place_bytes total.now.id.issuer)
+        → IfOk result (λ b. b ≡ is_total s (option_map identity former.now) (shown_total total.now).1) }
+{
+    if !id_is_above(former, printed) {
+        return Ok(false);
+    }
+    total_holds(alloc, sums, hashes, total)
 }
 
 // The totals of a ticket, whose rules hold.
@@ -388,12 +494,14 @@ fn sound_total(
     total: ReadTotal,
 ) -> Result<(TicketId, Totals), LoadError>
     requires { printed.now ≡ total.id }
-    ensures tries { (s : State) (found : Identity → ℕ) → IsReckoned s found → AreFound s found sums.now.found.entries → AreHashes s.contracts hashes.now.keys
+    ensures tries { (s : State) (found : Identity → ℕ) → IsReckoned s found → AreFound s found sums.now.found.entries
+        → AreHashes s.contracts hashes.now.keys
         → has_total s (identity total.id) ≡ true → IsIssuer (place_bytes total.id.issuer)
         → TriesPart (is_total s (option_map identity former.now) (shown_total total).1) total.place (λ t. total_of t ≡ (shown_total total).1) result }
     ensures same { IfOk result (λ t. total_of t ≡ (shown_total total).1) }
 {
-    if !id_is_above(former, printed) || !total_holds(alloc, sums, hashes, &total)? {
+    let holds = next_total_holds(alloc, sums, hashes, former, printed, &total)?;
+    if !holds {
         return Err(LoadError::Unsound(total.place));
     }
     let totals = Totals {
@@ -401,6 +509,48 @@ fn sound_total(
         burnt: total.burnt,
     };
     Ok((total.id, totals))
+}
+
+// One more total whose rules hold is put behind the others.
+fn push_total(
+    alloc: Global,
+    sums: &Sums,
+    hashes: &BTreeSet<[u8; 20]>,
+    former: &Option<Printed>,
+    total: ReadTotal,
+    sound: &mut Rows<(TicketId, Totals)>,
+) -> Result<Printed, LoadError>
+    ensures tries { (s : State) (found : Identity → ℕ) → IsReckoned s found → AreFound s found sums.now.found.entries
+        → AreHashes s.contracts hashes.now.keys
+        → has_total s (identity total.id) ≡ true → IsIssuer (place_bytes total.id.issuer)
+        → TriesPart (is_total s (option_map identity former.now) (shown_total total).1) total.place (λ printed. printed ≡ total.id) result }
+    ensures pushed { IfOk result (λ _. IsPushed sound.old sound.new (shown_total total).1) }
+{
+    let printed = Printed::of(alloc, &total.id)?;
+    let next = sound_total(alloc, sums, hashes, former, &printed, total)?;
+    sound.push(next)?;
+    Ok(printed)
+}
+
+// The totals of all tickets, whose rules hold.
+fn tried_totals(
+    alloc: Global,
+    sums: &Sums,
+    hashes: &BTreeSet<[u8; 20]>,
+    totals: Rows<ReadTotal>,
+) -> Result<Rows<(TicketId, Totals)>, LoadError>
+    ensures tries { (s : State) (place : ℕ) (cs : List (List ℕ × PlainContract)) → AreReady s sums.now.found.entries cs → AreHashes cs hashes.now.keys
+        → EachAt IsSame total_spelling place s.tickets (map shown_total totals)
+        → Tries place (parts_of total_spelling (is_total s) (λ t. t.identity) None s.tickets) result }
+    ensures saved { IfOk result (λ ts. map total_of ts ≡ map (λ t. (shown_total t).1) totals) }
+{
+    let mut sound = Rows::new(alloc);
+    let mut former = None;
+    for total in totals.into_vec() {
+        let printed = push_total(alloc, sums, hashes, &former, total, &mut sound)?;
+        former = Some(printed);
+    }
+    Ok(sound)
 }
 
 pub fn sound_totals(
@@ -415,13 +565,5 @@ pub fn sound_totals(
     ensures saved { IfOk result (λ ts. map total_of ts ≡ map (λ t. (shown_total t).1) totals) }
 {
     let hashes = hashes_of(alloc, contracts)?;
-    let mut sound = Rows::new(alloc);
-    let mut former = None;
-    for total in totals.into_vec() {
-        let printed = Printed::of(alloc, &total.id)?;
-        let next = sound_total(alloc, sums, &hashes, &former, &printed, total)?;
-        sound.push(next)?;
-        former = Some(printed);
-    }
-    Ok(sound)
+    tried_totals(alloc, sums, &hashes, totals)
 }

@@ -11,8 +11,6 @@ mod spelling;
 mod state;
 mod stored;
 mod sums;
-#[cfg(test)]
-mod tests;
 
 pub use errors::SaveError;
 pub use loading::load;

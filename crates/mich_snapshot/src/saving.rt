@@ -191,7 +191,8 @@ fn put_storage(
     store: &Store,
     storage: &Value,
 ) -> Result<(), SaveError>
-    ensures { IsPut out.old.items out.new.items (value_spelling (val_in store.now.bases.present storage.now)) (list_any is_long (bodies (val_in store.now.bases.present storage.now))) result }
+    ensures { IsPut out.old.items out.new.items (value_spelling (val_in store.now.bases.present storage.now))
+        (list_any is_long (bodies (val_in store.now.bases.present storage.now))) result }
 {
     let storage = flat(alloc, store, storage)?;
     put_value(alloc, out, &storage)
@@ -214,7 +215,8 @@ fn put_contract(
     hash: &[u8; 20],
     contract: &Contract,
 ) -> Result<(), SaveError>
-    ensures { IsPut out.old.items out.new.items (contract_spelling (hash.now, plain store.now.bases.present contract.now)) (list_any is_long (nodes_of (plain store.now.bases.present contract.now))) result }
+    ensures { IsPut out.old.items out.new.items (contract_spelling (hash.now, plain store.now.bases.present contract.now))
+        (list_any is_long (nodes_of (plain store.now.bases.present contract.now))) result }
 {
     put_funds(out, hash, contract)?;
     put_script(alloc, out, &contract.script)?;
@@ -264,7 +266,8 @@ fn put_totals(
     ledger: &Ledger,
     minted: &Amounts,
 ) -> Result<(), Memory>
-    ensures totals { OnOk result (out.new.items ≡ out.old.items ++ counted total_spelling (map (λ e. total_in ledger.now.books.present e.0) (map seen minted.now))) }
+    ensures totals { OnOk result
+        (out.new.items ≡ out.old.items ++ counted total_spelling (map (λ e. total_in ledger.now.books.present e.0) (map seen minted.now))) }
     ensures order { IsStrictlySortedBy by_print (keys_of minted.now) }
     ensures positive { AllByRecursion (λ e. pos 0 <ℤ e.1) minted.now }
 {

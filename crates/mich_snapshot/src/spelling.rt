@@ -99,7 +99,8 @@ fn put_marked(alloc: Global, out: &mut Vec<u8>, marked: bool, part: &Value) -> R
 
 #[cycle(put)]
 fn put_list(alloc: Global, out: &mut Vec<u8>, values: &Chain<Value>) -> Result<(), SaveError>
-    ensures { IsPut out.old.items out.new.items (eight (count_vals (vals values.now)) ++ value_spellings (vals values.now)) (list_any is_long (all_bodies (vals values.now))) result }
+    ensures { IsPut out.old.items out.new.items (eight (count_vals (vals values.now)) ++ value_spellings (vals values.now))
+        (list_any is_long (all_bodies (vals values.now))) result }
 {
     put_eight(out, values.len() as u64)?;
     let reversed = values.as_reversed_slice();
@@ -114,7 +115,8 @@ fn put_list(alloc: Global, out: &mut Vec<u8>, values: &Chain<Value>) -> Result<(
 // A value behind its key.
 #[cycle(put)]
 fn put_entry(alloc: Global, out: &mut Vec<u8>, value: &Value, key: &Datum) -> Result<(), SaveError>
-    ensures { IsPut out.old.items out.new.items (value_spelling (datum key.now) ++ value_spelling (val value.now)) (list_any is_long (bodies (val value.now))) result }
+    ensures { IsPut out.old.items out.new.items (value_spelling (datum key.now) ++ value_spelling (val value.now))
+        (list_any is_long (bodies (val value.now))) result }
 {
     put_datum(out, key)?;
     put_value(alloc, out, value)
@@ -122,7 +124,8 @@ fn put_entry(alloc: Global, out: &mut Vec<u8>, value: &Value, key: &Datum) -> Re
 
 #[cycle(put)]
 fn put_table(alloc: Global, out: &mut Vec<u8>, entries: &Table<Value>) -> Result<(), SaveError>
-    ensures { IsPut out.old.items out.new.items (eight (count_pairs (pairs entries.now)) ++ entry_spellings (pairs entries.now)) (list_any is_long (entry_bodies (pairs entries.now))) result }
+    ensures { IsPut out.old.items out.new.items (eight (count_pairs (pairs entries.now)) ++ entry_spellings (pairs entries.now))
+        (list_any is_long (entry_bodies (pairs entries.now))) result }
 {
     put_eight(out, entries.len() as u64)?;
     for (key, value) in entries.iter() {
@@ -149,7 +152,8 @@ fn count_of(big: &BigMap) -> u64
 // The entries that lie in a big map.
 #[cycle(put)]
 fn put_big(alloc: Global, out: &mut Vec<u8>, big: &BigMap) -> Result<(), SaveError>
-    ensures { IsPut out.old.items out.new.items (eight (count_pairs (big_pairs big.now)) ++ entry_spellings (big_pairs big.now)) (list_any is_long (entry_bodies (big_pairs big.now))) result }
+    ensures { IsPut out.old.items out.new.items (eight (count_pairs (big_pairs big.now)) ++ entry_spellings (big_pairs big.now))
+        (list_any is_long (entry_bodies (big_pairs big.now))) result }
 {
     put_eight(out, count_of(big))?;
     for (key, change) in big.overlay.iter() {

@@ -3,23 +3,29 @@ ghost use Rattle.std.specs.Prelude.{◌≡◌, ◌&&◌, IfOk};
 ghost use Rattle.rules_data.specs.types.Kind as k;
 ghost use Rattle.rules_data.specs.values.Forms.{is_ticket_amount};
 ghost use Rattle.rules_data.specs.values.Val as v;
-ghost use Rattle.rules_files.specs.snapshots.Rules.{all_values, is_lambda, is_stored};
+ghost use Rattle.rules_files.specs.snapshots.Rules.{all_values, is_lambda, is_sequence, is_stored};
 ghost use Rattle.rules_files.specs.snapshots.Spelt.{HasSpelling, IsNode};
 ghost use Rattle.mich_base.specs.TypeView.{kind};
 ghost use Rattle.mich_base.specs.View.{tree};
 ghost use Rattle.mich_term.specs.ValueView.{big_pairs, pairs, val, vals};
-ghost use Rattle.mich_term.specs.View.{datums};
+ghost use Rattle.mich_term.specs.View.{datum, datums};
 ghost use Rattle.mich_snapshot.specs.Leaves.{ticket_val};
 
 use crate::forms::{bytes_fit, datum_fits, number_fits, text_fits};
 use mich_base::{Memory, Node, Ty};
 use mich_check::{CheckError, check_body};
 use mich_overload::same_kind;
-use mich_term::{BigMap, Chain, Elements, Table, Ticket, Value};
+use mich_term::{BigMap, Chain, Datum, Elements, Table, Ticket, Value};
 use std::alloc::Global;
 
+fn is_sequence(node: &Node) -> bool
+    ensures { result ≡ is_sequence (tree node.now) }
+{
+    matches!(node, Node::Seq(_))
+}
+
 // Whether a node is the body of a lambda of these types, which may be recursive.
-#[tactic(auto, using(crate::proofs::Fits::small_node, crate::proofs::Fits::well_typed, crate::proofs::Fits::ill_typed))]
+#[tactic(auto, using(crate::proofs::Fits::lambda_rules))]
 fn lambda_fits(
     alloc: Global,
     arg: &Ty,
@@ -30,9 +36,9 @@ fn lambda_fits(
     requires { IsNode (tree body.now) }
     ensures { IfOk result (λ b. b ≡ is_lambda (kind arg.now) (kind ret.now) (tree body.now) recursive) }
 {
-    let Node::Seq(_) = body else {
+    if !is_sequence(body) {
         return Ok(false);
-    };
+    }
     match check_body(alloc, arg, ret, recursive, body) {
         Ok(_) => Ok(true),
         Err(CheckError::IllTyped(_)) => Ok(false),
@@ -61,7 +67,6 @@ fn ticket_fits(alloc: Global, content: &Ty, ticket: &Ticket) -> Result<bool, Mem
 }
 
 // The elements of a set are in order.
-#[tactic(auto, using(crate::proofs::Fits::in_order))]
 fn set_fits(alloc: Global, part: &Ty, elements: &Elements) -> Result<bool, Memory>
     ensures { IfOk result (λ b. b ≡ is_stored (k.set (kind part.now)) (v.set (datums elements.now))) }
 {
@@ -75,7 +80,6 @@ fn set_fits(alloc: Global, part: &Ty, elements: &Elements) -> Result<bool, Memor
 
 /// Whether a value is one of a type that can be stored: it has the form of the type, sets and maps are in order, and lambdas are well
 /// typed. It recurses no deeper than the type. Memory where there is no room to tell.
-#[tactic(auto, using(mich_term::proofs::ForCallers::table_is))]
 #[cycle(fits)]
 pub fn value_fits(alloc: Global, ty: &Ty, value: &Value) -> Result<bool, Memory>
     requires { HasSpelling (kind ty.now) (val value.now) }
@@ -168,14 +172,31 @@ fn list_fits(alloc: Global, part: &Ty, values: &Chain<Value>) -> Result<bool, Me
     Ok(true)
 }
 
-#[tactic(auto, using(crate::proofs::Fits::keys_in_order))]
+// A key and its value.
+#[cycle(fits)]
+fn entry_fits(
+    alloc: Global,
+    key: &Ty,
+    part: &Ty,
+    first: &Datum,
+    second: &Value,
+) -> Result<bool, Memory>
+    requires { HasSpelling (kind part.now) (val second.now) }
+    ensures { IfOk result (λ b. b ≡ (is_stored (kind key.now) (datum first.now) && is_stored (kind part.now) (val second.now))) }
+{
+    if !datum_fits(alloc, key, first)? {
+        return Ok(false);
+    }
+    value_fits(alloc, part, second)
+}
+
 #[cycle(fits)]
 fn table_fits(alloc: Global, key: &Ty, part: &Ty, entries: &Table<Value>) -> Result<bool, Memory>
     requires { HasSpelling (k.map (kind key.now) (kind part.now)) (v.table (pairs entries.now)) }
     ensures { IfOk result (λ b. b ≡ is_stored (k.map (kind key.now) (kind part.now)) (v.table (pairs entries.now))) }
 {
     for (datum, value) in entries.iter() {
-        if !datum_fits(alloc, key, datum)? || !value_fits(alloc, part, value)? {
+        if !entry_fits(alloc, key, part, datum, value)? {
             return Ok(false);
         }
     }
@@ -183,7 +204,6 @@ fn table_fits(alloc: Global, key: &Ty, part: &Ty, entries: &Table<Value>) -> Res
 }
 
 // The entries that lie in a big map.
-#[tactic(auto, using(crate::proofs::Fits::puts_in_order, mich_term::proofs::ForCallers::big_is))]
 #[cycle(fits)]
 fn big_fits(alloc: Global, key: &Ty, part: &Ty, big: &BigMap) -> Result<bool, Memory>
     requires { HasSpelling (k.big_map (kind key.now) (kind part.now)) (v.big_table (big_pairs big.now)) }
@@ -191,7 +211,7 @@ fn big_fits(alloc: Global, key: &Ty, part: &Ty, big: &BigMap) -> Result<bool, Me
 {
     for (datum, change) in big.overlay.iter() {
         if let Some(value) = change
-            && (!datum_fits(alloc, key, datum)? || !value_fits(alloc, part, value)?)
+            && !entry_fits(alloc, key, part, datum, value)?
         {
             return Ok(false);
         }

@@ -1,4 +1,4 @@
-use Rattle.std.proofs.Common.{◌≤◌, ◌-◌, false, List, [], Option}
+use Rattle.std.proofs.Common.{◌≤◌, ◌-◌, false, [], Option}
 use Rattle.rules_files.specs.course.Course.{Course as PlainCourse}
 use Rattle.rules_text.specs.nodes.Limits.{file_limit}
 use Rattle.rules_text.specs.streams.Known.{SameFiles}

@@ -1,4 +1,4 @@
-use Rattle.std.proofs.Common.{Ok, subst, arith}
+use Rattle.std.proofs.Common.{subst, arith}
 use Rattle.std.specs.declared.option.Option.{Option}
 use Rattle.mich_replay.specs.Reaching.{Passes}
 use Rattle.mich_replay.specs.declared.replaying.Pause.{Pause}

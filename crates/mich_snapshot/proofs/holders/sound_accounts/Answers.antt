@@ -32,7 +32,8 @@ returns-in_err-next-clause-tries c = λ s found place h each.
     let way = subst (λ (l : List ReadAccount). AccountsOnWay s found place c.loop-account.former l c.loop-account.sound c.loop-account.sums.found.entries) first
     (c.loop-account.invariant s found place h each) in
     let p = err_from_is_err_and c.from_residual.result c.from_residual.ensures.1 in
-    rw (p.1, p.2) (accounts_stop _ s found place c.loop-account.former x rest c.loop-account.sound c.loop-account.sums.found.entries _ _ way (λ f g. c.in_err-next.ensures s f g))
+    rw (p.1, p.2) (accounts_stop (List SavedAccount) s found place c.loop-account.former x rest c.loop-account.sound c.loop-account.sums.found.entries
+    c.sound_account.new.sums.found.entries _ way (λ f g. c.in_err-next.ensures s f g))
 
 pub returns-clause-tries : goal.returns-clause-tries
 returns-clause-tries c = λ s found place h each.

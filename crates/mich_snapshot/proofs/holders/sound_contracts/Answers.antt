@@ -1,4 +1,4 @@
-use Rattle.std.proofs.Common.{rules, ◌≡◌, List, [], ◌∷◌, ◌++◌, None, sym, subst, arith}
+use Rattle.std.proofs.Common.{rules, ◌≡◌, List, [], ◌∷◌, None, sym, subst, arith}
 use Rattle.std.specs.List.{AllByRecursion}
 use Rattle.std.specs.Vec.Iter.{into_iter_items}
 use Rattle.std.proofs.lemmas.Grind.{common_steps}
@@ -22,7 +22,10 @@ loop-contract-init c =
           (contracts_start s found place c.args.contracts c.args.sums.now.found.entries h each));
       spelt = subst AreOfSpelt (sym all) c.requires;
       typed = subst (λ (l : List SavedContract). AllByRecursion (λ saved. IsTypedScript saved.contract.script) l) (sym c.new-sound.ensures) tt;
-      alone = λ alone. (subst (λ (l : List ReadContract). AllByRecursion IsAloneContract l) (sym all) alone, subst (λ (l : List SavedContract). AllByRecursion IsAlone l) (sym c.new-sound.ensures) tt);
+      alone = λ alone. (
+        subst (λ (l : List ReadContract). AllByRecursion IsAloneContract l) (sym all) alone,
+        subst (λ (l : List SavedContract). AllByRecursion IsAlone l) (sym c.new-sound.ensures) tt,
+      );
     }
 
 pub sound_contract-requires : goal.sound_contract-requires
@@ -57,7 +60,7 @@ returns-in_err-next-clause-tries c = λ s found place head h each.
     let way = subst (λ (l : List ReadContract). ContractsOnWay s found place c.loop-contract.former l c.loop-contract.sound c.loop-contract.sums.found.entries) first
     (c.loop-contract.invariant.way s found place head h each) in
     let p = err_from_is_err_and c.from_residual.result c.from_residual.ensures.1 in
-    rw (p.1, p.2) (contracts_stop _ s found place c.loop-contract.former x rest c.loop-contract.sound c.loop-contract.sums.found.entries _ _ way
+    rw (p.1, p.2) (contracts_stop (List SavedContract) s found place c.loop-contract.former x rest c.loop-contract.sound c.loop-contract.sums.found.entries c.sound_contract.new.sums.found.entries _ way
     (λ f d g kept. c.in_err-next.ensures.tries s f d head g kept))
 
 pub returns-clause-tries : goal.returns-clause-tries

@@ -1,4 +1,4 @@
-use Rattle.std.proofs.Common.{◌≡◌, ◌<◌, List, length, map, sym, ap, subst, ◌∙◌, arith}
+use Rattle.std.proofs.Common.{List, length, map, ap, ◌∙◌, arith}
 use Rattle.std.specs.Prelude.{slice_get}
 use Rattle.std.proofs.lemmas.Result.{err_from_is_err_and}
 use Rattle.rules_data.specs.gas.Kinds.{place}
@@ -6,6 +6,7 @@ use Rattle.rules_files.specs.snapshots.Loading.{loaded}
 use Rattle.rules_files.specs.snapshots.Reading.{read}
 use Rattle.mich_gas.specs.View.{seen_price}
 use Rattle.mich_gas.specs.declared.costs.Price.{Price}
+use Rattle.mich_snapshot.specs.declared.loading.SoundState.{SoundState}
 use Rattle.mich_snapshot.proofs.LoadedAs.{loads, no_room, read_fails, rules_fail}
 use Rattle.mich_snapshot.proofs.Loads.{loaded_as, prices_long, read_of, scripts_typed}
 use Rattle.mich_snapshot.proofs.loading.load.Goals as goal
@@ -24,10 +25,10 @@ pub returns-in_err-sound-clause-loaded : goal.returns-in_err-sound-clause-loaded
 returns-in_err-sound-clause-loaded c =
     let r = read_of c.args.bytes.now c.in_ok-state.state (λ i. omega (arith, c.type_inv.bytes i)) c.in_ok-state.ensures.read c.in_ok-state.ensures.placed in
     let p = err_from_is_err_and c.from_residual-in_err-sound.result c.from_residual-in_err-sound.ensures.1 in
-    rw (p.1, p.2) (rules_fail _ c.args.bytes.now r.plain_state _ r.is (c.in_err-sound.ensures.tries r.plain_state r.of))
+    rw (p.1, p.2) (rules_fail SoundState c.args.bytes.now r.plain_state _ r.is (c.in_err-sound.ensures.tries r.plain_state r.of))
 
-pub of_prices-requires : goal.of_prices-requires
-of_prices-requires c =
+pub of_prices-costs-requires : goal.of_prices-costs-requires
+of_prices-costs-requires c =
     let r = read_of c.args.bytes.now c.in_ok-state.state (λ i. omega (arith, c.type_inv.bytes i)) c.in_ok-state.ensures.read c.in_ok-state.ensures.placed in
     let sound = c.in_ok-sound.ensures.sound r.plain_state r.of in
     ap length c.as_slice.ensures ∙ prices_long r.plain_state c.in_ok-sound.sound.prices r.of.spelt sound.1.costs
@@ -48,7 +49,7 @@ returns-clause-loaded c =
     let sound = c.in_ok-sound.ensures.sound r.plain_state r.of in
     loads c.args.bytes.now r.plain_state _ r.is (c.in_ok-sound.ensures.tries r.plain_state r.of)
     (loaded_as r.plain_state c.in_ok-state.state c.in_ok-sound.sound.head c.in_ok-sound.sound.prices c.in_ok-sound.sound.saved _ _ r.of sound.0 sound.1 c.in_ok-world.ensures.stands
-    (λ kind. c.of_prices.ensures kind ∙ ap (λ (l : List Price). slice_get (map seen_price l) (place kind)) c.as_slice.ensures))
+    (λ kind. c.of_prices-costs.ensures kind ∙ ap (λ (l : List Price). slice_get (map seen_price l) (place kind)) c.as_slice.ensures))
 
 pub returns-clause-typed : goal.returns-clause-typed
 returns-clause-typed c =

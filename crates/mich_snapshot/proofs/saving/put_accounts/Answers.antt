@@ -1,6 +1,5 @@
-use Rattle.std.proofs.Common.{rules, ◌≡◌, ◌+◌, drop, get_or, length, ◌∷◌, ℕ, List, ◌++◌, refl, sym, ap, ◌∙◌, arith}
+use Rattle.std.proofs.Common.{rules, ◌≡◌, ◌+◌, drop, get_or, ◌∷◌, ℕ, List, ◌++◌, refl, ap, ◌∙◌, arith}
 use Rattle.std.proofs.lemmas.List.{at_drop_more}
-use Rattle.rules_files.specs.snapshots.Spelling.{eight}
 use Rattle.mich_snapshot.proofs.Putting.{counted_first, put_all, put_next}
 use Rattle.mich_snapshot.proofs.Parts.{accounts_text, all_accounts, none_left}
 use Rattle.mich_snapshot.proofs.saving.put_accounts.Goals as goal

@@ -21,7 +21,8 @@ pub returns : goal.returns
 returns c =
     let x = plain c.args.store.now.bases.present c.args.contract.now in
     let behind = put_then c.put_funds.new.out.items c.put_script.new.out.items c.put_storage.new.out.items (node_spelling x.script) (value_spelling x.storage)
-    (x.script ∷ []) (bodies x.storage) c.put_storage.result c.in_ok-put_script.ensures.0 (ap (λ (q : Bool). q || false) c.in_ok-put_script.ensures.1) c.put_storage.ensures in
+    (x.script ∷ []) (bodies x.storage) c.put_storage.result c.in_ok-put_script.ensures.0
+    (ap (λ (q : Bool). q || false) c.in_ok-put_script.ensures.1) c.put_storage.ensures in
     subst (λ (text : List ℕ). IsPut c.args.out.now.items c.put_storage.new.out.items text (any_long (nodes_of x)) c.put_storage.result)
     (contract_put c.args.hash.now (eight x.balance) (eight x.paid) (node_spelling x.script) (value_spelling x.storage))
     (put_behind c.args.out.now.items c.put_funds.new.out.items c.put_storage.new.out.items (c.args.hash.now ++ (eight x.balance ++ eight x.paid))

@@ -15,4 +15,5 @@ tickets-preserved c =
     let rest : Amounts = c.next.new.self in
     let first : iter ≡ (c.in-Some.ticket.now, c.in-Some.amount.now) ∷ rest = search rules in
     let put : c.put_total.new.out.items ≡ c.tickets.out.items ++ total_spelling (total_in b (identity c.in-Some.ticket.now)) = search rules in
-    put_next _ _ _ _ _ _ put (ap (λ (es : Amounts). flat_map total_spelling (map (λ (e : Identity × ℤ). total_in b e.0) (map seen es))) first) c.tickets.invariant
+    put_next _ _ _ _ _ _ put (ap (λ (es : Amounts). flat_map total_spelling (map (λ (e : Identity × ℤ). total_in b e.0) (map seen es))) first)
+    c.tickets.invariant

@@ -1,10 +1,10 @@
 use Rattle.std.proofs.Common.{ℕ, List, ◌++◌, ap, ◌∙◌}
 use Rattle.std.proofs.lemmas.Result.{err_from_is_err_and}
-use Rattle.rules_files.specs.snapshots.Loading.{nodes_in, saved}
+use Rattle.rules_files.specs.snapshots.Loading.{nodes_in}
 use Rattle.rules_files.specs.snapshots.Spelling.{state_spelling}
 use Rattle.mich_snapshot.specs.Snapshots.{snapshot_of}
 use Rattle.mich_snapshot.proofs.Putting.{any_long}
-use Rattle.mich_snapshot.proofs.Parts.{is_saved, memory_saved, not_saved}
+use Rattle.mich_snapshot.proofs.Parts.{is_saved, not_saved}
 use Rattle.mich_snapshot.proofs.saving.save.Goals as goal
 
 pub returns-in_err-put_state : goal.returns-in_err-put_state

@@ -1,4 +1,5 @@
-use Rattle.std.proofs.Common.{rules, ◌≡◌, ◌<◌, ◌+◌, ◌-◌, List, ◌∷◌, ◌++◌, drop, length, reverse, take, sym, ap, ◌∙◌, subst, arith}
+use Rattle.std.proofs.Common.{rules, ◌≡◌, ◌<◌, ◌≤◌, ◌-◌, List, ◌++◌, length, reverse, take, sym, ap, ◌∙◌, subst, arith}
+use denote.Param.Weighed.{most}
 use Rattle.std.proofs.lemmas.List.{take_all, reverse-reverse}
 use Rattle.rules_data.specs.values.Val.{Val, Pairs, table}
 use Rattle.rules_files.specs.snapshots.Loading.{all_bodies, bodies, entry_bodies}
@@ -7,18 +8,18 @@ use Rattle.std.specs.declared.option.Option.{Option}
 use Rattle.mich_term.specs.ValueView.{pairs, put_pairs, val, vals}
 use Rattle.mich_term.specs.declared.datum.Datum.{Datum}
 use Rattle.mich_term.specs.declared.value.BigMap.{out-BigMap}
-use Rattle.mich_term.specs.declared.value.Value.{Value}
+use Rattle.mich_term.specs.declared.value.Value.{Value, size-Value}
 use Rattle.mich_term.proofs.ForCallers.{big_is, table_is}
 use Rattle.mich_snapshot.specs.Puts.{IsPut}
-use Rattle.mich_snapshot.proofs.Fits.{turned_at}
-use Rattle.mich_snapshot.proofs.Putting.{any_long, counted_first, list_counted, table_counted}
+use Rattle.mich_snapshot.proofs.Putting.{any_long, counted_first, list_counted, table_counted, turned_most}
 use Rattle.mich_snapshot.proofs.spelling.+put.Goals as goal
 
 pub put_value-returns-in-Map : goal.put_value-returns-in-Map
 put_value-returns-in-Map t c =
     let same : val c.args.value.now ≡ table (pairs c.get-in-Map.result.now) =
     ap val c.in-Map.is ∙ table_is c.in-Map.entries ∙ ap (λ (es : List (Datum × Value)). table (pairs es)) (sym c.get-in-Map.ensures) in
-    subst (λ (x : Val). IsPut c.args.out.now.items c.put_table.new.out.items (value_spelling x) (any_long (bodies x)) c.put_table.result) (sym same) c.put_table.ensures
+    subst (λ (x : Val). IsPut c.args.out.now.items c.put_table.new.out.items (value_spelling x) (any_long (bodies x)) c.put_table.result)
+    (sym same) c.put_table.ensures
 
 pub put_list-loop-left-init : goal.put_list-loop-left-init
 put_list-loop-left-init t c =
@@ -52,16 +53,17 @@ put_big-loop-key-init t c =
       text = ap (λ (es : List (Datum × Option Value)). c.put_eight.new.out.items ++ entry_spellings (put_pairs es)) rest
           ∙ ap (λ (ps : Pairs). c.put_eight.new.out.items ++ entry_spellings ps) (sym (big_is big))
           ∙ counted_first _ _ _ _ _ c.in_ok-put_eight.ensures c.count_of.ensures;
-      long = ap (λ (es : List (Datum × Option Value)). any_long (entry_bodies (put_pairs es))) rest ∙ ap (λ (ps : Pairs). any_long (entry_bodies ps)) (sym (big_is big));
+      long = ap (λ (es : List (Datum × Option Value)). any_long (entry_bodies (put_pairs es))) rest
+          ∙ ap (λ (ps : Pairs). any_long (entry_bodies ps)) (sym (big_is big));
       place = rest;
     }
 
 pub put_list-put_value-requires : goal.put_list-put_value-requires
 put_list-put_value-requires t c =
     let items = c.as_reversed_slice-reversed.result.now in
+    let values = c.args.values.now in
     let x = c.index-reversed-left.result in
-    let h : c.loop-left.left - 1 < length items = omega arith in
-    let whole : reverse items ≡ c.args.values.now = ap reverse c.as_reversed_slice-reversed.ensures ∙ reverse-reverse c.args.values.now in
-    let place : c.args.values.now ≡ reverse (drop (c.loop-left.left - 1 + 1) items) ++ x ∷ reverse (take (c.loop-left.left - 1) items) =
-    sym whole ∙ turned_at items (c.loop-left.left - 1) x h c.index-reversed-left.is in
-    search rules depth 8
+    let place : c.loop-left.left - 1 < length items = omega arith in
+    let depth : size-Value x ≤ most size-Value values =
+    turned_most size-Value values items (c.loop-left.left - 1) x c.as_reversed_slice-reversed.ensures place c.index-reversed-left.is in
+    (omega (arith, depth, c.decreases), tt)

@@ -28,7 +28,8 @@ invariant-put_table-loop-key l = record {
 
 abbrev pub invariant-put_big-loop-key : goal.invariant-put_big-loop-key
 invariant-put_big-loop-key l = record {
-  text : l.out.items ++ entry_spellings (put_pairs l.key-iterator) ≡ l.fn.out.items ++ (eight (count_pairs (big_pairs l.big)) ++ entry_spellings (big_pairs l.big));
+  text : l.out.items ++ entry_spellings (put_pairs l.key-iterator)
+      ≡ l.fn.out.items ++ (eight (count_pairs (big_pairs l.big)) ++ entry_spellings (big_pairs l.big));
   long : any_long (entry_bodies (put_pairs l.key-iterator)) ≡ any_long (entry_bodies (big_pairs l.big));
   place : map deref_pair l.yielded ++ l.key-iterator ≡ (out-BigMap l.big).overlay;
 }

@@ -2,7 +2,6 @@ use Rattle.std.proofs.Common.{◌≡◌, List, map, take, sym, ap, subst, ◌∙
 use Rattle.std.proofs.lemmas.Grind.{common_steps}
 use Rattle.std.specs.BTreeMap.{insert_entry}
 use Rattle.rules_files.specs.snapshots.State.{Total}
-use Rattle.mich_saved.specs.Shown.{total}
 use Rattle.mich_term.specs.TicketView.{identity}
 use Rattle.mich_term.specs.declared.ticket.TicketId.{TicketId}
 use Rattle.mich_tickets.specs.Lines.{by_identity}
