@@ -2,9 +2,10 @@
 use Rattle.std.proofs.Common.{◌≡◌, inl, inr, ℕ, List, [], ◌∷◌, ◌++◌, Option, Some, None, sym, ap, ◌∙◌, subst, append_assoc, append-nil}
 use Rattle.rules_files.specs.course.Course.{Course, Step, goes_on, stops, stuck_step}
 use Rattle.rules_files.specs.commands.Places.{Placed, AreStatements}
-use Rattle.rules_files.specs.commands.Replay.{Replay, Closes, IsReplay, Run, going, stopped, stuck_run, step, continued, taken, run_one, run_all}
+use Rattle.rules_files.specs.commands.Replay.{Replay, Closes, Run, going, stopped, stuck_run, step, continued, taken, run_one, run_all}
 use Rattle.rules_files.specs.statements.Statements.{Statement, form}
 use Rattle.rules_world.specs.world.Receipts.{Receipt}
+use Rattle.mich_replay.specs.Coming.{ComesTo}
 use Rattle.mich_replay.proofs.Once.{one-node, node-and-fault, node-and-end, stays}
 
 -- these receipts begin with those
@@ -70,6 +71,6 @@ begins_at file p r (s ∷ ss) (t ∷ ts) to of receipts c done m n e d =
     begins_at file m.0 (run_one r s) ss ts to of receipts c done m.2 (subst (λ (x : ℕ). AreStatements file x ts of) (sym same.behind) n.2)
     e (subst (λ (x : Placed). Closes file of (run_all (run_one r x) ts) done) (sym same.statement) d)
 
-pub begins : (file : List ℕ) (ss : List Placed) (to : ℕ) (receipts : List Receipt) (c : Option Course) (done : Replay) → AreStatements file 0 ss to →
-    run_all (going [] None) ss ≡ going receipts c → IsReplay file done → BeginsWith done.receipts receipts
-begins file ss to receipts c done stand run r = begins_at file 0 (going [] None) ss r.statements to r.to receipts c done stand r.stand run r.closes
+pub begins : (from : Option Course) (file : List ℕ) (ss : List Placed) (to : ℕ) (receipts : List Receipt) (c : Option Course) (done : Replay) → AreStatements file 0 ss to →
+    run_all (going [] from) ss ≡ going receipts c → ComesTo from file done → BeginsWith done.receipts receipts
+begins from file ss to receipts c done stand run r = begins_at file 0 (going [] from) ss r.statements to r.to receipts c done stand r.stand run r.closes

@@ -1,7 +1,7 @@
 -- Answers to certificates: a node is valid or not, and has one answer.
 use Rattle.std.proofs.Common.{◌≡◌, ◌⊎◌, inl, inr, ℕ, Bool, true, false, List, [], ◌∷◌, Option, Some, None, refl, sym, ap, ◌∙◌, subst}
 use Rattle.std.specs.Prelude.{codes}
-use Rattle.rules_text.specs.nodes.Tree.{Tree, int, str, bytes, prim, seq, Trees, none, more}
+use Rattle.rules_text.specs.nodes.Tree.{Tree, prim, more}
 use Rattle.rules_text.specs.declared.text.TextKind.{TextKind}
 use Rattle.rules_audit.specs.Same.{same_tree}
 use Rattle.rules_code.specs.instructions.Arguments.{Found, found, fault}

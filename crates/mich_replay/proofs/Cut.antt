@@ -1,5 +1,5 @@
 -- What is answered to the front of a file that is longer than it may be.
-use Rattle.std.proofs.Common.{◌≡◌, ℕ, ◌≤◌, ◌<◌, inl, inr, List, ◌++◌, length, Option, Some, None, Result, Ok, Err, refl, sym, ap, subst, arith}
+use Rattle.std.proofs.Common.{◌≡◌, ℕ, ◌≤◌, ◌<◌, inl, inr, List, ◌++◌, length, Option, Some, None, Result, Ok, Err, refl, sym, ap, ◌∙◌, subst, arith}
 use Rattle.std.proofs.lemmas.List.{append-nil}
 use Rattle.std.specs.Prelude.{IfOk, IsSome}
 use Rattle.rules_text.specs.nodes.Limits.{file_limit}
@@ -8,7 +8,7 @@ use Rattle.rules_files.specs.commands.Codec.{encode_node, decode_node}
 use Rattle.rules_files.specs.commands.Packs.{pack_node}
 use Rattle.rules_files.specs.commands.Scripts.{check_statements}
 use Rattle.rules_files.specs.commands.Certificates.{certify_statements}
-use Rattle.rules_files.specs.commands.Commands.{Verb, Replaying, Checking, Encoding, Decoding, Packing, Certifying, Verifying, Auditing, Command, OnFile, IsVerbAnswer, IsTold, IsAnswer}
+use Rattle.rules_files.specs.commands.Commands.{Verb, Replaying, Checking, Encoding, Decoding, Packing, Certifying, Verifying, Auditing, Snapshotting, Command, OnFile, IsVerbAnswer, IsTold, IsAnswer}
 use Rattle.rules_files.specs.commands.Replay.{Ending, State, RefusedAt}
 use Rattle.mich_text.proofs.ForCallers.{split}
 use Rattle.mich_base.specs.declared.memory.Memory.{Memory}
@@ -16,7 +16,7 @@ use Rattle.mich_replay.specs.Fronts.{IsRest, IsReadOf}
 use Rattle.mich_answers.specs.View.{answer_seen}
 use Rattle.mich_answers.specs.declared.answer.Answer.{Answer as Reply}
 use Rattle.mich_replay.proofs.Audited.{audit_on, audit_refused}
-use Rattle.mich_replay.proofs.Fronts.{replay_on, codec_on, text_on, verify_on, replay_refused, codec_refused, text_refused, verify_refused}
+use Rattle.mich_replay.proofs.Fronts.{replay_on, reached_on, codec_on, text_on, verify_on, replay_refused, reached_undone, codec_refused, text_refused, verify_refused}
 
 -- ---- what was read
 
@@ -31,6 +31,7 @@ verb_on Packing file more answer past p = codec_on file more past pack_node answ
 verb_on Certifying file more answer past p = text_on file more past certify_statements answer p
 verb_on Verifying file more answer past p = verify_on file more past answer p
 verb_on Auditing file more answer past p = audit_on file more past answer p
+verb_on Snapshotting file more answer past (x, r, e) = (x, reached_on file more past x r, e)
 
 pub verb_cut : (verb : Verb) (file more : List ℕ) (answer : Answer) → IsRest file more → IsVerbAnswer verb file answer → IsVerbAnswer verb (file ++ more) answer
 verb_cut verb file more answer rest p = elim (split (length file) file_limit) [
@@ -50,6 +51,7 @@ not_done Packing file answer past p zero = omega (arith, zero, codec_refused pac
 not_done Certifying file answer past p zero = omega (arith, zero, text_refused certify_statements file answer past p)
 not_done Verifying file answer past p zero = omega (arith, zero, verify_refused file answer past p)
 not_done Auditing file answer past p zero = omega (arith, zero, audit_refused file past answer p)
+not_done Snapshotting file answer past (x, r, e) zero = reached_undone file x past r (sym (ap (λ (a : Answer). a.status) e) ∙ zero)
 
 pub verb_done : (verb : Verb) (file : List ℕ) (answer : Answer) → IsVerbAnswer verb file answer → answer.status ≡ 0 → length file ≤ file_limit
 verb_done verb file answer p zero = elim (split (length file) file_limit) [

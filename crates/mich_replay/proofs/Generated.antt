@@ -17,6 +17,7 @@ use Rattle.mich_replay.specs.Generating.{AreCounts, IsCounted, Summed}
 use Rattle.mich_replay.specs.Output.{Output}
 use Rattle.mich_replay.specs.Steps.{FollowsIf}
 use Rattle.mich_replay.specs.declared.generating.Counts.{Counts}
+use Rattle.mich_replay.specs.declared.progress.Progress.{Progress}
 use Rattle.mich_replay.specs.declared.stop.Stop.{Stop}
 use Rattle.mich_replay.proofs.Promise.{Shows, shown}
 
@@ -26,22 +27,22 @@ followed c (Some p) f = (p, refl, f)
 followed c None f = absurd f
 
 -- there are few receipts
-pub few_receipts : (fed : List ℕ) (r : Held) (c : Option Course) (receipts : List Receipt) → Came fed true r c receipts → length receipts < 2 ^ 32
+pub few_receipts : (fed : List ℕ) (r : Held) (c : Progress) (receipts : List Receipt) → Came None fed true r c receipts → length receipts < 2 ^ 32
 few_receipts fed r c receipts h =
     let few = h.reads.few in
     let short = h.reads.short in
     omega (arith, few, short)
 
 -- at the end of a workload's text it has come to its receipts and a world
-workload_answer : (calls : ℕ) (r : Held) (c : Option Course) (receipts : List Receipt) (p : PlainCourse) (h : Came (scenario calls) true r c receipts) → h.plain ≡ Some p →
+workload_answer : (calls : ℕ) (r : Held) (c : Progress) (receipts : List Receipt) (p : PlainCourse) (h : Came None (scenario calls) true r c receipts) → h.plain ≡ Some p →
     IsEndAt (scenario calls) r.place → IsWorkloadAnswer calls (done_with (summary_line calls receipts p.world))
 workload_answer calls r c receipts p h is end = (
   receipts,
   p.world,
   record {
-    statements = h.reads.begun.statements;
+    statements = h.statements;
     to = r.place;
-    stand = subst (λ (l : List ℕ). AreStatements l 0 h.reads.begun.statements r.place) (append-nil (scenario calls)) (h.reads.begun.stand [] (λ e. refl));
+    stand = subst (λ (l : List ℕ). AreStatements l 0 h.statements r.place) (append-nil (scenario calls)) (h.reads.begun.stand [] (λ e. refl));
     closes = subst (λ (x : Run). Closes (scenario calls) r.place x (record { receipts = receipts; ending = State p.world }))
         (sym (h.reads.begun.run ∙ ap (going receipts) is)) (inl (end, refl));
   },
@@ -53,8 +54,8 @@ shows a b line (Ok status) h = h
 shows a b line (Err e) h = h
 
 -- its summary was written
-pub generated : (calls : ℕ) (content : List ℕ → Option (List ℕ)) (a b : Output) (text : List ℕ) (r : Held) (o : Option Course) (c : Course) (counts : Counts)
-    (result : Result ℕ Stop) → text ≡ scenario calls → o ≡ Some c → IsCounted text r o counts × IsEndAt text r.place →
+pub generated : (calls : ℕ) (content : List ℕ → Option (List ℕ)) (a b : Output) (text : List ℕ) (r : Held) (o : Progress) (c : Course) (counts : Counts)
+    (result : Result ℕ Stop) → text ≡ scenario calls → o.course ≡ Some c → IsCounted text r o counts × IsEndAt text r.place →
     ((receipts : List Receipt) (p : PlainCourse) → Follows c p → AreCounts receipts counts → Summed a b (summary_line calls receipts p.world) result) →
     Comes (Generating calls) content a b result
 generated calls content a b text r o c counts result e is h summed =

@@ -12,11 +12,17 @@ pub mod Ends
 pub mod Fronts
 pub mod Generated
 pub mod Happening
+pub mod Marked
 pub mod Once
+pub mod Opened
 pub mod Pace
 pub mod Promise
+pub mod Reached
 pub mod Readable
+pub mod Refusing
 pub mod Replayed
+pub mod Resumed
+pub mod SoundCourses
 pub mod Taken
 pub mod Taking
 pub mod Truth

@@ -1,5 +1,5 @@
 -- A file comes to one answer.
-use Rattle.std.proofs.Common.{◌≡◌, inl, inr, ℕ, List, [], ◌∷◌, length, drop, Option, Some, None, refl, sym, ap, ◌∙◌, subst, arith}
+use Rattle.std.proofs.Common.{◌≡◌, inl, inr, ℕ, List, [], ◌∷◌, ◌++◌, length, drop, Option, Some, None, Result, Ok, Err, refl, sym, ap, ◌∙◌, subst, append_assoc, arith}
 use Rattle.rules_text.specs.nodes.Tree.{Tree}
 use Rattle.rules_text.specs.declared.text.TextKind.{TextKind}
 use Rattle.mich_text.proofs.ForCallers.{one_statement, one_fault, no_fault_at_node, no_node_at_end, no_fault_at_end}
@@ -16,7 +16,14 @@ use Rattle.rules_files.specs.commands.Packs.{pack_node}
 use Rattle.mich_replay.proofs.Audited.{audit_one}
 use Rattle.mich_replay.proofs.Certified.{listed_one}
 use Rattle.mich_replay.proofs.Fronts.{IsTextAnswer}
-use Rattle.rules_files.specs.commands.Commands.{Command, OnFile, Generating, NoCommand, Verb, Replaying, Checking, Encoding, Decoding, Packing, Certifying, Verifying, Auditing, IsVerbAnswer, IsWorkloadAnswer, IsAnswer}
+use Rattle.rules_files.specs.commands.Commands.{Command, OnFile, Resuming, Generating, NoCommand, Verb, Replaying, Checking, Encoding, Decoding, Packing, Certifying, Verifying, Auditing, Snapshotting, IsVerbAnswer, IsWorkloadAnswer, IsAnswer}
+use Rattle.rules_files.specs.commands.Resuming.{IsResumed, IsResumeAnswer, Resumes, resumed_answer}
+use Rattle.rules_files.specs.commands.Snapshots.{Reached, refused_at, IsReached, Reaches, snapshot_answer}
+use Rattle.rules_files.specs.snapshots.Course.{course_of}
+use Rattle.rules_files.specs.snapshots.Loading.{LoadFault, loaded}
+use Rattle.rules_files.specs.snapshots.State as snapshots
+use Rattle.rules_files.specs.course.Course.{Course}
+use Rattle.mich_replay.specs.Coming.{ComesTo}
 
 -- ---- what stands at a place
 
@@ -86,6 +93,51 @@ replays-one file p r a b (s ∷ ss) (t ∷ ts) to of m n c d =
     replays-one file m.0 (run_one r s) a b ss ts to of m.2 (subst (λ (x : ℕ). AreStatements file x ts of) (sym same.behind) n.2)
     c (subst (λ (x : Placed). Closes file of (run_all (run_one r x) ts) b) (sym same.statement) d)
 
+pub comes-one : (from : Option Course) (file : List ℕ) (a b : Replay) → ComesTo from file a → ComesTo from file b → a ≡ b
+comes-one from file a b m n = replays-one file 0 (going [] from) a b m.statements n.statements m.to n.to m.stand n.stand m.closes n.closes
+
+-- ---- what a file reaches
+
+reaches-one : (file : List ℕ) (p : ℕ) (ss : List Placed) (r : Run) (a b : Reached) → Reaches file ss p r a → Reaches file ss p r b → a ≡ b
+reaches-one file p ss (stopped rs f place) a b c d = c ∙ sym d
+reaches-one file p ss stuck_run a b c d = absurd c
+reaches-one file p ss (going rs w) a b (inl c) (inl d) = c.1 ∙ sym d.1
+reaches-one file p ss (going rs w) a b (inl c) (inr d) = absurd (fault-and-end file p d.0 d.1 d.2 c.0)
+reaches-one file p ss (going rs w) a b (inr c) (inl d) = absurd (fault-and-end file p c.0 c.1 c.2 d.0)
+reaches-one file p ss (going rs w) a b (inr c) (inr d) =
+    let same = fault-at file p c.0 d.0 c.1 d.1 c.2 d.2 in
+    c.3 ∙ ap (λ (k : TextKind). refused_at (TextFault k) c.1) same.0 ∙ ap (λ (at : ℕ). refused_at (TextFault d.0) at) same.1 ∙ sym d.3
+
+-- where it ends before a statement, a statement was refused already
+reaches-early : (file : List ℕ) (p : ℕ) (all more : List Placed) (r : Run) (a b : Reached) (s : Placed) (behind : ℕ) (ss : List Placed) (to : ℕ) → Reaches file all p r a
+    → IsNodeAt file p s.node s.place behind → Reaches file more to (run_all r (s ∷ ss)) b → a ≡ b
+reaches-early file p all more (stopped rs f place) a b s behind ss to c node d =
+    c ∙ sym (subst (λ (x : Run). Reaches file more to x b) (stays rs f place (s ∷ ss)) d)
+reaches-early file p all more stuck_run a b s behind ss to c node d = absurd c
+reaches-early file p all more (going rs w) a b s behind ss to (inl c) node d = absurd (node-and-end file p s.node s.place behind node c.0)
+reaches-early file p all more (going rs w) a b s behind ss to (inr c) node d = absurd (node-and-fault file p s.node s.place behind c.0 c.1 node c.2)
+
+-- all statements are those in front of a place and those behind it
+files-one : (file : List ℕ) (p : ℕ) (all more : List Placed) (front ss ts : List Placed) (r : Run) (a b : Reached) (to of : ℕ) → all ≡ front ++ ss → more ≡ front ++ ts
+    → AreStatements file p ss to → AreStatements file p ts of → Reaches file all to (run_all r ss) a → Reaches file more of (run_all r ts) b → a ≡ b
+files-one file p all more front [] [] r a b to of e f m n c d =
+    let same : all ≡ more = e ∙ sym f in
+    reaches-one file p more r a b (subst (λ (l : List Placed). Reaches file l p r a) same (subst (λ (x : ℕ). Reaches file all x r a) (sym m) c))
+    (subst (λ (x : ℕ). Reaches file more x r b) (sym n) d)
+files-one file p all more front [] (t ∷ ts) r a b to of e f m n c d =
+    reaches-early file p all more r a b t n.0 ts of (subst (λ (x : ℕ). Reaches file all x r a) (sym m) c) n.1 d
+files-one file p all more front (s ∷ ss) [] r a b to of e f m n c d =
+    sym (reaches-early file p more all r b a s m.0 ss to (subst (λ (x : ℕ). Reaches file more x r b) (sym n) d) m.1 c)
+files-one file p all more front (s ∷ ss) (t ∷ ts) r a b to of e f m n c d =
+    let same = one-node file p s t m.0 n.0 m.1 n.1 in
+    let other : more ≡ front ++ s ∷ ts = f ∙ ap (λ (x : Placed). front ++ x ∷ ts) (sym same.statement) in
+    files-one file m.0 all more (front ++ s ∷ []) ss ts (run_one r s) a b to of (e ∙ sym (append_assoc front (s ∷ []) ss)) (other ∙ sym (append_assoc front (s ∷ []) ts)) m.2
+    (subst (λ (x : ℕ). AreStatements file x ts of) (sym same.behind) n.2) c (subst (λ (x : Placed). Reaches file more of (run_all (run_one r x) ts) b) (sym same.statement) d)
+
+reached-one : (file : List ℕ) (a b : Reached) → IsReached file a → IsReached file b → a ≡ b
+reached-one file a b m n =
+    files-one file 0 m.statements n.statements [] m.statements n.statements (going [] None) a b m.to n.to refl refl m.stand n.stand m.reaches n.reaches
+
 -- ---- listings
 
 ends-one : (file : List ℕ) (p : ℕ) (f g : Option (TextKind × ℕ)) → EndsIn file p f → EndsIn file p g → f ≡ g
@@ -146,6 +198,7 @@ verbs-one Packing file a b m n = codec-one pack_node file a b m n
 verbs-one Certifying file a b m n = text-one certify_statements file a b m n
 verbs-one Verifying file a b m n = verify-one file a b m n
 verbs-one Auditing file a b m n = audit_one file a b m n
+verbs-one Snapshotting file a b m n = m.2 ∙ ap snapshot_answer (reached-one file m.0 n.0 m.1 n.1) ∙ sym n.2
 
 -- the summary of what a workload came to
 abbrev summed_up : ℕ → List Receipt → Ending → List ℕ
@@ -162,8 +215,21 @@ workloads-one calls a b m n =
 some_is : (x y : List ℕ) → Some x ≡ Some y → x ≡ y
 some_is x y e = cc
 
+-- the answers to a file that goes on from a snapshot
+resumes-one : (found : Result snapshots.State LoadFault) (content : Option (List ℕ)) (a b : Answer) → Resumes found content a → Resumes found content b → a ≡ b
+resumes-one (Err fault) content a b m n = m ∙ sym n
+resumes-one (Ok s) content a b (file, e, (done, r, is)) (other, f, (again, q, same)) =
+    let one : other ≡ file = some_is other file (sym f ∙ e) in
+    let there : IsResumed (course_of s) file again = subst (λ (l : List ℕ). IsResumed (course_of s) l again) one q in
+    is
+    ∙ ap (resumed_answer s.groups)
+    (replays-one file 0 (going [] (Some (course_of s))) done again r.statements there.statements r.to there.to r.stand there.stand r.closes there.closes)
+    ∙ sym same
+
 pub answers-one : (command : Command) (content : List ℕ → Option (List ℕ)) (a b : Answer) → IsAnswer command content a → IsAnswer command content b → a ≡ b
 answers-one (OnFile verb path) content a b m n =
     verbs-one verb m.0 a b m.2 (subst (λ (file : List ℕ). IsVerbAnswer verb file b) (some_is n.0 m.0 (sym n.1 ∙ m.1)) n.2)
+answers-one (Resuming snapshot path) content a b m n =
+    resumes-one (loaded m.0) (content path) a b m.2 (subst (λ (bytes : List ℕ). IsResumeAnswer bytes (content path) b) (some_is n.0 m.0 (sym n.1 ∙ m.1)) n.2)
 answers-one (Generating calls) content a b m n = workloads-one calls a b m n
 answers-one NoCommand content a b m n = m ∙ sym n

@@ -1,24 +1,26 @@
 -- How what was written keeps step with what was taken.
-use Rattle.std.proofs.Common.{◌≡◌, ◌≤◌, ℕ, false, true, List, [], ◌++◌, length, Some, None, Result, Ok, Err, inl, inr, refl, sym, ap, ◌∙◌, subst, append-nil, arith}
+use Rattle.std.proofs.Common.{◌≡◌, ◌≤◌, ◌+◌, ℕ, Bool, false, true, List, [], ◌++◌, length, Some, None, Result, Ok, Err, inl, inr, refl, sym, ap, ◌∙◌, subst, append-nil, arith}
 use Rattle.std.specs.declared.option.Option.{Option}
 use Rattle.std.specs.Io.KnownBytes.{Appends, Consumes}
-use Rattle.std.specs.Prelude.{OnOk, OnErr, IsErrOf}
+use Rattle.std.specs.Prelude.{IsErrOf}
 use Rattle.std.proofs.KnownBytes.{Appends-nil, Appends-trans}
 use Rattle.rules_text.specs.nodes.Limits.{file_limit}
 use Rattle.rules_files.specs.commands.Answers.{status_of}
-use Rattle.rules_files.specs.commands.Commands.{Verb, Replaying, Command, OnFile, Generating, NoCommand, file_of}
+use Rattle.rules_files.specs.commands.Commands.{Verb, Replaying, Snapshotting, Command, OnFile, Resuming, Generating, NoCommand, file_of}
 use Rattle.rules_files.specs.commands.Lines.{group_lines, text_of, ending_lines}
 use Rattle.rules_files.specs.commands.Replay.{Ending, State, RefusedAt}
-use Rattle.mich_group.specs.declared.course.course.Course.{Course}
+use Rattle.rules_files.specs.course.Course.{Course as PlainCourse}
 use Rattle.mich_text.specs.pieces.Held.{Held}
 use Rattle.mich_replay.specs.Coming.{Closes, Grows, Told}
-use Rattle.mich_replay.specs.Pace.{Gives, NoneIsClosedAt, NotStarted, WritesAsItReads, piece_limit}
-use Rattle.mich_replay.specs.Output.{Output, Writes, WritesFront}
+use Rattle.mich_replay.specs.Pace.{Gives, NoneIsClosedAt, NotStarted, TakesInStep, groups_in, piece_limit}
+use Rattle.mich_replay.specs.Output.{Output}
 use Rattle.mich_replay.specs.View.{status_in, whole_seen}
 use Rattle.mich_replay.specs.declared.command.WholeVerb.{WholeVerb}
 use Rattle.mich_replay.specs.declared.command.WholeVerb.TheVariants as wholes
+use Rattle.mich_replay.specs.declared.progress.Progress.{Progress}
 use Rattle.mich_replay.specs.declared.stop.Stop.{Stop}
 use Rattle.mich_replay.specs.declared.stop.Stop.TheVariants as stop
+use Rattle.mich_replay.proofs.Closed.{none_first}
 
 -- ---- what grows
 
@@ -27,10 +29,6 @@ grows_nothing a = ([], Appends-nil a)
 
 pub grows_trans : (a b c : Option (List ℕ)) → Grows a b → Grows b c → Grows a c
 grows_trans a b c p q = (p.0 ++ q.0, Appends-trans a b c p.0 q.0 p.1 q.1)
-
-pub grows_by : {T E : Type 0} → (a b : Output) (lines : List (List ℕ)) (r : Result T E) → OnOk r (Writes a b lines) → OnErr r (WritesFront a b lines) → Grows a.written b.written
-grows_by a b lines (Ok t) p q = (text_of lines, p.text)
-grows_by a b lines (Err e) p q = (q.text.0, q.text.3)
 
 pub grows_closed : (a b : Output) (ending : Ending) (r : Result ℕ Stop) → Closes a b ending r → Grows a.written b.written
 grows_closed a b ending (Ok status) p = (text_of (ending_lines ending), p.1.text)
@@ -54,6 +52,11 @@ no_three_err stop.Read none e = none refl
 no_three_err stop.Write none e = absurd (omega (arith, e))
 no_three_err stop.Memory none e = absurd (omega (arith, e))
 
+read_of : (e : Stop) → status_in (Err e) ≡ 3 → e ≡ stop.Read
+read_of stop.Read h = refl
+read_of stop.Write h = absurd (omega (arith, h))
+read_of stop.Memory h = absurd (omega (arith, h))
+
 pub not_started : (before left a : Option (List ℕ)) (e : Stop) → (e ≡ stop.Write → ⊥) → left ≡ before → NotStarted before left a a (status_in (Err e))
 not_started before left a stop.Read none same = (refl, same, inl refl)
 not_started before left a stop.Write none same = absurd (none refl)
@@ -61,13 +64,32 @@ not_started before left a stop.Memory none same = (refl, same, inr refl)
 
 -- ---- what was told
 
-module _ (fed : List ℕ) (a b : Output) (r : Held) (c : Option Course) (t : Told fed false a b r c) (none : NoneIsClosedAt fed r.place) (within : length fed ≤ file_limit) where
+-- nothing was taken
+pub nothing_taken : (from : Option PlainCourse) (content left a : Option (List ℕ)) (status : ℕ) → Consumes content left [] → TakesInStep from content left a a status
+nothing_taken from content left a status bytes = (
+  [],
+  bytes,
+  record {
+    front = [];
+    piece = [];
+    taken_is = refl;
+    within = omega arith;
+    short = omega arith;
+    receipts = [];
+    gives = record { statements = []; to = 0; stand = λ more. refl; all = none_first; course = from; run = refl };
+    rest = [];
+    lines = Appends-nil a;
+    read_fault = λ e. (refl, refl);
+  },
+)
+
+module _ (from : Option PlainCourse) (fed : List ℕ) (a b : Output) (r : Held) (c : Progress) (t : Told from fed false a b r c) (none : NoneIsClosedAt fed r.place) (within : length fed ≤ file_limit) where
   never : false ≡ true → ⊥
   never e = absurd cc
 
-  gives : Gives fed t.receipts
+  gives : Gives from fed t.receipts
   gives = record {
-    statements = t.came.reads.begun.statements;
+    statements = t.came.statements;
     to = r.place;
     stand = λ more. t.came.reads.begun.stand more (λ e. absurd (never e));
     all = none;
@@ -76,8 +98,8 @@ module _ (fed : List ℕ) (a b : Output) (r : Held) (c : Option Course) (t : Tol
   }
 
   -- all that was taken was told, and nothing else
-  pub all_told : (content before left : Option (List ℕ)) (status : ℕ) → Consumes content left fed → WritesAsItReads content before left a.written b.written status
-  all_told content before left status bytes = inr (
+  pub all_told : (content left : Option (List ℕ)) (status : ℕ) → Consumes content left fed → TakesInStep from content left a.written b.written status
+  all_told content left status bytes = (
     fed,
     bytes,
     record {
@@ -89,15 +111,15 @@ module _ (fed : List ℕ) (a b : Output) (r : Held) (c : Option Course) (t : Tol
       receipts = t.receipts;
       gives = gives;
       rest = [];
-      lines = subst (Appends a.written b.written) (sym (append-nil (text_of (group_lines 1 t.receipts)))) t.lines.text;
+      lines = subst (Appends a.written b.written) (sym (append-nil (text_of (group_lines (groups_in from + 1) t.receipts)))) t.lines.text;
       read_fault = λ e. (refl, refl);
     },
   )
 
   -- a piece was taken, and more was written
-  pub one_behind : (content before left : Option (List ℕ)) (now : Output) (piece : List ℕ) (status : ℕ) → Consumes content left (fed ++ piece) → length piece ≤ piece_limit → Grows b.written now.written →
-      (status ≡ 3 → ⊥) → WritesAsItReads content before left a.written now.written status
-  one_behind content before left now piece status bytes short grown none = inr (
+  pub one_behind : (content left : Option (List ℕ)) (now : Output) (piece : List ℕ) (status : ℕ) → Consumes content left (fed ++ piece) → length piece ≤ piece_limit → Grows b.written now.written →
+      (status ≡ 3 → ⊥) → TakesInStep from content left a.written now.written status
+  one_behind content left now piece status bytes short grown none = (
     fed ++ piece,
     bytes,
     record {
@@ -109,8 +131,28 @@ module _ (fed : List ℕ) (a b : Output) (r : Held) (c : Option Course) (t : Tol
       receipts = t.receipts;
       gives = gives;
       rest = grown.0;
-      lines = Appends-trans a.written b.written now.written (text_of (group_lines 1 t.receipts)) grown.0 t.lines.text grown.1;
+      lines = Appends-trans a.written b.written now.written (text_of (group_lines (groups_in from + 1) t.receipts)) grown.0 t.lines.text grown.1;
       read_fault = λ e. absurd (none e);
+    },
+  )
+
+  -- a piece was taken or none, and nothing was written
+  pub given_up_behind : (content left : Option (List ℕ)) (piece : List ℕ) (e : Stop) → Consumes content left (fed ++ piece) → length piece ≤ piece_limit →
+      (e ≡ stop.Read → piece ≡ []) → TakesInStep from content left a.written b.written (status_in (Err e))
+  given_up_behind content left piece e bytes short none_read = (
+    fed ++ piece,
+    bytes,
+    record {
+      front = fed;
+      piece = piece;
+      taken_is = refl;
+      within = within;
+      short = short;
+      receipts = t.receipts;
+      gives = gives;
+      rest = [];
+      lines = subst (Appends a.written b.written) (sym (append-nil (text_of (group_lines (groups_in from + 1) t.receipts)))) t.lines.text;
+      read_fault = λ three. (none_read (read_of e three), refl);
     },
   )
 
@@ -125,6 +167,9 @@ whole_reads wholes.Certify e = absurd cc
 whole_reads wholes.Verify e = absurd cc
 whole_reads wholes.Audit e = absurd cc
 
+pub snapshot_reads : Snapshotting ≡ Replaying → ⊥
+snapshot_reads e = absurd cc
+
 pub same_verb : (verb : Verb) (path other : List ℕ) (what : Command) → OnFile verb path ≡ what → what ≡ OnFile Replaying other → (verb ≡ Replaying) × (path ≡ other)
 same_verb verb path other what e f = by (e ∙ f) where
   by : OnFile verb path ≡ OnFile Replaying other → (verb ≡ Replaying) × (path ≡ other)
@@ -135,17 +180,36 @@ same_path verb other_verb path other what e f = by (e ∙ f) where
   by : OnFile verb path ≡ OnFile other_verb other → path ≡ other
   by x = cc
 
-pub no_workload : (calls : ℕ) (verb : Verb) (path : List ℕ) (what : Command) → Generating calls ≡ what → what ≡ OnFile verb path → ⊥
-no_workload calls verb path what e f = by (e ∙ f) where
-  by : Generating calls ≡ OnFile verb path → ⊥
-  by x = absurd cc
+pub same_paths : (snapshot other_snapshot path other : List ℕ) (what : Command) → Resuming snapshot path ≡ what → what ≡ Resuming other_snapshot other →
+    (snapshot ≡ other_snapshot) × (path ≡ other)
+same_paths snapshot other_snapshot path other what e f = by (e ∙ f) where
+  by : Resuming snapshot path ≡ Resuming other_snapshot other → (snapshot ≡ other_snapshot) × (path ≡ other)
+  by x = let s : snapshot ≡ other_snapshot = cc in let p : path ≡ other = cc in (s, p)
 
-pub no_usage : (verb : Verb) (path : List ℕ) (what : Command) → NoCommand ≡ what → what ≡ OnFile verb path → ⊥
-no_usage verb path what e f = by (e ∙ f) where
-  by : NoCommand ≡ OnFile verb path → ⊥
-  by x = absurd cc
+-- what kind of command it is
+abbrev pub is_on_file : Command → Bool
+is_on_file (OnFile verb path) = true
+is_on_file (Resuming snapshot path) = false
+is_on_file (Generating calls) = false
+is_on_file NoCommand = false
 
-pub names_file : (verb : Verb) (path : List ℕ) (what : Command) → OnFile verb path ≡ what → file_of what ≡ None → ⊥
-names_file verb path what e f = by (ap file_of e ∙ f) where
+abbrev pub is_resuming : Command → Bool
+is_resuming (OnFile verb path) = false
+is_resuming (Resuming snapshot path) = true
+is_resuming (Generating calls) = false
+is_resuming NoCommand = false
+
+pub not_on_file : (one what : Command) (verb : Verb) (path : List ℕ) → is_on_file one ≡ false → one ≡ what → what ≡ OnFile verb path → ⊥
+not_on_file one what verb path none e f = never (sym none ∙ ap is_on_file (e ∙ f)) where
+  never : false ≡ true → ⊥
+  never x = absurd cc
+
+pub not_resuming : (one what : Command) (snapshot path : List ℕ) → is_resuming one ≡ false → one ≡ what → what ≡ Resuming snapshot path → ⊥
+not_resuming one what snapshot path none e f = never (sym none ∙ ap is_resuming (e ∙ f)) where
+  never : false ≡ true → ⊥
+  never x = absurd cc
+
+pub names_file : (one what : Command) (path : List ℕ) → file_of one ≡ Some path → one ≡ what → file_of what ≡ None → ⊥
+names_file one what path named e none = by (sym named ∙ ap file_of e ∙ none) where
   by : Some path ≡ None → ⊥
   by x = absurd cc

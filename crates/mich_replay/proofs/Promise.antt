@@ -1,11 +1,14 @@
 -- What is promised, where the whole text was written, and where a front of it was.
-use Rattle.std.proofs.Common.{◌≡◌, ◌≢◌, ◌≤◌, ℕ, List, IsSome, IfOk, Result, Ok, Err, inl, inr, refl, sym, ◌∙◌, subst, arith}
+use Rattle.std.proofs.Common.{◌≡◌, ◌≢◌, ◌≤◌, ℕ, List, IsSome, IfOk, Result, Ok, Err, inl, inr, refl, sym, subst, arith}
 use Rattle.std.specs.declared.option.Option.{Option}
 use Rattle.std.specs.Io.KnownBytes.{IsAtEnd}
 use Rattle.rules_text.specs.streams.Causes.{Rose}
 use Rattle.rules_files.specs.commands.Answers.{Answer}
-use Rattle.rules_files.specs.commands.Commands.{Command, OnFile, Generating, NoCommand, IsOwn, IsTold, IsAnswer, command_of, file_of}
+use Rattle.rules_files.specs.commands.Commands.{Command, OnFile, Resuming, Generating, NoCommand, AreTold, IsToldBehind, IsOwn, IsTold, IsAnswer, command_of, file_of}
 use Rattle.rules_files.specs.commands.Promise.{Meets}
+use Rattle.rules_files.specs.commands.Resuming.{Resumes}
+use Rattle.rules_files.specs.snapshots.Loading.{LoadFault, loaded}
+use Rattle.rules_files.specs.snapshots.State.{State}
 use Rattle.mich_replay.specs.Coming.{Comes}
 use Rattle.mich_replay.specs.Output.{Output, HandsLines, Writes, WritesFront}
 use Rattle.mich_replay.specs.declared.stop.Stop.{Stop}
@@ -15,23 +18,34 @@ use Rattle.mich_replay.proofs.Written.{writes_front}
 own_known : (command : Command) (status : ℕ) → IsOwn command status → status ≤ 2
 own_known (OnFile verb path) status (inl e) = omega (arith, e)
 own_known (OnFile verb path) status (inr e) = omega (arith, e)
+own_known (Resuming snapshot path) status (inl e) = omega (arith, e)
+own_known (Resuming snapshot path) status (inr e) = omega (arith, e)
 own_known (Generating calls) status e = omega (arith, e)
 own_known NoCommand status e = omega (arith, e)
 
 own_usage : (command : Command) (status : ℕ) → IsOwn command status → status ≡ 1 → command ≡ NoCommand
 own_usage (OnFile verb path) status (inl e) h = absurd (omega (arith, e, h))
 own_usage (OnFile verb path) status (inr e) h = absurd (omega (arith, e, h))
+own_usage (Resuming snapshot path) status (inl e) h = absurd (omega (arith, e, h))
+own_usage (Resuming snapshot path) status (inr e) h = absurd (omega (arith, e, h))
 own_usage (Generating calls) status e h = absurd (omega (arith, e, h))
 own_usage NoCommand status e h = refl
 
 own_refused : (command : Command) (status : ℕ) → IsOwn command status → status ≡ 2 → IsSome (file_of command)
 own_refused (OnFile verb path) status own h = refl
+own_refused (Resuming snapshot path) status own h = refl
 own_refused (Generating calls) status e h = absurd (omega (arith, e, h))
 own_refused NoCommand status e h = absurd (omega (arith, e, h))
+
+told_behind : (found : Result State LoadFault) (file : Option (List ℕ)) (answer : Answer) → Resumes found file answer → IsToldBehind found file
+told_behind (Ok s) file answer h = subst IsSome (sym h.1) refl
+told_behind (Err fault) file answer h = tt
 
 -- what has an answer is told
 told : (command : Command) (content : List ℕ → Option (List ℕ)) (answer : Answer) → IsAnswer command content answer → IsTold command content
 told (OnFile verb path) content answer h = subst IsSome (sym h.1) refl
+told (Resuming snapshot path) content answer (bytes, e, h) =
+    subst (λ (o : Option (List ℕ)). AreTold o (content path)) (sym e) (told_behind (loaded bytes) (content path) answer h)
 told (Generating calls) content answer h = tt
 told NoCommand content answer h = tt
 

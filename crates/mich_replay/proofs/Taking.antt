@@ -1,5 +1,5 @@
 -- What a statement leads to, and what is told of it.
-use Rattle.std.proofs.Common.{◌≡◌, ◌+◌, ◌<◌, ◌^◌, ℕ, List, [], ◌∷◌, length, map, Option, Some, None, Ok, Err, refl, sym, ap, ◌∙◌, subst}
+use Rattle.std.proofs.Common.{◌≡◌, ◌+◌, ◌<◌, ◌^◌, ℕ, List, [], ◌∷◌, length, map, Option, Some, None, Ok, Err, refl, sym, ap, ◌∙◌, subst, arith}
 use Rattle.std.proofs.lemmas.List.{length-append}
 use Rattle.rules_files.specs.course.Course.{Course as PlainCourse, Step, goes_on, stops, stuck_step, BadOrder, BadCosts, RepeatedAccount, SupplyLimit, first_step, step_behind}
 use Rattle.rules_files.specs.course.Ranges.{IsStatement}
@@ -32,20 +32,6 @@ repeated (stops BadCosts) None h = absurd h
 repeated (stops RepeatedAccount) None h = absurd h
 repeated (stops SupplyLimit) None h = absurd h
 repeated stuck_step None h = absurd h
-
-pub too_much : (s : Step) (c : Option Course) → Leads s c (Err error.SupplyLimit) → s ≡ stops SupplyLimit
-too_much (goes_on p rs) (Some c) h = absurd h
-too_much (stops BadOrder) (Some c) h = absurd h
-too_much (stops BadCosts) (Some c) h = absurd h
-too_much (stops RepeatedAccount) (Some c) h = absurd h
-too_much (stops SupplyLimit) (Some c) h = refl
-too_much stuck_step (Some c) h = absurd h
-too_much (goes_on p rs) None h = absurd h
-too_much (stops BadOrder) None h = absurd h
-too_much (stops BadCosts) None h = absurd h
-too_much (stops RepeatedAccount) None h = absurd h
-too_much (stops SupplyLimit) None h = absurd h
-too_much stuck_step None h = absurd h
 
 -- ---- the first statement
 
@@ -106,10 +92,10 @@ one_told t [] e = absurd cc
 one_told t (r ∷ []) e = let same : t ≡ told_receipt r = cc in (r, refl, sym same)
 one_told t (r ∷ s ∷ rs) e = absurd cc
 
-module _ (receipts : List Receipt) (p : Option PlainCourse) (old : Option Course) (s : Statement) (stands : Stands receipts p old) (room : HasRoom old) (ranges : IsStatement s) where
+module _ (groups : ℕ) (receipts : List Receipt) (p : Option PlainCourse) (old : Option Course) (s : Statement) (stands : Stands groups receipts p old) (room : HasRoom old) (ranges : IsStatement s) where
   -- a group
   pub took_group : (new : Option Course) (place : ℕ) (r : GroupReceipt) → Leads (step p s) new (Ok (Some r)) →
-      IsTaken receipts place (continued receipts place (step p s)) new (Ok (event.Group r))
+      IsTaken groups receipts place (continued receipts place (step p s)) new (Ok (event.Group r))
   took_group new place r h =
       let l = led (step p s) new (Some r) h in
       let one = one_told (receipt r) l.receipts l.told in
@@ -121,6 +107,6 @@ module _ (receipts : List Receipt) (p : Option PlainCourse) (old : Option Course
         refl,
         record {
           follows = l.follows;
-          count = groups_followed new l.course l.follows ∙ count ∙ ap (λ (n : ℕ). n + 1) stands.count ∙ sym (length-append receipts (one.0 ∷ []));
+          count = omega (arith, groups_followed new l.course l.follows, count, stands.count, length-append receipts (one.0 ∷ []));
         },
       )

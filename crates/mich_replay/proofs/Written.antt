@@ -5,12 +5,11 @@ use Rattle.std.specs.Io.KnownBytes.{Appends}
 use Rattle.std.proofs.KnownBytes.{Appends-nil, Appends-trans}
 use Rattle.std.proofs.lemmas.List.{drop_more, take_more}
 use Rattle.rules_text.specs.streams.Known.{AppendsFront}
-use Rattle.mich_io.specs.Handed.{HandsAll, HandsFront}
 use Rattle.mich_io.proofs.ForCallers.{AppendsFront-more, all_front, all_nothing, all_then, front_longer, front_nothing, front_then as handed_front_then}
 use Rattle.rules_world.specs.lines.Nodes.{line, group_node}
 use Rattle.rules_files.specs.commands.Lines.{group_lines, text_of}
 use Rattle.rules_world.specs.world.Receipts.{Receipt}
-use Rattle.mich_replay.specs.Output.{Output, output, Writes, WritesFront}
+use Rattle.mich_replay.specs.Output.{Output, Writes, WritesFront}
 
 pub text_of-append : (xs ys : List (List ℕ)) → text_of (xs ++ ys) ≡ text_of xs ++ text_of ys
 text_of-append [] ys = refl
@@ -49,15 +48,6 @@ front_then a b c xs ys p q = record {
 }
 
 -- ---- one line
-
-one_text : (l : List ℕ) → text_of (l ∷ []) ≡ l
-one_text l = append-nil l
-
-pub one_line : (a b : Option (List ℕ)) (h k : Option (List (List ℕ))) (l : List ℕ) → Appends a b l → HandsAll h k (l ∷ []) → Writes (output a h) (output b k) (l ∷ [])
-one_line a b h k l p q = record { text = subst (Appends a b) (sym (one_text l)) p; pieces = q }
-
-pub one_cut : (a b : Option (List ℕ)) (h k : Option (List (List ℕ))) (l : List ℕ) → AppendsFront a b l → HandsFront h k (l ∷ []) → WritesFront (output a h) (output b k) (l ∷ [])
-one_cut a b h k l p q = record { text = subst (AppendsFront a b) (sym (one_text l)) p; pieces = q }
 
 pub one_written : (a b : Output) (l text : List ℕ) → l ≡ text → Writes a b (l ∷ []) → Writes a b (text ∷ [])
 one_written a b l text e p = subst (λ (x : List ℕ). Writes a b (x ∷ [])) e p

@@ -1,12 +1,10 @@
 -- Workloads that are replayed, and their groups counted.
-use Rattle.std.specs.Prelude.{◌≡◌, ◌<◌, ℕ, List, [], ◌∷◌, length, Bool, true, false, Result, Ok, Err, IfOk}
-use Rattle.std.specs.declared.option.Option.{Option}
+use Rattle.std.specs.Prelude.{◌≡◌, ◌<◌, ℕ, List, [], ◌∷◌, length, Bool, true, false, None, Result, Ok, Err, IfOk}
 use Rattle.rules_files.specs.course.Course.{Course as PlainCourse}
 use Rattle.rules_files.specs.commands.Places.{IsEndAt}
 use Rattle.rules_world.specs.summary.Summary.{was_applied, has_failed, count_of, calls_in, summary_line}
 use Rattle.rules_world.specs.world.Receipts.{Receipt}
 use Rattle.mich_base.specs.declared.memory.Memory.{Memory}
-use Rattle.mich_group.specs.declared.course.course.Course.{Course}
 use Rattle.mich_ops.specs.Told.{ToldReceipt}
 use Rattle.mich_ops.specs.Told as told
 use Rattle.mich_text.specs.pieces.Held.{Held}
@@ -15,6 +13,7 @@ use Rattle.mich_replay.specs.Output.{Output, Writes, WritesFront}
 use Rattle.mich_replay.specs.declared.generating.Counts.{Counts}
 use Rattle.mich_replay.specs.declared.generating.Counting.{Counting}
 use Rattle.mich_replay.specs.declared.generating.Counting.TheVariants as counting
+use Rattle.mich_replay.specs.declared.progress.Progress.{Progress}
 use Rattle.mich_replay.specs.declared.session.Session.{Session}
 use Rattle.mich_replay.specs.declared.steps.Event.{Event}
 use Rattle.mich_replay.specs.declared.stop.Stop.{Stop}
@@ -35,25 +34,25 @@ pub record AreCounts (receipts : List Receipt) (counts : Counts) : Type 0 where
   pub failed : counts.failed ≡ count_of has_failed (calls_in receipts)
 
 -- the groups of the bytes so far are counted
-pub record IsCounted (fed : List ℕ) (r : Held) (c : Option Course) (counts : Counts) : Type 0 where
+pub record IsCounted (fed : List ℕ) (r : Held) (c : Progress) (counts : Counts) : Type 0 where
   pub receipts : List Receipt
-  pub came : Came fed true r c receipts
+  pub came : Came None fed true r c receipts
   pub counted : AreCounts receipts counts
 
 -- so are all groups of a workload
 abbrev pub AllCounted : List ℕ → Session → Counts → Type 0
-AllCounted fed s counts = IsCounted fed s.reader s.course counts × IsEndAt fed s.reader.place
+AllCounted fed s counts = IsCounted fed s.reader s.progress counts × IsEndAt fed s.reader.place
 
 -- how the counting goes on behind a place, or ends
-abbrev pub Counted : List ℕ → ℕ → Held → Option Course → Counting → Type 0
+abbrev pub Counted : List ℕ → ℕ → Held → Progress → Counting → Type 0
 Counted fed place r c (counting.On counts) = IsCounted fed r c counts × (place < r.place)
 Counted fed place r c (counting.Ended counts) = IsCounted fed r c counts × IsEndAt fed r.place
 
 -- the groups before it were counted so: what came behind a place is counted
 abbrev pub CountsEvent : Counts → Event → Result Counting Memory → Type 0
 CountsEvent counts e result =
-    (fed : List ℕ) (receipts : List Receipt) (place : ℕ) (r : Held) (c : Option Course) → AreCounts receipts counts
-    → Happens fed true receipts place r c (Ok e) → IfOk result (λ next. Counted fed place r c next)
+    (fed : List ℕ) (receipts : List Receipt) (place : ℕ) (r : Held) (c : Progress) → AreCounts receipts counts
+    → Happens None fed true receipts place r c (Ok e) → IfOk result (λ next. Counted fed place r c next)
 
 -- the line was written, with status 0; or a front of it was
 abbrev pub Summed : Output → Output → List ℕ → Result ℕ Stop → Type 0

@@ -1,5 +1,5 @@
 -- Laws of what a file comes to.
-use Rattle.std.specs.Prelude.{◌≡◌, ◌≢◌, ◌≤◌, ◌<◌, ℕ, ◌-ℤ◌, List, [], ◌++◌, length, None}
+use Rattle.std.specs.Prelude.{◌≡◌, ◌≢◌, ◌≤◌, ◌<◌, ℕ, ◌-ℤ◌, List, [], ◌++◌, length, None, Some}
 use Rattle.std.specs.declared.option.Option.{Option}
 use Rattle.rules_text.specs.nodes.Limits.{file_limit, most_mutez}
 use Rattle.rules_files.specs.commands.Places.{Placed, AreStatements, IsEndAt}
@@ -9,9 +9,10 @@ use Rattle.rules_world.specs.world.Holdings.{held, minted_ever, burnt_ever}
 use Rattle.rules_world.specs.world.World.{World}
 use Rattle.rules_files.specs.commands.Replay.{Replay, State, IsReplay, going, stuck_run, run_all}
 use Rattle.rules_files.specs.commands.Answers.{Answer}
-use Rattle.rules_files.specs.commands.Commands.{Command, IsTold, IsAnswer}
+use Rattle.rules_files.specs.commands.Commands.{Command, OnFile, Resuming, Generating, NoCommand, IsTold, IsAnswer}
 use Rattle.rules_files.specs.commands.Codec.{IsCodecAnswer}
 use Rattle.rules_text.specs.nodes.Tree.{Tree}
+use Rattle.laws_data.specs.binary.Laws.{IsBytes}
 use Rattle.laws_files.specs.Files.{granted_in}
 
 -- ---- answers
@@ -20,9 +21,16 @@ use Rattle.laws_files.specs.Files.{granted_in}
 abbrev pub HasOneAnswer : Command → Type 0
 HasOneAnswer command = (content : List ℕ → Option (List ℕ)) (a b : Answer) → IsAnswer command content a → IsAnswer command content b → a ≡ b
 
+-- a snapshot that a command loads is made of bytes
+abbrev pub LoadsBytes : Command → (List ℕ → Option (List ℕ)) → Type 0
+LoadsBytes (Resuming snapshot path) content = (bytes : List ℕ) → content snapshot ≡ Some bytes → IsBytes bytes
+LoadsBytes (OnFile _ _) _ = Unit {0}
+LoadsBytes (Generating _) _ = Unit {0}
+LoadsBytes NoCommand _ = Unit {0}
+
 -- and where it is known what it reads, it has one
 abbrev pub HasAnAnswer : Command → Type 0
-HasAnAnswer command = (content : List ℕ → Option (List ℕ)) → IsTold command content → (answer : Answer) × IsAnswer command content answer
+HasAnAnswer command = (content : List ℕ → Option (List ℕ)) → LoadsBytes command content → IsTold command content → (answer : Answer) × IsAnswer command content answer
 
 -- the groups of a file all have outcomes: accepted code is never stuck
 abbrev pub NoGroupIsStuck : Type 0

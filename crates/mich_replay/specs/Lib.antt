@@ -8,6 +8,7 @@ pub use Rattle.rules_files.specs.commands.Promise
 pub use Rattle.rules_files.specs.commands.Scripts
 pub use Rattle.rules_files.specs.commands.Packs
 pub mod Laws
+pub mod Marks
 pub mod Steps
 pub mod View
 pub mod Output
@@ -16,3 +17,5 @@ pub mod Generating
 pub mod Fronts
 pub mod Pace
 pub mod Taken
+pub mod Opening
+pub mod Reaching

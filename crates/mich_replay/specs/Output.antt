@@ -1,5 +1,5 @@
 -- What is known of a sink, and lines that are written to it.
-use Rattle.std.specs.Prelude.{◌≡◌, ◌≤◌, ℕ, List}
+use Rattle.std.specs.Prelude.{◌≡◌, ◌≤◌, ℕ, List, [], ◌∷◌, Result, Ok, Err}
 use Rattle.std.specs.declared.option.Option.{Option}
 use Rattle.std.specs.Io.KnownBytes.{Appends}
 use Rattle.rules_text.specs.streams.Known.{AppendsFront}
@@ -7,6 +7,7 @@ use Rattle.rules_files.specs.commands.Answers.{Answer}
 use Rattle.rules_files.specs.commands.Commands.{IsAnswer, IsTold, command_of}
 use Rattle.rules_files.specs.commands.Lines.{text_of}
 use Rattle.mich_io.specs.Handed.{HandsAll, HandsFront}
+use Rattle.mich_replay.specs.declared.stop.Stop.{Stop}
 
 -- all that was written to it, and the pieces that it was handed
 pub record Output : Type 0 where
@@ -25,6 +26,11 @@ pub record Writes (before now : Output) (lines : List (List ℕ)) : Type 0 where
 pub record WritesFront (before now : Output) (lines : List (List ℕ)) : Type 0 where
   pub text : AppendsFront before.written now.written (text_of lines)
   pub pieces : HandsFront before.handed now.handed lines
+
+-- the line of a refusal was written, with its status; or a front of it was
+abbrev pub RefusesWith : List ℕ → (before now : Output) → Result ℕ Stop → Type 0
+RefusesWith line before now (Ok status) = (status ≡ 2) × Writes before now (line ∷ [])
+RefusesWith line before now (Err e) = WritesFront before now (line ∷ [])
 
 -- Each line of the answer was handed over whole, and then what was left of it, until all of it was taken. Whatever the status is, a front of
 -- that was done.

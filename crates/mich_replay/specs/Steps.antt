@@ -39,24 +39,24 @@ Leads step None (Ok r) = ⊥
 
 -- ---- receipts
 
--- behind these receipts the code's course follows one of the rules
-pub record Stands (receipts : List Receipt) (p : Option PlainCourse) (c : Option Course) : Type 0 where
+-- behind so many groups and these receipts the code's course follows one of the rules
+pub record Stands (groups : ℕ) (receipts : List Receipt) (p : Option PlainCourse) (c : Option Course) : Type 0 where
   pub follows : FollowsIf c p
-  pub count : groups_of c ≡ length receipts
+  pub count : groups_of c ≡ groups + length receipts
 
 -- a receipt of the rules of which the code's tells all
 abbrev pub Tells : GroupReceipt → Receipt → Type 0
 Tells told found = told_receipt found ≡ receipt told
 
 -- behind these receipts a statement at a place left this course, and this is told of it
-abbrev pub IsTaken : List Receipt → ℕ → Run → Option Course → Result Event Memory → Type 0
-IsTaken before place (going receipts p) c (Ok event.Taken) = (receipts ≡ before) × Stands receipts p c
-IsTaken before place (going receipts p) c (Ok (event.Group told)) = (found : Receipt) × Tells told found × (receipts ≡ before ++ found ∷ []) × Stands receipts p c
-IsTaken before place (stopped receipts f at) c (Ok (event.Refused fault here)) = (receipts ≡ before) × (f ≡ file_fault_seen fault) × (at ≡ here) × (here ≡ place)
-IsTaken before place run c (Err e) = Unit {0}
-IsTaken before place run c (Ok r) = ⊥
+abbrev pub IsTaken : ℕ → List Receipt → ℕ → Run → Option Course → Result Event Memory → Type 0
+IsTaken groups before place (going receipts p) c (Ok event.Taken) = (receipts ≡ before) × Stands groups receipts p c
+IsTaken groups before place (going receipts p) c (Ok (event.Group told)) = (found : Receipt) × Tells told found × (receipts ≡ before ++ found ∷ []) × Stands groups receipts p c
+IsTaken groups before place (stopped receipts f at) c (Ok (event.Refused fault here)) = (receipts ≡ before) × (f ≡ file_fault_seen fault) × (at ≡ here) × (here ≡ place)
+IsTaken groups before place run c (Err e) = Unit {0}
+IsTaken groups before place run c (Ok r) = ⊥
 
 -- so it is of the statement at a place, or of a node that is none, behind whatever receipts
 abbrev pub Takes : ℕ → Option Statement → (before now : Option Course) → Result Event Memory → Type 0
-Takes place s before now result = (receipts : List Receipt) (p : Option PlainCourse) → Stands receipts p before
-    → IsTaken receipts place (taken receipts p place s) now result
+Takes place s before now result = (groups : ℕ) (receipts : List Receipt) (p : Option PlainCourse) → Stands groups receipts p before
+    → IsTaken groups receipts place (taken receipts p place s) now result

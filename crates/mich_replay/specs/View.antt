@@ -24,16 +24,19 @@ whole_seen wholes.Audit = commands.Auditing
 
 abbrev pub verb_seen : Verb → commands.Verb
 verb_seen verbs.Replay = commands.Replaying
+verb_seen verbs.Snapshot = commands.Snapshotting
 verb_seen (verbs.Whole verb) = whole_seen verb
 
 abbrev pub command_seen : Command → commands.Command
 command_seen (words.OnFile verb path) = commands.OnFile (verb_seen verb) path.now
+command_seen (words.Resume snapshot path) = commands.Resuming snapshot.now path.now
 command_seen (words.Generate calls) = commands.Generating calls
 command_seen words.NoCommand = commands.NoCommand
 
 -- a workload has 1 to 100,000 calls
 abbrev pub IsInRange : Command → Type 0
 IsInRange (words.OnFile verb path) = Unit {0}
+IsInRange (words.Resume snapshot path) = Unit {0}
 IsInRange (words.Generate calls) = (1 ≤ calls) × (calls ≤ 100000)
 IsInRange words.NoCommand = Unit {0}
 

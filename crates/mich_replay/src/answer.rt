@@ -4,7 +4,6 @@ ghost use Rattle.std.specs.Io.KnownBytes.{IsAtEnd};
 ghost use Rattle.rules_text.specs.nodes.Limits.{file_limit};
 ghost use Rattle.rules_text.specs.streams.Causes.{HasCause};
 ghost use Rattle.rules_text.specs.streams.Known.{SameFiles};
-ghost use Rattle.rules_files.specs.commands.Answers.{usage_answer};
 ghost use Rattle.rules_files.specs.commands.Commands.{OnFile, NoCommand, IsVerbAnswer};
 ghost use Rattle.mich_answers.specs.View.{answer_seen, IsDoneOrRefused};
 ghost use Rattle.mich_replay.specs.Coming.{Comes, IsAnswerIfTold};

@@ -1,7 +1,7 @@
 // What the words ask for.
-ghost use Rattle.std.specs.Prelude.{◌≡◌, ◌≤◌, Some, None, length, option_map, if◌then◌else◌};
+ghost use Rattle.std.specs.Prelude.{◌≡◌, ◌≤◌, ◌∷◌, [], Some, None, length, option_map, if◌then◌else◌};
 ghost use Rattle.std.specs.Str.{is_utf8};
-ghost use Rattle.rules_files.specs.commands.Commands.{is_path, verb_of, on_file, digits_behind, calls_of, on_calls, command_of};
+ghost use Rattle.rules_files.specs.commands.Commands.{is_path, verb_of, on_file, on_files, digits_behind, calls_of, on_calls, command_of};
 ghost use Rattle.mich_replay.specs.View.{verb_seen, command_seen, IsInRange};
 
 use mich_base::Text;
@@ -23,13 +23,15 @@ pub enum WholeVerb {
 #[derive(Clone, Copy)]
 pub enum Verb {
     Replay,
+    Snapshot,
     Whole(WholeVerb),
 }
 
-/// A command with its file, a workload of so many calls, or none.
+/// A command with its file, a snapshot and the file that goes on from it, a workload of so many calls, or none.
 #[derive(Clone, Copy)]
 pub enum Command<'a> {
     OnFile(Verb, &'a str),
+    Resume(&'a str, &'a str),
     Generate(u32),
     NoCommand,
 }
@@ -63,6 +65,8 @@ fn verb_of(word: &[u8]) -> Option<Verb>
         Some(Verb::Whole(WholeVerb::Verify))
     } else if word == b"audit".as_slice() {
         Some(Verb::Whole(WholeVerb::Audit))
+    } else if word == b"snapshot".as_slice() {
+        Some(Verb::Snapshot)
     } else {
         None
     }
@@ -85,6 +89,17 @@ fn on_file<'a>(verb: &[u8], path: &'a [u8]) -> Command<'a>
 {
     match (verb_of(verb), path_of(path)) {
         (Some(verb), Some(path)) => Command::OnFile(verb, path),
+        _ => Command::NoCommand,
+    }
+}
+
+// The command with its two files.
+fn on_files<'a>(snapshot: &'a [u8], path: &'a [u8]) -> Command<'a>
+    ensures seen { command_seen result ≡ on_files snapshot.now path.now }
+    ensures range { IsInRange result }
+{
+    match (path_of(snapshot), path_of(path)) {
+        (Some(snapshot), Some(path)) => Command::Resume(snapshot, path),
         _ => Command::NoCommand,
     }
 }
@@ -127,17 +142,38 @@ fn on_calls(calls: Option<u32>) -> Command<'static>
     }
 }
 
+// The command of two words.
+fn by_two<'a>(verb: &[u8], word: &'a [u8]) -> Command<'a>
+    ensures seen { command_seen result ≡ command_of (verb.now ∷ word.now ∷ []) }
+    ensures range { IsInRange result }
+{
+    if verb == b"generate".as_slice() {
+        on_calls(calls_of(word))
+    } else {
+        on_file(verb, word)
+    }
+}
+
+// The command of three words.
+fn by_three<'a>(verb: &[u8], snapshot: &'a [u8], path: &'a [u8]) -> Command<'a>
+    ensures seen { command_seen result ≡ command_of (verb.now ∷ snapshot.now ∷ path.now ∷ []) }
+    ensures range { IsInRange result }
+{
+    if verb == b"resume".as_slice() {
+        on_files(snapshot, path)
+    } else {
+        Command::NoCommand
+    }
+}
+
 /// The command that the words are.
 pub(crate) fn read_words(words: &[Text]) -> Command<'_>
     ensures seen { command_seen result ≡ command_of words.now }
     ensures range { IsInRange result }
 {
-    let [verb, word] = words else {
-        return Command::NoCommand;
-    };
-    if verb.as_slice() == b"generate".as_slice() {
-        on_calls(calls_of(word.as_slice()))
-    } else {
-        on_file(verb.as_slice(), word.as_slice())
+    match words {
+        [verb, word] => by_two(verb.as_slice(), word.as_slice()),
+        [verb, snapshot, path] => by_three(verb.as_slice(), snapshot.as_slice(), path.as_slice()),
+        _ => Command::NoCommand,
     }
 }

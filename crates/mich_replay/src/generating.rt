@@ -108,8 +108,8 @@ fn count(counts: Counts, event: Event) -> Result<Counting, Memory>
 
 // Counts the groups of a workload to its end.
 fn count_groups(alloc: Global, session: &mut Session) -> Result<Counts, Memory>
-    requires { (fed : List ℕ) × CameTo fed true session.old [] }
-    ensures { (fed : List ℕ) → CameTo fed true session.old [] → IfOk result (λ counts. AllCounted fed session.new counts) }
+    requires { (fed : List ℕ) × CameTo None fed true session.old [] }
+    ensures { (fed : List ℕ) → CameTo None fed true session.old [] → IfOk result (λ counts. AllCounted fed session.new counts) }
 {
     let mut counts = Counts {
         groups: 0,
@@ -162,7 +162,7 @@ pub(crate) fn generate<K: Sink>(alloc: Global, calls: u32, out: &mut K) -> Resul
     let mut session = Session::new(alloc)?;
     session.feed(text.as_slice())?;
     let counts = count_groups(alloc, &mut session)?;
-    match &session.course {
+    match &session.progress.course {
         Some(course) => sum_up(alloc, calls, counts, course, out),
         None => Err(Stop::Memory),
     }

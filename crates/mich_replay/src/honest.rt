@@ -1,5 +1,5 @@
 // The replay of a file and a sink that never fail.
-ghost use Rattle.std.specs.Prelude.{◌≡◌, ◌⊎◌, ◌≤◌, ◌<◌, ℕ, List, [], ◌∷◌, IfOk, Some, codes};
+ghost use Rattle.std.specs.Prelude.{◌≡◌, ◌⊎◌, ◌<◌, [], ◌∷◌, IfOk, codes};
 ghost use Rattle.rules_files.specs.commands.Lines.{text_of};
 ghost use Rattle.rules_files.specs.commands.Answers.{Answer};
 ghost use Rattle.rules_files.specs.commands.Commands.{Replaying, IsVerbAnswer};

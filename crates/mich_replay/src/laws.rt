@@ -13,8 +13,8 @@ ghost use Rattle.mich_replay.specs.Laws.{ConservesMutez, ConservesTickets, HasAn
 
 use laws_world::groups::{failed_groups_move_fees, refused_groups_move_nothing};
 
-/// What words ask for has one answer: whatever the files hold, no two statuses and texts are answers to it, and where its file is known,
-/// one is. So each file comes to something, and no workload is refused.
+/// What words ask for has one answer: whatever the files hold, no two statuses and texts are answers to it, and where its files are known,
+/// and a snapshot that it loads is made of bytes, one is. So each file comes to something, and no workload is refused.
 pub fn commands_have_one_answer()
     ensures once { (command : Command) → HasOneAnswer command }
     ensures some { (words : List (List ℕ)) → HasAnAnswer (command_of words) }

@@ -3,14 +3,18 @@
 
 mod answer;
 mod command;
+mod feeding;
 mod generating;
 mod honest;
 mod laws;
 mod lines;
 mod outcome;
+mod progress;
 mod reading;
 mod replaying;
+mod resuming;
 mod session;
+mod snapshotting;
 mod steps;
 mod stop;
 mod top;

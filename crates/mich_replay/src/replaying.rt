@@ -1,20 +1,23 @@
 // A file that is replayed as it is read.
-ghost use Rattle.std.specs.Prelude.{◌≡◌, ◌<◌, ◌≤◌, ◌^◌, ◌-◌, ℕ, List, length, Option, Contains, IfOk, IsErrOf};
+ghost use Rattle.std.specs.Prelude.{◌≡◌, ◌<◌, ◌-◌, ℕ, List, [], false, Option, Contains, IfOk, IsErrOf};
 ghost use Rattle.std.specs.Io.KnownBytes.{IsAtEnd};
 ghost use Rattle.rules_files.specs.course.Course.{Course as PlainCourse};
 ghost use Rattle.rules_text.specs.streams.Causes.{HasCause};
 ghost use Rattle.rules_text.specs.streams.Known.{SameFiles};
 ghost use Rattle.rules_files.specs.commands.Commands.{OnFile, Replaying};
+ghost use Rattle.rules_files.specs.commands.Lines.{refusal_line};
 ghost use Rattle.rules_files.specs.commands.Replay.{RefusedAt, ending_of};
-ghost use Rattle.mich_replay.specs.Coming.{Closes, Comes, Grows, TellsEvent, TellsGroups, Told};
-ghost use Rattle.mich_replay.specs.Output.{Output, output};
-ghost use Rattle.mich_replay.specs.Pace.{WritesAsItReads};
+ghost use Rattle.mich_replay.specs.Coming.{CameTo, Closes, Comes, EndsAs, Grows, TellsEvent, TellsGroups, Told};
+ghost use Rattle.mich_replay.specs.Output.{Output, RefusesWith, output};
+ghost use Rattle.mich_replay.specs.Pace.{TakesInStep, WritesAsItReads};
 ghost use Rattle.mich_replay.specs.Steps.{FollowsIf};
 ghost use Rattle.mich_replay.specs.View.{file_fault_seen, status_in};
 
+use crate::feeding::feed_piece;
 use crate::lines::file_fault_name;
 use crate::outcome::FileFault;
-use crate::reading::{read, start};
+use crate::progress::Progress;
+use crate::reading::start;
 use crate::session::Session;
 use crate::steps::Event;
 use crate::stop::Stop;
@@ -38,11 +41,11 @@ pub enum Pause {
 // Writes the line of the group that came, or tells what else did.
 fn tell<K: Sink>(
     alloc: Global,
-    course: &Option<Course>,
+    progress: &Progress,
     event: Event,
     out: &mut K,
 ) -> Result<Option<Pause>, Stop>
-    ensures told { TellsEvent course.now event (output (K.written out.old) (K.handed out.old)) (output (K.written out.new) (K.handed out.new)) result }
+    ensures told { TellsEvent progress.now event (output (K.written out.old) (K.handed out.old)) (output (K.written out.new) (K.handed out.new)) result }
     ensures grows { Grows (K.written out.old) (K.written out.new) }
     ensures no_read { IsErrOf result Stop.Read → ⊥ }
     ensures cause { HasCause Stop.Write (K.faults out.old) (K.faults out.new) result }
@@ -50,7 +53,7 @@ fn tell<K: Sink>(
     match event {
         Event::Taken => Ok(None),
         Event::Group(receipt) => {
-            write_group(alloc, course, &receipt, out)?;
+            write_group(alloc, &progress.course, &receipt, out)?;
             Ok(None)
         }
         Event::More => Ok(Some(Pause::More)),
@@ -66,7 +69,7 @@ fn tell_groups<K: Sink>(
     last: bool,
     out: &mut K,
 ) -> Result<Pause, Stop>
-    requires { (fed : List ℕ) × (before : Output) × Told fed last before (output (K.written out.old) (K.handed out.old)) session.old.reader session.old.course }
+    requires { (from : Option PlainCourse) × (fed : List ℕ) × (before : Output) × Told from fed last before (output (K.written out.old) (K.handed out.old)) session.old.reader session.old.progress }
     ensures told { TellsGroups last (output (K.written out.old) (K.handed out.old)) (output (K.written out.new) (K.handed out.new)) session.old session.new result }
     ensures grows { Grows (K.written out.old) (K.written out.new) }
     ensures no_read { IsErrOf result Stop.Read → ⊥ }
@@ -74,12 +77,28 @@ fn tell_groups<K: Sink>(
 {
     'told: loop {
         let event = session.next(alloc, last)?;
-        let turn = tell(alloc, &session.course, event, out)?;
+        let turn = tell(alloc, &session.progress, event, out)?;
         match turn {
             Some(pause) => return Ok(pause),
             None => {}
         }
     }
+}
+
+/// Writes the line of a refusal with this name and place, and answers its status.
+pub(crate) fn refuse_as<K: Sink>(
+    alloc: Global,
+    name: &str,
+    at: u64,
+    out: &mut K,
+) -> Result<u8, Stop>
+    ensures refuses { RefusesWith (refusal_line name.now at) (output (K.written out.old) (K.handed out.old)) (output (K.written out.new) (K.handed out.new)) result }
+    ensures no_read { IsErrOf result Stop.Read → ⊥ }
+    ensures cause { HasCause Stop.Write (K.faults out.old) (K.faults out.new) result }
+{
+    let line = refusal_line(alloc, name, at)?;
+    write_line(out, line.as_bytes())?;
+    Ok(2)
 }
 
 // Writes why a file is refused, and where.
@@ -89,9 +108,7 @@ fn refuse<K: Sink>(alloc: Global, fault: FileFault, at: u64, out: &mut K) -> Res
     ensures no_read { IsErrOf result Stop.Read → ⊥ }
     ensures cause { HasCause Stop.Write (K.faults out.old) (K.faults out.new) result }
 {
-    let line = refusal_line(alloc, file_fault_name(fault), at)?;
-    write_line(out, line.as_bytes())?;
-    Ok(2)
+    refuse_as(alloc, file_fault_name(fault), at, out)
 }
 
 // Writes what stands behind all statements of a file of so many bytes.
@@ -108,6 +125,36 @@ fn end<K: Sink>(alloc: Global, course: &Option<Course>, size: u64, out: &mut K) 
             Ok(0)
         }
         None => refuse(alloc, FileFault::BadOrder, size, out),
+    }
+}
+
+/// Goes on with a file that was started, as it is read, and answers the status. The line of each group is written before more is read.
+pub(crate) fn replay_on<F: Files, K: Sink>(
+    alloc: Global,
+    session: &mut Session,
+    files: &mut F,
+    out: &mut K,
+) -> Result<u8, Stop>
+    requires { (from : Option PlainCourse) × CameTo from [] false session.old [] }
+    ensures ends { (from : Option PlainCourse) → CameTo from [] false session.old []
+        → EndsAs from (F.left files.old) (output (K.written out.old) (K.handed out.old)) (output (K.written out.new) (K.handed out.new)) result }
+    ensures pace { (from : Option PlainCourse) → CameTo from [] false session.old []
+        → TakesInStep from (F.left files.old) (F.left files.new) (K.written out.old) (K.written out.new) (status_in result) }
+    ensures same { SameFiles (F.lent files.old) (F.lent files.new) (F.content files.old) (F.content files.new) }
+    ensures end { IfOk result (λ status. status ≡ 0 → IsAtEnd (F.left files.new)) }
+    ensures reads { HasCause Stop.Read (F.faults files.old) (F.faults files.new) result }
+    ensures writes { HasCause Stop.Write (K.faults out.old) (K.faults out.new) result }
+{
+    let mut size = 0u64;
+    'pieces: loop {
+        let count = feed_piece(session, files)?;
+        let last = count == 0;
+        size += count as u64;
+        match tell_groups(alloc, session, last, out)? {
+            Pause::More => {}
+            Pause::End => return end(alloc, &session.progress.course, size, out),
+            Pause::Refused(fault, at) => return refuse(alloc, fault, at, out),
+        }
     }
 }
 
@@ -129,17 +176,5 @@ pub(crate) fn replay_file<F: Files, K: Sink>(
 {
     start(files, path)?;
     let mut session = Session::new(alloc)?;
-    let mut buf = [0u8; 65_536];
-    let mut size = 0u64;
-    'pieces: loop {
-        let count = read(files, &mut buf)?;
-        let last = count == 0;
-        session.feed(buf.split_at(count).0)?;
-        size += count as u64;
-        match tell_groups(alloc, &mut session, last, out)? {
-            Pause::More => {}
-            Pause::End => return end(alloc, &session.course, size, out),
-            Pause::Refused(fault, at) => return refuse(alloc, fault, at, out),
-        }
-    }
+    replay_on(alloc, &mut session, files, out)
 }

@@ -1,5 +1,5 @@
 // One statement of a file, behind others or as the first.
-ghost use Rattle.std.specs.Prelude.{◌≡◌, ◌<◌, ◌^◌, ℕ, List, Option, Some};
+ghost use Rattle.std.specs.Prelude.{◌≡◌, ◌<◌, ◌^◌, ℕ, List, Option, Some, OnOk};
 ghost use Rattle.rules_text.specs.nodes.Tree.{size};
 ghost use Rattle.rules_files.specs.course.Course.{Course as PlainCourse};
 ghost use Rattle.rules_files.specs.course.Ranges.{IsStatement};
@@ -8,9 +8,11 @@ ghost use Rattle.rules_files.specs.statements.Statements.{form};
 ghost use Rattle.rules_world.specs.world.Receipts.{Receipt};
 ghost use Rattle.mich_base.specs.View.{tree};
 ghost use Rattle.mich_scenario.specs.View.{said};
+ghost use Rattle.mich_replay.specs.Marks.{marked};
 ghost use Rattle.mich_replay.specs.Steps.{FollowsIf, HasRoom, Leads, Stands, Takes, groups_of};
 
 use crate::outcome::FileFault;
+use crate::progress::Progress;
 use mich_base::{Memory, Node};
 use mich_group::course::{Course, CourseError, begin};
 use mich_machine::Bodies;
@@ -62,7 +64,7 @@ fn step(
     place: u64,
     statement: &Statement,
 ) -> Result<Event, Memory>
-    requires stands { (receipts : List Receipt) × (p : Option PlainCourse) × Stands receipts p course.old }
+    requires stands { (groups : ℕ) × (receipts : List Receipt) × (p : Option PlainCourse) × Stands groups receipts p course.old }
     requires room { HasRoom course.old }
     requires ranges { IsStatement (said statement.now) }
     ensures { Takes place (Some (said statement.entry.now)) course.old course.new result }
@@ -82,18 +84,22 @@ fn step(
 /// After Memory all is given up.
 pub(crate) fn take(
     alloc: Global,
-    course: &mut Option<Course>,
+    progress: &mut Progress,
     bodies: &mut Bodies,
     place: u64,
     node: Node,
 ) -> Result<Event, Memory>
-    requires stands { (receipts : List Receipt) × (p : Option PlainCourse) × Stands receipts p course.old }
-    requires room { HasRoom course.old }
+    requires stands { (groups : ℕ) × (receipts : List Receipt) × (p : Option PlainCourse) × Stands groups receipts p progress.old.course }
+    requires room { HasRoom progress.old.course }
     requires small { size (tree node) < 2 ^ 32 }
-    ensures { Takes place (form (tree node)) course.old course.new result }
+    ensures takes { Takes place (form (tree node)) progress.old.course progress.new.course result }
+    ensures marks { OnOk result (progress.new.marks ≡ marked progress.old.marks (form (tree node))) }
 {
     match take_form(alloc, node) {
-        Ok(statement) => step(alloc, course, bodies, place, &statement),
+        Ok(statement) => {
+            progress.marks.add(&statement);
+            step(alloc, &mut progress.course, bodies, place, &statement)
+        }
         Err(FormError::BadStatement) => Ok(Event::Refused(FileFault::BadStatement, place)),
         Err(FormError::Memory) => Err(Memory),
     }

@@ -1,5 +1,5 @@
 // Lines that are written, each by one call of the sink's.
-ghost use Rattle.std.specs.Prelude.{◌≡◌, ◌≤◌, ◌<◌, ℕ, List, [], ◌∷◌, IfOk, OnOk, OnErr, IsErrOf};
+ghost use Rattle.std.specs.Prelude.{◌<◌, [], ◌∷◌, OnOk, OnErr, IsErrOf};
 ghost use Rattle.rules_text.specs.streams.Causes.{HasCause};
 ghost use Rattle.rules_world.specs.lines.Nodes.{line, group_node};
 ghost use Rattle.rules_world.specs.world.Receipts.{Receipt};

@@ -22,6 +22,8 @@ mod nodes;
 #[cfg(test)]
 mod runs;
 #[cfg(test)]
+mod snapshots;
+#[cfg(test)]
 mod support;
 #[cfg(test)]
 mod tickets;

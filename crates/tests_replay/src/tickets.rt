@@ -6,7 +6,7 @@ use std::test::Fail;
 
 // A contract that mints five tickets, burns three and sends the others to the second account; another that keeps the ticket that it is
 // called with.
-const TICKETS_ARE_SENT: &str =
+pub(crate) const TICKETS_ARE_SENT: &str =
     "Chain 0x7a06a770 1 0;Account 0x000000000000000000000000000000000000000001 1000; Account 0x000000000000000000000000000000000000000002 \
         0; Group 0x000000000000000000000000000000000000000001 { Originate 0 1 0 { parameter address; storage unit; code { CAR ; CONTRACT \
         (ticket nat) ; IF_NONE { UNIT ; FAILWITH } {} ; PUSH mutez 0 ; PUSH nat 5 ; PUSH nat 7 ; TICKET ; IF_NONE { UNIT ; FAILWITH } {} ; \

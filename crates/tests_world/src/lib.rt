@@ -4,6 +4,7 @@
 pub mod bigmap;
 pub mod group;
 pub mod machine;
+pub mod snapshots;
 #[cfg(test)]
 mod support;
 pub mod tickets;

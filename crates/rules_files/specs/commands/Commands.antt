@@ -1,5 +1,5 @@
 -- What the host answers: a status and a text, by its words and by what the files hold.
-use Rattle.std.specs.Prelude.{◌≡◌, ◌⊎◌, ℕ, ◌+◌, ◌-◌, ◌*◌, ◌==◌, ◌&&◌, not, nat_le, Bool, if◌then◌else◌, List, [], ◌∷◌, length, slice_index, codes, None, Some, IsSome}
+use Rattle.std.specs.Prelude.{◌≡◌, ◌⊎◌, ℕ, ◌+◌, ◌-◌, ◌*◌, ◌==◌, ◌&&◌, not, nat_le, Bool, if◌then◌else◌, List, [], ◌∷◌, length, slice_index, codes, None, Some, IsSome, Result, Ok, Err}
 use Rattle.std.specs.declared.option.Option.{Option}
 use Rattle.std.specs.Char.{is_ascii_digit}
 use Rattle.std.specs.Str.{bytes_eq, is_utf8}
@@ -14,6 +14,10 @@ use Rattle.rules_files.specs.commands.Scripts.{IsCheckAnswer}
 use Rattle.rules_files.specs.commands.Audits.{IsAuditAnswer}
 use Rattle.rules_files.specs.commands.Certificates.{IsCertifyAnswer, IsVerifyAnswer}
 use Rattle.rules_files.specs.commands.Packs.{pack_node}
+use Rattle.rules_files.specs.commands.Snapshots.{IsSnapshotAnswer}
+use Rattle.rules_files.specs.commands.Resuming.{IsResumeAnswer}
+use Rattle.rules_files.specs.snapshots.State as snapshots
+use Rattle.rules_files.specs.snapshots.Loading.{LoadFault, loaded}
 
 -- the commands that take a file
 pub data Verb : Type 0 where
@@ -25,10 +29,12 @@ pub data Verb : Type 0 where
   Certifying : Verb
   Verifying : Verb
   Auditing : Verb
+  Snapshotting : Verb
 
--- what the words ask for: a command with its file, a workload of so many calls, or nothing
+-- what the words ask for: a command with its file, a snapshot and the file that goes on from it, a workload of so many calls, or nothing
 pub data Command : Type 0 where
   OnFile : Verb → (path : List ℕ) → Command
+  Resuming : (snapshot : List ℕ) → (path : List ℕ) → Command
   Generating : (calls : ℕ) → Command
   NoCommand : Command
 
@@ -46,11 +52,15 @@ verb_of word =
     else if bytes_eq word (codes "certify") then Some Certifying
     else if bytes_eq word (codes "verify") then Some Verifying
     else if bytes_eq word (codes "audit") then Some Auditing
+    else if bytes_eq word (codes "snapshot") then Some Snapshotting
     else None
 
 abbrev pub on_file : Option Verb → List ℕ → Command
 on_file (Some verb) path = if is_path path then OnFile verb path else NoCommand
 on_file None path = NoCommand
+
+abbrev pub on_files : List ℕ → List ℕ → Command
+on_files snapshot path = if is_path snapshot && is_path path then Resuming snapshot path else NoCommand
 
 -- the value of digits behind others of a value
 abbrev pub digits_behind : ℕ → List ℕ → Option ℕ
@@ -74,11 +84,13 @@ abbrev pub command_of : List (List ℕ) → Command
 command_of (verb ∷ word ∷ []) = if bytes_eq verb (codes "generate") then on_calls (calls_of word) else on_file (verb_of verb) word
 command_of [] = NoCommand
 command_of (word ∷ []) = NoCommand
-command_of (verb ∷ path ∷ word ∷ words) = NoCommand
+command_of (verb ∷ snapshot ∷ path ∷ []) = if bytes_eq verb (codes "resume") then on_files snapshot path else NoCommand
+command_of (verb ∷ snapshot ∷ path ∷ word ∷ words) = NoCommand
 
--- the file that a command takes
+-- the file that a command takes, or goes on with
 abbrev pub file_of : Command → Option (List ℕ)
 file_of (OnFile verb path) = Some path
+file_of (Resuming snapshot path) = Some path
 file_of (Generating calls) = None
 file_of NoCommand = None
 
@@ -94,26 +106,40 @@ IsVerbAnswer Packing file answer = IsCodecAnswer pack_node file answer
 IsVerbAnswer Certifying file answer = IsCertifyAnswer file answer
 IsVerbAnswer Verifying file answer = IsVerifyAnswer file answer
 IsVerbAnswer Auditing file answer = IsAuditAnswer file answer
+IsVerbAnswer Snapshotting file answer = IsSnapshotAnswer file answer
 
 -- the answer to a workload of so many calls: what its text comes to is summed up
 abbrev pub IsWorkloadAnswer : ℕ → Answer → Type 0
 IsWorkloadAnswer calls answer =
     (receipts : List Receipt) × (w : World) × IsReplay (scenario calls) (record { receipts = receipts; ending = State w }) × (answer ≡ done_with (summary_line calls receipts w))
 
+-- the file that goes on from a snapshot is known, where the snapshot is loaded; else it isn't read
+abbrev pub IsToldBehind : Result snapshots.State LoadFault → Option (List ℕ) → Type 0
+IsToldBehind (Ok s) file = IsSome file
+IsToldBehind (Err fault) file = Unit {0}
+
+-- the snapshot is known, and so the file where it is read
+abbrev pub AreTold : Option (List ℕ) → Option (List ℕ) → Type 0
+AreTold (Some snapshot) file = IsToldBehind (loaded snapshot) file
+AreTold None file = ⊥
+
 -- it is known what a command reads
 abbrev pub IsTold : Command → (List ℕ → Option (List ℕ)) → Type 0
 IsTold (OnFile verb path) content = IsSome (content path)
+IsTold (Resuming snapshot path) content = AreTold (content snapshot) (content path)
 IsTold (Generating calls) content = Unit {0}
 IsTold NoCommand content = Unit {0}
 
 -- the answer to a command, of files that hold this
 abbrev pub IsAnswer : Command → (List ℕ → Option (List ℕ)) → Answer → Type 0
 IsAnswer (OnFile verb path) content answer = (file : List ℕ) × (content path ≡ Some file) × IsVerbAnswer verb file answer
+IsAnswer (Resuming snapshot path) content answer = (bytes : List ℕ) × (content snapshot ≡ Some bytes) × IsResumeAnswer bytes (content path) answer
 IsAnswer (Generating calls) content answer = IsWorkloadAnswer calls answer
 IsAnswer NoCommand content answer = answer ≡ usage_answer
 
 -- the statuses that a command's own answer may have
 abbrev pub IsOwn : Command → ℕ → Type 0
 IsOwn (OnFile verb path) status = (status ≡ 0) ⊎ (status ≡ 2)
+IsOwn (Resuming snapshot path) status = (status ≡ 0) ⊎ (status ≡ 2)
 IsOwn (Generating calls) status = status ≡ 0
 IsOwn NoCommand status = status ≡ 1

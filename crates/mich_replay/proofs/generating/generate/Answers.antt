@@ -1,10 +1,9 @@
-use Rattle.std.proofs.Common.{true, [], subst, ◌∙◌}
+use Rattle.std.proofs.Common.{true, [], None, subst, ◌∙◌}
 use Rattle.std.specs.declared.option.Option.{Option}
 use Rattle.std.proofs.lemmas.Result.{err_from_is_err_and}
 use Rattle.mich_group.specs.declared.course.course.Course.{Course}
 use Rattle.mich_replay.specs.Steps.{FollowsIf}
 use Rattle.mich_replay.proofs.Generated.{followed, generated}
-use Rattle.mich_replay.proofs.Happening.{came_new}
 use Rattle.mich_replay.proofs.Written.{nothing}
 use Rattle.mich_replay.proofs.generating.generate.Goals as goal
 
@@ -14,7 +13,7 @@ returns-in_err-session-clause-comes g c = λ content.
     rw p.1 (λ other h. nothing _ _)
 
 pub feed-requires : goal.feed-requires
-feed-requires g c = ([], [], came_new c.in_ok-session.session.reader c.in_ok-session.session.course c.in_ok-session.ensures.0 c.in_ok-session.ensures.1)
+feed-requires g c = (None, [], [], c.in_ok-session.ensures)
 
 pub returns-in_err-feed-clause-comes : goal.returns-in_err-feed-clause-comes
 returns-in_err-feed-clause-comes g c = λ content.
@@ -23,8 +22,8 @@ returns-in_err-feed-clause-comes g c = λ content.
 
 pub count_groups-requires : goal.count_groups-requires
 count_groups-requires g c =
-    let new = came_new c.in_ok-session.session.reader c.in_ok-session.session.course c.in_ok-session.ensures.0 c.in_ok-session.ensures.1 in
-    (c.as_slice.result.now, c.in_ok-feed.ensures [] [] true new)
+    let new = c.in_ok-session.ensures in
+    (c.as_slice.result.now, c.in_ok-feed.ensures None [] [] true new)
 
 pub returns-in_err-counts-clause-comes : goal.returns-in_err-counts-clause-comes
 returns-in_err-counts-clause-comes g c = λ content.
@@ -33,17 +32,17 @@ returns-in_err-counts-clause-comes g c = λ content.
 
 pub sum_up-requires : goal.sum_up-requires
 sum_up-requires g c =
-    let new = came_new c.in_ok-session.session.reader c.in_ok-session.session.course c.in_ok-session.ensures.0 c.in_ok-session.ensures.1 in
-    let k = c.in_ok-counts.ensures c.as_slice.result.now (c.in_ok-feed.ensures [] [] true new) in
+    let new = c.in_ok-session.ensures in
+    let k = c.in_ok-counts.ensures c.as_slice.result.now (c.in_ok-feed.ensures None [] [] true new) in
     let f = followed c.in-Some.course k.0.came.plain (subst (λ (o : Option Course). FollowsIf o k.0.came.plain) c.in-Some.is k.0.came.stands.follows) in
     (f.0, f.2)
 
 pub returns-in-Some-clause-comes : goal.returns-in-Some-clause-comes
 returns-in-Some-clause-comes g c = λ content.
-    let new = came_new c.in_ok-session.session.reader c.in_ok-session.session.course c.in_ok-session.ensures.0 c.in_ok-session.ensures.1 in
-    let k = c.in_ok-counts.ensures c.as_slice.result.now (c.in_ok-feed.ensures [] [] true new) in
+    let new = c.in_ok-session.ensures in
+    let k = c.in_ok-counts.ensures c.as_slice.result.now (c.in_ok-feed.ensures None [] [] true new) in
     let s = c.count_groups.new.session in
-    generated c.args.calls content _ _ c.as_slice.result.now s.reader s.course c.in-Some.course c.in_ok-counts.counts c.sum_up.result
+    generated c.args.calls content _ _ c.as_slice.result.now s.reader s.progress c.in-Some.course c.in_ok-counts.counts c.sum_up.result
     (c.as_slice.ensures ∙ c.in_ok-text.ensures) c.in-Some.is k c.sum_up.ensures.summed
 
 pub returns-clause-comes : goal.returns-clause-comes

@@ -1,4 +1,5 @@
-use Rattle.std.proofs.Common.{◌≤◌, ◌-◌, ℕ, List}
+use Rattle.std.proofs.Common.{◌≤◌, ◌-◌, ℕ, List, Option}
+use Rattle.rules_files.specs.course.Course.{Course as PlainCourse}
 use Rattle.rules_text.specs.nodes.Limits.{file_limit}
 use Rattle.mich_replay.specs.Coming.{Grows, Told}
 use Rattle.mich_replay.specs.Output.{Output, output}
@@ -9,8 +10,8 @@ invariant-told g l =
     let sink = g.K.Sink in
     record {
       later : sink.faults l.fn.out ≤ sink.faults l.out;
-      told : (fed : List ℕ) (before : Output) → Told fed l.last before (output (sink.written l.fn.out) (sink.handed l.fn.out)) l.fn.session.reader l.fn.session.course →
-          Told fed l.last before (output (sink.written l.out) (sink.handed l.out)) l.session.reader l.session.course;
+      told : (from : Option PlainCourse) (fed : List ℕ) (before : Output) → Told from fed l.last before (output (sink.written l.fn.out) (sink.handed l.fn.out)) l.fn.session.reader l.fn.session.progress →
+          Told from fed l.last before (output (sink.written l.out) (sink.handed l.out)) l.session.reader l.session.progress;
       grows : Grows (sink.written l.fn.out) (sink.written l.out);
     }
 

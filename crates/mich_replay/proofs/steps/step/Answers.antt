@@ -8,7 +8,7 @@ use Rattle.mich_replay.proofs.Taking.{took_group}
 use Rattle.mich_replay.proofs.steps.step.Goals as goal
 
 pub returns-in-Ok-Some : goal.returns-in-Ok-Some
-returns-in-Ok-Some c = λ receipts p h.
+returns-in-Ok-Some c = λ groups receipts p h.
     let s = said c.args.statement.now in
-    took_group receipts p c.args.course.now s h c.requires.room c.requires.ranges c.go_on.new.course c.args.place c.in-Ok-Some.receipt
+    took_group groups receipts p c.args.course.now s h c.requires.room c.requires.ranges c.go_on.new.course c.args.place c.in-Ok-Some.receipt
     (subst (λ (o : Option GroupReceipt). Leads (step p s) c.go_on.new.course (Ok o)) c.in-Ok-Some.field-0-is (c.in-Ok-Some.ensures p h.follows))

@@ -3,7 +3,7 @@ use Rattle.rules_files.specs.commands.Commands.{OnFile}
 use Rattle.mich_replay.specs.Coming.{Comes}
 use Rattle.mich_replay.specs.Output.{output}
 use Rattle.mich_replay.specs.View.{verb_seen}
-use Rattle.mich_replay.proofs.Pace.{whole_reads}
+use Rattle.mich_replay.proofs.Pace.{snapshot_reads, whole_reads}
 use Rattle.mich_replay.proofs.Taken.{paced_taken}
 use Rattle.mich_replay.proofs.top.answer_on_file.Goals as goal
 
@@ -22,3 +22,11 @@ pub returns-in-Whole-clause-comes : goal.returns-in-Whole-clause-comes
 returns-in-Whole-clause-comes g c =
     subst (λ v. Comes (OnFile (verb_seen v) c.args.path.now) (g.F.Files.content c.args.files.now) (output (g.K.Sink.written c.args.out.now) (g.K.Sink.handed c.args.out.now))
     (output (g.K.Sink.written c.answer_whole.new.out) (g.K.Sink.handed c.answer_whole.new.out)) c.answer_whole.result) (sym c.in-Whole.is) c.answer_whole.ensures.comes
+
+pub returns-in-Snapshot-clause-pace : goal.returns-in-Snapshot-clause-pace
+returns-in-Snapshot-clause-pace g c = λ e. absurd (snapshot_reads (sym (ap verb_seen c.in-Snapshot.is) ∙ e))
+
+pub returns-in-Snapshot-clause-comes : goal.returns-in-Snapshot-clause-comes
+returns-in-Snapshot-clause-comes g c =
+    subst (λ v. Comes (OnFile (verb_seen v) c.args.path.now) (g.F.Files.content c.args.files.now) (output (g.K.Sink.written c.args.out.now) (g.K.Sink.handed c.args.out.now))
+    (output (g.K.Sink.written c.snapshot_file.new.out) (g.K.Sink.handed c.snapshot_file.new.out)) c.snapshot_file.result) (sym c.in-Snapshot.is) c.snapshot_file.ensures.comes

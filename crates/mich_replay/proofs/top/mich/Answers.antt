@@ -62,3 +62,29 @@ returns-in-Err-Write-clause-lines g c = hands_front c.args.words.now _ _ _ 4 sto
 
 pub returns-in-Err-Memory-clause-lines : goal.returns-in-Err-Memory-clause-lines
 returns-in-Err-Memory-clause-lines g c = hands_front c.args.words.now _ _ _ 5 stop.Memory (omega arith) c.in-Err-Memory.ensures.comes
+
+-- ---- the same of a snapshot and a file
+
+pub returns-in-Ok-clause-resumed : goal.returns-in-Ok-clause-resumed
+returns-in-Ok-clause-resumed g c = c.in-Ok.ensures.resumed
+
+pub returns-in-Err-Read-clause-resumed : goal.returns-in-Err-Read-clause-resumed
+returns-in-Err-Read-clause-resumed g c = rw c.in-Err-Read.field-0-is at c.in-Err-Read.ensures.resumed
+
+pub returns-in-Err-Write-clause-resumed : goal.returns-in-Err-Write-clause-resumed
+returns-in-Err-Write-clause-resumed g c = rw c.in-Err-Write.field-0-is at c.in-Err-Write.ensures.resumed
+
+pub returns-in-Err-Memory-clause-resumed : goal.returns-in-Err-Memory-clause-resumed
+returns-in-Err-Memory-clause-resumed g c = rw c.in-Err-Memory.field-0-is at c.in-Err-Memory.ensures.resumed
+
+pub returns-in-Ok-clause-both : goal.returns-in-Ok-clause-both
+returns-in-Ok-clause-both g c = c.in-Ok.ensures.both
+
+pub returns-in-Err-Read-clause-both : goal.returns-in-Err-Read-clause-both
+returns-in-Err-Read-clause-both g c = rw c.in-Err-Read.field-0-is at c.in-Err-Read.ensures.both
+
+pub returns-in-Err-Write-clause-both : goal.returns-in-Err-Write-clause-both
+returns-in-Err-Write-clause-both g c = rw c.in-Err-Write.field-0-is at c.in-Err-Write.ensures.both
+
+pub returns-in-Err-Memory-clause-both : goal.returns-in-Err-Memory-clause-both
+returns-in-Err-Memory-clause-both g c = rw c.in-Err-Memory.field-0-is at c.in-Err-Memory.ensures.both

@@ -6,9 +6,9 @@ use Rattle.mich_replay.proofs.Happening.{came_fed}
 use Rattle.mich_replay.proofs.session.Session.feed.Goals as goal
 
 pub feed-requires : goal.feed-requires
-feed-requires c = let q = c.requires in not_ended q.0 c.args.self.now.reader q.1 q.2.plain q.2.reads
+feed-requires c = let q = c.requires in not_ended q.0 q.1 q.3.statements q.2 q.3.plain c.args.self.now.reader q.3.reads
 
 pub returns : goal.returns
-returns c = λ fed receipts last h.
+returns c = λ from fed receipts last h.
     let old = c.args.self.now in
-    subst (λ (x : Held). Came (fed ++ c.args.piece.now) last x old.course receipts) (sym c.in_ok-feed.ensures.fed) (came_fed fed c.args.piece.now last old.reader old.course receipts h)
+    subst (λ (x : Held). Came from (fed ++ c.args.piece.now) last x old.progress receipts) (sym c.in_ok-feed.ensures.fed) (came_fed from fed c.args.piece.now last old.reader old.progress receipts h)

@@ -1,0 +1,9 @@
+pub mod Heads
+pub mod Holders
+pub mod Leaves
+pub mod Loaded
+pub mod Puts
+pub mod Saved
+pub mod Snapshots
+pub mod Sums
+pub mod Tried
