@@ -1,3 +1,4 @@
+pub mod common
 pub mod audits_lemmas
 pub mod written_lemmas
 pub mod reached_lemmas

@@ -4,7 +4,6 @@ pub mod Logs
 pub mod Supply
 pub mod Groups
 pub mod States
-pub mod Files
 pub mod FileLogs
 pub mod Written
 pub mod Identities

@@ -80,6 +80,9 @@ PutsAccounts v ps old new r = (w : PlainWorld) → IsAtRest v w → GathersOf v 
 abbrev pub nodes_of : PlainContract → List Tree
 nodes_of c = c.script ∷ bodies c.storage
 
+abbrev pub PutsContract : List ℕ → List ℕ → List ℕ × PlainContract → Result (Unit {0}) SaveError → Type 0
+PutsContract old new c r = IsPut old new (contract_spelling c) (list_any is_long (nodes_of c.1)) r
+
 abbrev pub contract_text_at : World → List ℕ → List ℕ
 contract_text_at v hash = on_list (λ c. contract_spelling (hash, plain v.store.bases.present c)) (contract_at v.funds.present hash)
 

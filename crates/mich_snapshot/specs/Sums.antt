@@ -1,13 +1,15 @@
 -- How much was found of each ticket that has a total.
-use Rattle.std.specs.Prelude.{◌≡◌, ◌+◌, ◌-◌, ◌^◌, min, ℕ, ℤ, Bool, true, false, List, [], ◌∷◌, Option, Some, None, fold, unsigned_abs, if◌then◌else◌}
+use Rattle.std.specs.Prelude.{◌≡◌, ◌+◌, ◌-◌, ◌^◌, min, ℕ, ℤ, pos, Bool, true, false, ◌&&◌, is_some, List, [], ◌∷◌, Option, Some, None, Result, IfOk, fold, unsigned_abs, if◌then◌else◌}
 use Rattle.std.specs.List.{list_all}
 use Rattle.std.specs.Map.{lookup}
+use Rattle.std.specs.Ordering.{int_eq}
 use Rattle.rules_code.specs.steps.Changes.{identity_of, is_alike}
 use Rattle.rules_code.specs.evaluation.Surroundings.{Contract}
 use Rattle.rules_data.specs.values.Tickets.{Held, Identity, tickets}
 use Rattle.rules_world.specs.world.World.{Account}
 use Rattle.rules_files.specs.snapshots.State.{State}
 use Rattle.rules_files.specs.snapshots.Rules.{has_total}
+use Rattle.mich_base.specs.declared.memory.Memory.{Memory}
 use Rattle.mich_term.specs.declared.ticket.TicketId.{TicketId}
 use Rattle.mich_tickets.specs.Lines.{is_of}
 
@@ -56,3 +58,28 @@ nothing j = 0
 -- what all accounts hold and all contracts store
 abbrev pub found_in : List (List ℕ × Account) → List (List ℕ × Contract) → Identity → ℕ
 found_in accounts contracts = fold more_contract (fold more_account nothing accounts) contracts
+
+-- ---- whatever was found before, of the tickets of whatever state
+
+-- the test of the state, and what is found with more where it passes
+abbrev pub FindsMore : Sums → Sums → (State → Bool) → ((Identity → ℕ) → Identity → ℕ) → Bool → Type 0
+FindsMore old new holds add b = (s : State) (found : Identity → ℕ) → AreFound s found old → Finds s (holds s) (add found) new b
+
+-- so where there is memory
+abbrev pub TriesMore : Sums → Sums → (State → Bool) → ((Identity → ℕ) → Identity → ℕ) → Result Bool Memory → Type 0
+TriesMore old new holds add r = (s : State) (found : Identity → ℕ) → AreFound s found old → IfOk r (Finds s (holds s) (add found) new)
+
+-- and where something comes of a test that passes
+abbrev pub TriesFor : {A : Type 0} → Sums → Sums → (State → Bool) → ((Identity → ℕ) → Identity → ℕ) → Result (Option A) Memory → Type 0
+TriesFor old new holds add r = (s : State) (found : Identity → ℕ) → AreFound s found old → IfOk r (λ o. Finds s (holds s) (add found) new (is_some o))
+
+-- more of a ticket that has a total, and of several
+abbrev pub FindsTicket : Sums → Sums → Identity → ℤ → Bool → Type 0
+FindsTicket old new id amount b = FindsMore old new (λ s. has_total s id) (λ found. more found id amount) b
+
+abbrev pub FindsTickets : Sums → Sums → List Held → Bool → Type 0
+FindsTickets old new ts b = FindsMore old new (λ s. have_totals s ts) (λ found. more_tickets found ts) b
+
+-- so much was found of a ticket that has a total
+abbrev pub is_found : State → (Identity → ℕ) → Identity → ℤ → Bool
+is_found s found id amount = has_total s id && int_eq (pos (found id)) amount

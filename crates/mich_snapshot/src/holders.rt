@@ -1,14 +1,13 @@
 // The rules of accounts, of contracts and of tickets.
-ghost use Rattle.std.specs.Prelude.{◌≡◌, ◌<◌, ◌^◌, ◌&&◌, int_lt, option_map, is_some, pos, true, IfOk, IfSome, IsSome, ℕ, List, Option, None, map, take, drop, replicate};
+ghost use Rattle.std.specs.Prelude.{◌≡◌, ◌<◌, ◌^◌, ◌&&◌, option_map, true, IfOk, IfSome, IsSome, ℕ, List, Option, None, map, take, drop, replicate};
 ghost use Rattle.std.specs.Int.{from_be_bytes, w64};
 ghost use Rattle.std.specs.Str.{bytes_eq};
 ghost use Rattle.std.specs.List.{AllByRecursion};
 ghost use Rattle.rules_code.specs.evaluation.Surroundings.{Contract as PlainContract};
-ghost use Rattle.rules_data.specs.values.Tickets.{Identity, tickets};
+ghost use Rattle.rules_data.specs.values.Tickets.{tickets};
 ghost use Rattle.rules_text.specs.nodes.Tree.{size};
 ghost use Rattle.rules_world.specs.world.World.{identity_order};
-ghost use Rattle.rules_files.specs.snapshots.Rules.{are_holdings, byte_order, has_total, is_above, is_account, is_contract, is_content, is_hash, is_holding, is_paid, is_total, parts_of};
-ghost use Rattle.rules_files.specs.snapshots.Spelling.{account_spelling, contract_spelling, total_spelling};
+ghost use Rattle.rules_files.specs.snapshots.Rules.{byte_order, is_above, is_hash, is_paid};
 ghost use Rattle.rules_files.specs.snapshots.Spelt.{HasSpelling, IsIssuer};
 ghost use Rattle.rules_files.specs.snapshots.State.{State};
 ghost use Rattle.mich_base.specs.TypeView.{kind};
@@ -18,14 +17,10 @@ ghost use Rattle.mich_instr.specs.Scripts.{IsTypedScript};
 ghost use Rattle.mich_instr.specs.View.{script_node};
 ghost use Rattle.mich_saved.specs.KeptStates.{IsKeptContract};
 ghost use Rattle.mich_saved.specs.Shown.{IsAloneContract, account as shown_account, contract as shown_contract, holding, total as shown_total};
-ghost use Rattle.mich_saved.specs.Sound.{EachAt, IsSame};
 ghost use Rattle.mich_term.specs.TicketView.{identity};
 ghost use Rattle.mich_term.specs.ValueView.{val};
 ghost use Rattle.mich_world.specs.Restoring.{IsAlone, contract_of};
-ghost use Rattle.mich_snapshot.specs.Heads.{HasHead};
-ghost use Rattle.mich_snapshot.specs.Holders.{AreAccounts, AreContracts, AreHashes, AreOfSpelt, AreReady, IsOfSpelt, IsPaying, IsPushed, IsReckoned, IsScriptOf, TriesAccount, TriesContract, TypedAs, is_issued, is_left, is_whole_total, storage_rules, total_of};
-ghost use Rattle.mich_snapshot.specs.Sums.{AreFound, Finds, have_totals, more, more_account, more_contract, more_held, more_tickets};
-ghost use Rattle.mich_snapshot.specs.Tried.{Tries, TriesPart};
+ghost use Rattle.mich_snapshot.specs.Holders.{AreHashes, AreOfSpelt, AreReady, IsOfSpelt, IsPaying, IsPushed, IsScriptOf, SavesAccount, SavesAccounts, SavesContract, SavesContracts, SavesTotal, TellsLeft, TriesAccounts, TriesContracts, TriesForContract, TriesForHolding, TriesHolder, TriesHolding, TriesHoldings, TriesNextHolding, TriesNextTotal, TriesStorage, TriesTickets, TriesTotal, TriesTotals, TypedAs, is_issued, total_of};
 
 use crate::forms::datum_fits;
 use crate::stored::value_fits;
@@ -62,9 +57,7 @@ fn holding_holds(
     id: &TicketId,
     amount: i128,
 ) -> Result<bool, Memory>
-    ensures { (s : State) (found : Identity → ℕ) → AreFound s found sums.old.found.entries
-        → IfOk result (Finds s (int_lt (pos 0) amount && is_content (identity id.now) && has_total s (identity id.now))
-        (more found (identity id.now) amount) sums.new.found.entries) }
+    ensures { TriesHolding sums.old.found.entries sums.new.found.entries (identity id.now) amount result }
 {
     if amount < 1 {
         return Ok(false);
@@ -86,9 +79,7 @@ fn next_holds(
     amount: i128,
 ) -> Result<bool, Memory>
     requires { printed.now ≡ id.now }
-    ensures { (s : State) (found : Identity → ℕ) → AreFound s found sums.old.found.entries
-        → IfOk result (Finds s (is_holding s (option_map identity former.now) (identity id.now, amount))
-        (more found (identity id.now) amount) sums.new.found.entries) }
+    ensures { TriesNextHolding sums.old.found.entries sums.new.found.entries (option_map identity former.now) (identity id.now) amount result }
 {
     if !id_is_above(former, printed) {
         return Ok(false);
@@ -104,9 +95,7 @@ fn next_holding(
     id: &TicketId,
     amount: i128,
 ) -> Result<Option<Printed>, Memory>
-    ensures holds { (s : State) (found : Identity → ℕ) → AreFound s found sums.old.found.entries
-        → IfOk result (λ o. Finds s (is_holding s (option_map identity former.now) (identity id.now, amount))
-        (more found (identity id.now) amount) sums.new.found.entries (is_some o)) }
+    ensures holds { TriesForHolding sums.old.found.entries sums.new.found.entries (option_map identity former.now) (identity id.now) amount result }
     ensures same { IfOk result (λ o. IfSome o (λ printed. printed ≡ id.now)) }
 {
     let printed = Printed::of(alloc, id)?;
@@ -123,8 +112,7 @@ fn holdings_hold(
     sums: &mut Sums,
     holdings: &Rows<(TicketId, i128)>,
 ) -> Result<bool, Memory>
-    ensures { (s : State) (found : Identity → ℕ) → AreFound s found sums.old.found.entries
-        → IfOk result (Finds s (are_holdings s None (map holding holdings.now)) (more_held found (map holding holdings.now)) sums.new.found.entries) }
+    ensures { TriesHoldings sums.old.found.entries sums.new.found.entries (map holding holdings.now) result }
 {
     let mut former = None;
     for (id, amount) in holdings.as_slice() {
@@ -153,9 +141,7 @@ fn account_holds(
     former: &Option<KeyHash>,
     account: &ReadAccount,
 ) -> Result<bool, Memory>
-    ensures { (s : State) (found : Identity → ℕ) → AreFound s found sums.old.found.entries
-        → IfOk result (Finds s (is_account s former.now (shown_account account.now).1)
-        (more_account found (shown_account account.now).1) sums.new.found.entries) }
+    ensures { TriesHolder sums.old.found.entries sums.new.found.entries former.now (shown_account account.now).1 result }
 {
     if !who_is_above(former, &account.who) {
         return Ok(false);
@@ -170,8 +156,7 @@ fn sound_account(
     former: &Option<KeyHash>,
     account: ReadAccount,
 ) -> Result<SavedAccount, LoadError>
-    ensures { (s : State) (found : Identity → ℕ) → AreFound s found sums.old.found.entries
-        → TriesAccount s found former.now account.place (shown_account account).1 sums.new.found.entries result }
+    ensures { SavesAccount sums.old.found.entries sums.new.found.entries former.now (shown_account account) result }
 {
     let holds = account_holds(alloc, sums, former, &account)?;
     if !holds {
@@ -189,12 +174,8 @@ pub fn sound_accounts(
     sums: &mut Sums,
     accounts: Rows<ReadAccount>,
 ) -> Result<Rows<SavedAccount>, LoadError>
-    ensures tries { (s : State) (found : Identity → ℕ) (place : ℕ) → AreFound s found sums.old.found.entries
-        → EachAt IsSame account_spelling place s.accounts (map shown_account accounts)
-        → Tries place (parts_of account_spelling (is_account s) (λ a. a.0) None s.accounts) result }
-    ensures saved { (s : State) (found : Identity → ℕ) (place : ℕ) → AreFound s found sums.old.found.entries
-        → EachAt IsSame account_spelling place s.accounts (map shown_account accounts)
-        → AreAccounts s found s.accounts sums.new.found.entries result }
+    ensures tries { TriesAccounts sums.old.found.entries (map shown_account accounts) result }
+    ensures saved { SavesAccounts sums.old.found.entries sums.new.found.entries (map shown_account accounts) result }
 {
     let mut sound = Rows::new(alloc);
     let mut former = None;
@@ -273,8 +254,7 @@ fn paid_holds(pays: bool, paid: u64, script: &Node, storage: &Value) -> bool
 
 // Whether each ticket in a storage has a total.
 fn tickets_hold(alloc: Global, sums: &mut Sums, storage: &Value) -> Result<bool, Memory>
-    ensures { (s : State) (found : Identity → ℕ) → AreFound s found sums.old.found.entries
-        → IfOk result (Finds s (have_totals s (tickets (val storage.now))) (more_tickets found (tickets (val storage.now))) sums.new.found.entries) }
+    ensures { TriesTickets sums.old.found.entries sums.new.found.entries (tickets (val storage.now)) result }
 {
     let tickets = tickets_of(alloc, storage)?;
     Ok(sums.add_all(&tickets))
@@ -290,9 +270,8 @@ fn storage_holds(
     storage: &Value,
 ) -> Result<bool, Memory>
     requires { HasSpelling (kind ty.now) (val storage.now) }
-    ensures { (s : State) (found : Identity → ℕ) (c : PlainContract) → AreFound s found sums.old.found.entries
-        → IsPaying contract.now.paid (tree contract.now.script) (val storage.now) c
-        → IfOk result (Finds s (storage_rules s pays (kind ty.now) c) (more_tickets found (tickets c.storage)) sums.new.found.entries) }
+    ensures { TriesStorage sums.old.found.entries sums.new.found.entries pays (kind ty.now)
+        (IsPaying contract.now.paid (tree contract.now.script) (val storage.now)) result }
 {
     if !value_fits(alloc, ty, storage)? {
         return Ok(false);
@@ -312,9 +291,7 @@ fn sound_script(
     contract: &ReadContract,
 ) -> Result<Option<Script>, Memory>
     requires { IsOfSpelt (shown_contract contract.now).1 }
-    ensures rules { (s : State) (found : Identity → ℕ) (c : List ℕ × PlainContract) → HasHead s head.now → AreFound s found sums.old.found.entries
-        → IsKeptContract c (shown_contract contract.now).1
-        → IfOk result (λ o. Finds s (is_contract s former.now c) (more_contract found c) sums.new.found.entries (is_some o)) }
+    ensures rules { TriesForContract head.now sums.old.found.entries sums.new.found.entries former.now (shown_contract contract.now).1 result }
     ensures typed { IfOk result (λ o. IfSome o (IsScriptOf (tree contract.now.script))) }
     ensures stored { IfOk result (λ o. IsSome o → IsSome contract.now.storage) }
 {
@@ -371,8 +348,7 @@ fn sound_contract(
     contract: ReadContract,
 ) -> Result<SavedContract, LoadError>
     requires { IsOfSpelt (shown_contract contract).1 }
-    ensures tries { (s : State) (found : Identity → ℕ) (c : List ℕ × PlainContract) → HasHead s head.now → AreFound s found sums.old.found.entries
-        → IsKeptContract c (shown_contract contract).1 → TriesContract s found former.now contract.place c sums.new.found.entries result }
+    ensures tries { SavesContract head.now sums.old.found.entries sums.new.found.entries former.now (shown_contract contract) result }
     ensures typed { IfOk result (λ saved. IsTypedScript saved.contract.script) }
     ensures alone { IsAloneContract contract → IfOk result IsAlone }
 {
@@ -390,12 +366,8 @@ pub fn sound_contracts(
     contracts: Rows<ReadContract>,
 ) -> Result<Rows<SavedContract>, LoadError>
     requires { AreOfSpelt contracts }
-    ensures tries { (s : State) (found : Identity → ℕ) (place : ℕ) → HasHead s head.now → AreFound s found sums.old.found.entries
-        → EachAt IsKeptContract contract_spelling place s.contracts (map shown_contract contracts)
-        → Tries place (parts_of contract_spelling (is_contract s) (λ c. c.0) None s.contracts) result }
-    ensures saved { (s : State) (found : Identity → ℕ) (place : ℕ) → HasHead s head.now → AreFound s found sums.old.found.entries
-        → EachAt IsKeptContract contract_spelling place s.contracts (map shown_contract contracts)
-        → AreContracts s found s.contracts sums.new.found.entries result }
+    ensures tries { TriesContracts head.now sums.old.found.entries (map shown_contract contracts) result }
+    ensures saved { SavesContracts head.now sums.old.found.entries sums.new.found.entries (map shown_contract contracts) result }
     ensures typed { IfOk result (AllByRecursion (λ saved. IsTypedScript saved.contract.script)) }
     ensures alone { AllByRecursion IsAloneContract contracts → IfOk result (AllByRecursion IsAlone) }
 {
@@ -436,8 +408,7 @@ fn issuer_holds(hashes: &BTreeSet<[u8; 20]>, issuer: &Place) -> bool
 
 // Whether a ticket was minted, and is there as often as it was minted less what was burnt.
 fn totals_hold(sums: &Sums, total: &ReadTotal) -> bool
-    ensures { (s : State) (found : Identity → ℕ) → AreFound s found sums.now.found.entries → has_total s (identity total.now.id) ≡ true
-        → result ≡ is_left (found (identity total.now.id)) (shown_total total.now).1 }
+    ensures { TellsLeft sums.now.found.entries (shown_total total.now).1 result }
 {
     1 <= total.minted
         && 0 <= total.burnt
@@ -451,9 +422,7 @@ fn total_holds(
     hashes: &BTreeSet<[u8; 20]>,
     total: &ReadTotal,
 ) -> Result<bool, Memory>
-    ensures { (s : State) (found : Identity → ℕ) (cs : List (List ℕ × PlainContract)) → AreFound s found sums.now.found.entries
-        → AreHashes cs hashes.now.keys → has_total s (identity total.now.id) ≡ true → IsIssuer (place_bytes total.now.id.issuer)
-        → IfOk result (λ b. b ≡ is_whole_total cs (found (identity total.now.id)) (shown_total total.now).1) }
+    ensures { TriesTotal sums.now.found.entries hashes.now.keys (shown_total total.now).1 result }
 {
     if !issuer_holds(hashes, &total.id.issuer) {
         return Ok(false);
@@ -474,9 +443,7 @@ fn next_total_holds(
     total: &ReadTotal,
 ) -> Result<bool, Memory>
     requires { printed.now ≡ total.now.id }
-    ensures { (s : State) (found : Identity → ℕ) → IsReckoned s found → AreFound s found sums.now.found.entries → AreHashes s.contracts hashes.now.keys
-        → has_total s (identity total.now.id) ≡ true → IsIssuer (place_bytes total.now.id.issuer)
-        → IfOk result (λ b. b ≡ is_total s (option_map identity former.now) (shown_total total.now).1) }
+    ensures { TriesNextTotal sums.now.found.entries hashes.now.keys (option_map identity former.now) (shown_total total.now).1 result }
 {
     if !id_is_above(former, printed) {
         return Ok(false);
@@ -494,10 +461,8 @@ fn sound_total(
     total: ReadTotal,
 ) -> Result<(TicketId, Totals), LoadError>
     requires { printed.now ≡ total.id }
-    ensures tries { (s : State) (found : Identity → ℕ) → IsReckoned s found → AreFound s found sums.now.found.entries
-        → AreHashes s.contracts hashes.now.keys
-        → has_total s (identity total.id) ≡ true → IsIssuer (place_bytes total.id.issuer)
-        → TriesPart (is_total s (option_map identity former.now) (shown_total total).1) total.place (λ t. total_of t ≡ (shown_total total).1) result }
+    ensures tries { SavesTotal sums.now.found.entries hashes.now.keys (option_map identity former.now) (shown_total total)
+        (λ t. total_of t ≡ (shown_total total).1) result }
     ensures same { IfOk result (λ t. total_of t ≡ (shown_total total).1) }
 {
     let holds = next_total_holds(alloc, sums, hashes, former, printed, &total)?;
@@ -520,10 +485,8 @@ fn push_total(
     total: ReadTotal,
     sound: &mut Rows<(TicketId, Totals)>,
 ) -> Result<Printed, LoadError>
-    ensures tries { (s : State) (found : Identity → ℕ) → IsReckoned s found → AreFound s found sums.now.found.entries
-        → AreHashes s.contracts hashes.now.keys
-        → has_total s (identity total.id) ≡ true → IsIssuer (place_bytes total.id.issuer)
-        → TriesPart (is_total s (option_map identity former.now) (shown_total total).1) total.place (λ printed. printed ≡ total.id) result }
+    ensures tries { SavesTotal sums.now.found.entries hashes.now.keys (option_map identity former.now) (shown_total total)
+        (λ printed. printed ≡ total.id) result }
     ensures pushed { IfOk result (λ _. IsPushed sound.old sound.new (shown_total total).1) }
 {
     let printed = Printed::of(alloc, &total.id)?;
@@ -540,8 +503,7 @@ fn tried_totals(
     totals: Rows<ReadTotal>,
 ) -> Result<Rows<(TicketId, Totals)>, LoadError>
     ensures tries { (s : State) (place : ℕ) (cs : List (List ℕ × PlainContract)) → AreReady s sums.now.found.entries cs → AreHashes cs hashes.now.keys
-        → EachAt IsSame total_spelling place s.tickets (map shown_total totals)
-        → Tries place (parts_of total_spelling (is_total s) (λ t. t.identity) None s.tickets) result }
+        → TriesTotals place s (map shown_total totals) result }
     ensures saved { IfOk result (λ ts. map total_of ts ≡ map (λ t. (shown_total t).1) totals) }
 {
     let mut sound = Rows::new(alloc);
@@ -560,8 +522,7 @@ pub fn sound_totals(
     totals: Rows<ReadTotal>,
 ) -> Result<Rows<(TicketId, Totals)>, LoadError>
     ensures tries { (s : State) (place : ℕ) → AreReady s sums.now.found.entries (map contract_of contracts.now)
-        → EachAt IsSame total_spelling place s.tickets (map shown_total totals)
-        → Tries place (parts_of total_spelling (is_total s) (λ t. t.identity) None s.tickets) result }
+        → TriesTotals place s (map shown_total totals) result }
     ensures saved { IfOk result (λ ts. map total_of ts ≡ map (λ t. (shown_total t).1) totals) }
 {
     let hashes = hashes_of(alloc, contracts)?;

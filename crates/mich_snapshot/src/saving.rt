@@ -4,8 +4,8 @@ ghost use Rattle.std.specs.List.{AllByRecursion, flat_map, list_any};
 ghost use Rattle.std.specs.List.Sorted.{IsStrictlySortedBy};
 ghost use Rattle.std.specs.Map.{keys_of};
 ghost use Rattle.rules_files.specs.snapshots.Course.{all_prices};
-ghost use Rattle.rules_files.specs.snapshots.Loading.{bodies, is_long, saved};
-ghost use Rattle.rules_files.specs.snapshots.Spelling.{contract_spelling, counted, eight, holding_spelling, node_spelling, price_spelling, profile, total_spelling, value_spelling};
+ghost use Rattle.rules_files.specs.snapshots.Loading.{is_long, saved};
+ghost use Rattle.rules_files.specs.snapshots.Spelling.{counted, eight, holding_spelling, node_spelling, price_spelling, profile, total_spelling};
 ghost use Rattle.rules_world.specs.world.World.{World as PlainWorld};
 ghost use Rattle.mich_bigmap.specs.Standing.{val_in};
 ghost use Rattle.mich_gas.specs.View.{listed};
@@ -14,8 +14,8 @@ ghost use Rattle.mich_report.specs.Amounts.{by_print, seen};
 ghost use Rattle.mich_report.specs.State.{IsAtRest};
 ghost use Rattle.mich_term.specs.TicketView.{identity};
 ghost use Rattle.mich_world.specs.Standing.{plain};
-ghost use Rattle.mich_snapshot.specs.Puts.{IsPut, IsSaved};
-ghost use Rattle.mich_snapshot.specs.Saved.{PutsAccount, PutsAccountOf, PutsAccounts, PutsContracts, PutsFront, PutsHoldings, PutsState, PutsTickets, contract_nodes_at, contract_text_at, head_text, marks_text, moment_text, nodes_of, rate_text, total_in};
+ghost use Rattle.mich_snapshot.specs.Puts.{IsPut, IsSaved, PutsValue};
+ghost use Rattle.mich_snapshot.specs.Saved.{PutsAccount, PutsAccountOf, PutsAccounts, PutsContract, PutsContracts, PutsFront, PutsHoldings, PutsState, PutsTickets, contract_nodes_at, contract_text_at, head_text, marks_text, moment_text, rate_text, total_in};
 ghost use Rattle.mich_snapshot.specs.Snapshots.{snapshot_of};
 
 use crate::errors::SaveError;
@@ -191,8 +191,7 @@ fn put_storage(
     store: &Store,
     storage: &Value,
 ) -> Result<(), SaveError>
-    ensures { IsPut out.old.items out.new.items (value_spelling (val_in store.now.bases.present storage.now))
-        (list_any is_long (bodies (val_in store.now.bases.present storage.now))) result }
+    ensures { PutsValue out.old.items out.new.items (val_in store.now.bases.present storage.now) result }
 {
     let storage = flat(alloc, store, storage)?;
     put_value(alloc, out, &storage)
@@ -215,8 +214,7 @@ fn put_contract(
     hash: &[u8; 20],
     contract: &Contract,
 ) -> Result<(), SaveError>
-    ensures { IsPut out.old.items out.new.items (contract_spelling (hash.now, plain store.now.bases.present contract.now))
-        (list_any is_long (nodes_of (plain store.now.bases.present contract.now))) result }
+    ensures { PutsContract out.old.items out.new.items (hash.now, plain store.now.bases.present contract.now) result }
 {
     put_funds(out, hash, contract)?;
     put_script(alloc, out, &contract.script)?;

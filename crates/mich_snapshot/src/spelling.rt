@@ -1,13 +1,13 @@
 // Scripts and values of all types behind what was written.
 ghost use Rattle.std.specs.Prelude.{◌≡◌, ◌++◌, OnOk};
 ghost use Rattle.std.specs.List.{list_any};
-ghost use Rattle.rules_files.specs.snapshots.Loading.{all_bodies, bodies, entry_bodies, is_long};
-ghost use Rattle.rules_files.specs.snapshots.Spelling.{count_pairs, count_vals, eight, entry_spellings, mark, node_spelling, value_spelling, value_spellings};
+ghost use Rattle.rules_files.specs.snapshots.Loading.{bodies, is_long};
+ghost use Rattle.rules_files.specs.snapshots.Spelling.{count_pairs, count_vals, eight, mark, node_spelling, value_spelling, value_spellings};
 ghost use Rattle.mich_base.specs.View.{tree};
 ghost use Rattle.mich_term.specs.ValueView.{big_pairs, pairs, val, vals};
 ghost use Rattle.mich_term.specs.View.{datum, datums};
 ghost use Rattle.mich_snapshot.specs.Leaves.{ticket_val};
-ghost use Rattle.mich_snapshot.specs.Puts.{IsPut};
+ghost use Rattle.mich_snapshot.specs.Puts.{IsPut, PutsEntries, PutsValue, PutsValues};
 
 use crate::errors::SaveError;
 use mich_base::{Memory, Node};
@@ -65,7 +65,7 @@ fn put_set(out: &mut Vec<u8>, elements: &Elements) -> Result<(), Memory>
 /// more than 268,435,456 bytes.
 #[cycle(put)]
 pub fn put_value(alloc: Global, out: &mut Vec<u8>, value: &Value) -> Result<(), SaveError>
-    ensures { IsPut out.old.items out.new.items (value_spelling (val value.now)) (list_any is_long (bodies (val value.now))) result }
+    ensures { PutsValue out.old.items out.new.items (val value.now) result }
 {
     match value {
         Value::Unit | Value::Operation(_) => Ok(()),
@@ -99,8 +99,7 @@ fn put_marked(alloc: Global, out: &mut Vec<u8>, marked: bool, part: &Value) -> R
 
 #[cycle(put)]
 fn put_list(alloc: Global, out: &mut Vec<u8>, values: &Chain<Value>) -> Result<(), SaveError>
-    ensures { IsPut out.old.items out.new.items (eight (count_vals (vals values.now)) ++ value_spellings (vals values.now))
-        (list_any is_long (all_bodies (vals values.now))) result }
+    ensures { PutsValues out.old.items out.new.items (vals values.now) result }
 {
     put_eight(out, values.len() as u64)?;
     let reversed = values.as_reversed_slice();
@@ -124,8 +123,7 @@ fn put_entry(alloc: Global, out: &mut Vec<u8>, value: &Value, key: &Datum) -> Re
 
 #[cycle(put)]
 fn put_table(alloc: Global, out: &mut Vec<u8>, entries: &Table<Value>) -> Result<(), SaveError>
-    ensures { IsPut out.old.items out.new.items (eight (count_pairs (pairs entries.now)) ++ entry_spellings (pairs entries.now))
-        (list_any is_long (entry_bodies (pairs entries.now))) result }
+    ensures { PutsEntries out.old.items out.new.items (pairs entries.now) result }
 {
     put_eight(out, entries.len() as u64)?;
     for (key, value) in entries.iter() {
@@ -152,8 +150,7 @@ fn count_of(big: &BigMap) -> u64
 // The entries that lie in a big map.
 #[cycle(put)]
 fn put_big(alloc: Global, out: &mut Vec<u8>, big: &BigMap) -> Result<(), SaveError>
-    ensures { IsPut out.old.items out.new.items (eight (count_pairs (big_pairs big.now)) ++ entry_spellings (big_pairs big.now))
-        (list_any is_long (entry_bodies (big_pairs big.now))) result }
+    ensures { PutsEntries out.old.items out.new.items (big_pairs big.now) result }
 {
     put_eight(out, count_of(big))?;
     for (key, change) in big.overlay.iter() {

@@ -1,12 +1,10 @@
 // How much there is of each ticket.
-ghost use Rattle.std.specs.Prelude.{◌≡◌, ◌&&◌, true, pos, map, IfOk, ℕ};
-ghost use Rattle.std.specs.Ordering.{int_eq};
+ghost use Rattle.std.specs.Prelude.{◌≡◌, map, IfOk, ℕ};
 ghost use Rattle.rules_data.specs.values.Tickets.{Identity};
 ghost use Rattle.rules_files.specs.snapshots.State.{State};
-ghost use Rattle.rules_files.specs.snapshots.Rules.{has_total};
 ghost use Rattle.mich_saved.specs.Shown.{total};
 ghost use Rattle.mich_term.specs.TicketView.{held, identity};
-ghost use Rattle.mich_snapshot.specs.Sums.{AreFound, Finds, have_totals, more, more_tickets, nothing};
+ghost use Rattle.mich_snapshot.specs.Sums.{AreFound, FindsTicket, FindsTickets, is_found, nothing};
 
 use mich_base::{Memory, Rows};
 use mich_saved::ReadTotal;
@@ -35,8 +33,7 @@ impl Sums {
 
     // More of a ticket is found. False where it has no total.
     pub fn add(&mut self, id: &TicketId, amount: i128) -> bool
-        ensures { (s : State) (found : Identity → ℕ) → AreFound s found self.old.found.entries
-            → Finds s (has_total s (identity id.now)) (more found (identity id.now) amount) self.new.found.entries result }
+        ensures { FindsTicket self.old.found.entries self.new.found.entries (identity id.now) amount result }
     {
         match self.found.get_mut(id) {
             Some(sum) => {
@@ -49,8 +46,7 @@ impl Sums {
 
     // More is found of each. False where one has no total.
     pub fn add_all(&mut self, tickets: &Rows<Ticket>) -> bool
-        ensures { (s : State) (found : Identity → ℕ) → AreFound s found self.old.found.entries
-            → Finds s (have_totals s (map held tickets.now)) (more_tickets found (map held tickets.now)) self.new.found.entries result }
+        ensures { FindsTickets self.old.found.entries self.new.found.entries (map held tickets.now) result }
     {
         for ticket in tickets.as_slice() {
             if !self.add(&ticket.id, ticket.amount) {
@@ -62,8 +58,7 @@ impl Sums {
 
     // Whether so much was found of a ticket.
     pub fn is(&self, id: &TicketId, amount: i128) -> bool
-        ensures { (s : State) (found : Identity → ℕ) → AreFound s found self.now.found.entries
-            → result ≡ (has_total s (identity id.now) && int_eq (pos (found (identity id.now))) amount) }
+        ensures { (s : State) (found : Identity → ℕ) → AreFound s found self.now.found.entries → result ≡ is_found s found (identity id.now) amount }
     {
         match self.found.get(id) {
             Some(sum) => 0 <= amount && *sum == amount.unsigned_abs(),

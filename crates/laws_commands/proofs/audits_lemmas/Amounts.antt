@@ -55,6 +55,7 @@ use Rattle.laws_commands.specs.audits.Changes.{effect_changes, effects_changes, 
 use Rattle.laws_commands.specs.audits.Amounts.{ReceiptsHaveRanges}
 use Rattle.laws_commands.proofs.audits_lemmas.Logs.{receipts_tell}
 use Rattle.laws_world.proofs.groups_lemmas.Groups.{groups_keep_good}
+use Rattle.laws_commands.proofs.common.Lists.{all_first, all_second, all_append}
 
 -- ---- effects
 
@@ -94,10 +95,6 @@ all_ranges n (e ∷ es) small h = (within_range n e small h.0, all_ranges n es s
 all_more : (n m : ℕ) (es : List Effect) → n ≤ m → AllByRecursion (IsWithin n) es → AllByRecursion (IsWithin m) es
 all_more n m [] more h = tt
 all_more n m (e ∷ es) more h = (within_more n m e more h.0, all_more n m es more h.1)
-
-pub all_append : {X : Type 0} (P : X → Type 0) (xs ys : List X) → AllByRecursion P xs → AllByRecursion P ys → AllByRecursion P (xs ++ ys)
-all_append P [] ys h g = g
-all_append P (x ∷ xs) ys h g = (h.0, all_append P xs ys h.1 g)
 
 abbrev Ranged : Outcome → Type 0
 Ranged (applied a) = AllByRecursion (IsWithin a.world.storage_burn) a.effects
@@ -372,14 +369,6 @@ receipts_ranged prices number source contents w settled g e =
 
 -- ---- with the changes
 
-first_part : {X : Type 0} (P : X → Type 0) (xs ys : List X) → AllByRecursion P (xs ++ ys) → AllByRecursion P xs
-first_part P [] ys h = tt
-first_part P (x ∷ xs) ys h = (h.0, first_part P xs ys h.1)
-
-second_part : {X : Type 0} (P : X → Type 0) (xs ys : List X) → AllByRecursion P (xs ++ ys) → AllByRecursion P ys
-second_part P [] ys h = h
-second_part P (x ∷ xs) ys h = second_part P xs ys h.1
-
 each_change : (cs : List Change) → All IsChange cs → AllByRecursion IsChange cs
 each_change [] h = tt
 each_change (c ∷ cs) h = (All-head IsChange c cs h, each_change cs (All-tail IsChange c cs h))
@@ -393,7 +382,7 @@ effect_is (receipts.Storage address bytes burn) h c = h
 
 effects_are : (es : List Effect) → AllByRecursion HasRange es → AllByRecursion IsChange (effects_changes es) → AllByRecursion IsEffect es
 effects_are [] h c = tt
-effects_are (e ∷ es) h c = (effect_is e h.0 (first_part IsChange (effect_changes e) (effects_changes es) c), effects_are es h.1 (second_part IsChange (effect_changes e) (effects_changes es) c))
+effects_are (e ∷ es) h c = (effect_is e h.0 (all_first IsChange (effect_changes e) (effects_changes es) c), effects_are es h.1 (all_second IsChange (effect_changes e) (effects_changes es) c))
 
 status_is : (s : Status) → HasRanges s → AllByRecursion IsChange (status_changes s) → IsStatus s
 status_is (Applied gas es) h c = effects_are es h c
@@ -403,7 +392,7 @@ status_is Skipped h c = tt
 
 statuses_are : (ss : List Status) → AllByRecursion HasRanges ss → AllByRecursion IsChange (statuses_changes ss) → AllByRecursion IsStatus ss
 statuses_are [] h c = tt
-statuses_are (s ∷ ss) h c = (status_is s h.0 (first_part IsChange (status_changes s) (statuses_changes ss) c), statuses_are ss h.1 (second_part IsChange (status_changes s) (statuses_changes ss) c))
+statuses_are (s ∷ ss) h c = (status_is s h.0 (all_first IsChange (status_changes s) (statuses_changes ss) c), statuses_are ss h.1 (all_second IsChange (status_changes s) (statuses_changes ss) c))
 
 receipt_is : (r : Receipt) → HasReceiptRanges r → AllByRecursion IsChange (receipt_changes r) → IsReceipt r
 receipt_is (Refused why) h c = tt
@@ -414,4 +403,4 @@ receipts_have_ranges prices number source contents w settled g e =
     let log = receipts_tell prices number source contents w settled e in
     let form = (groups_keep_good prices number source contents w settled g e).sound.form in
     let changes = subst (AllByRecursion IsChange) log (each_change settled.world.log form.log) in
-    receipt_is settled.receipt (receipts_ranged prices number source contents w settled g e) (second_part IsChange w.log (receipt_changes settled.receipt) changes)
+    receipt_is settled.receipt (receipts_ranged prices number source contents w settled g e) (all_second IsChange w.log (receipt_changes settled.receipt) changes)

@@ -6,17 +6,18 @@ use Rattle.rules_text.specs.nodes.Tree.{Tree}
 use Rattle.rules_text.specs.nodes.Limits.{most_mutez}
 use Rattle.rules_data.specs.gas.Prices.{Listed}
 use Rattle.rules_data.specs.gas.Tables.{table_of}
-use Rattle.rules_files.specs.statements.Statements.{Statement, Chain, Profile, Costs, Account, Block, Group, form}
+use Rattle.rules_files.specs.statements.Statements.{Statement, Chain, Profile, Costs, Account, Block, Group}
 use Rattle.rules_world.specs.world.Receipts.{Receipt}
 use Rattle.rules_world.specs.world.World.{World, account_at}
 use Rattle.rules_world.specs.world.Balances.{Granted, Repeated, TooMuch, endowed}
 use Rattle.rules_world.specs.world.Groups.{Settled, group}
 use Rattle.rules_files.specs.course.Course.{Course, Step, goes_on, stops, stuck_step, with_rate, with_prices, costs_step, granting, is_later, timed, block_step, numbered, step_behind, first_step}
-use Rattle.rules_files.specs.commands.Replay.{step}
+use Rattle.rules_files.specs.commands.Replay.{step, Replay, IsReplay, State}
 use Rattle.laws_commands.specs.audits.Changes.{BurnsAtRate, KeepsBurn, receipt_changes}
 use Rattle.laws_commands.specs.audits.FileLogs.{receipts_changes, FilesBurnAtRate, FilesTellChanges}
 use Rattle.laws_commands.proofs.audits_lemmas.Logs.{groups_keep_burn, receipts_tell}
-use Rattle.laws_commands.proofs.audits_lemmas.Files.{Behind, along_file}
+use Rattle.laws_commands.proofs.common.Files.{Behind, along_file, AtEnd}
+use Rattle.laws_commands.proofs.common.Steps.{any_all}
 
 pub changes_append : (rs ss : List Receipt) → receipts_changes (rs ++ ss) ≡ receipts_changes rs ++ receipts_changes ss
 changes_append [] ss = refl
@@ -86,16 +87,20 @@ first_adds (Account who mutez) = tt
 first_adds (Block level moment) = tt
 first_adds (Group source contents) = tt
 
-one_adds : (rs : List Receipt) (o : Option Course) (t : Tree) (s : Statement) → form t ≡ Some s → LogIs rs o → Behind LogIs rs (step o s)
-one_adds rs (Some c) t s e h = added rs c.world (step_behind c s) h.0 h.1 (behind_adds c s)
-one_adds rs None t s e h = subst (λ rs. Behind LogIs rs (first_step s)) (sym h) (first_adds s)
+one_adds : (rs : List Receipt) (o : Option Course) (s : Statement) → LogIs rs o → Behind LogIs rs (step o s)
+one_adds rs (Some c) s h = added rs c.world (step_behind c s) h.0 h.1 (behind_adds c s)
+one_adds rs None s h = subst (λ rs. Behind LogIs rs (first_step s)) (sym h) (first_adds s)
+
+log_at_end : (file : List ℕ) (done : Replay) (w : World) → IsReplay file done → done.ending ≡ State w → AtEnd (λ n. LogIs) done w
+log_at_end file done w r g =
+    along_file (λ n. LogIs) (λ s. Unit {0}) (λ n rs o s x fine e few h. one_adds rs o x h) refl file done w r (any_all r.statements) g
 
 pub files_tell : FilesTellChanges
 files_tell file done w r g =
-    let end = along_file LogIs one_adds refl file done w r g in
-    ap (λ (w : World). w.log) end.1 ∙ end.2.0
+    let end = log_at_end file done w r g in
+    ap (λ (w : World). w.log) end.is ∙ end.holds.0
 
 pub files_burn : FilesBurnAtRate
 files_burn file done w r g =
-    let end = along_file LogIs one_adds refl file done w r g in
-    subst BurnsAtRate (sym end.1) end.2.1
+    let end = log_at_end file done w r g in
+    subst BurnsAtRate (sym end.is) end.holds.1

@@ -160,11 +160,11 @@ lines_follow rs w d = (all_follow rs w d, supply_last rs w)
 
 -- ---- tickets apart
 
-head_below : (i : Identity) (is : List Identity) → IsStrictlySortedBy identity_order (i ∷ is) → AllByRecursion (λ j. identity_order i j ≡ Less) is
+pub head_below : (i : Identity) (is : List Identity) → IsStrictlySortedBy identity_order (i ∷ is) → AllByRecursion (λ j. identity_order i j ≡ Less) is
 unfolding IsStrictlySortedBy
 head_below i is h = h.0
 
-tail_sorted : (i : Identity) (is : List Identity) → IsStrictlySortedBy identity_order (i ∷ is) → IsStrictlySortedBy identity_order is
+pub tail_sorted : (i : Identity) (is : List Identity) → IsStrictlySortedBy identity_order (i ∷ is) → IsStrictlySortedBy identity_order is
 unfolding IsStrictlySortedBy
 tail_sorted i is h = h.1
 

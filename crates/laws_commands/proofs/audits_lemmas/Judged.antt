@@ -41,10 +41,7 @@ use Rattle.laws_commands.proofs.audits_lemmas.Follows.{ArePlain, identities_plai
 use Rattle.mich_audit.proofs.Same.{identity_same}
 use Rattle.laws_commands.proofs.audits_lemmas.Supply.{supply_told}
 use Rattle.laws_commands.proofs.audits_lemmas.Totals.{totals_told, three, parts_three}
-
-all_append : {X : Type 0} (P : X → Type 0) (xs ys : List X) → AllByRecursion P xs → AllByRecursion P ys → AllByRecursion P (xs ++ ys)
-all_append P [] ys h g = g
-all_append P (x ∷ xs) ys h g = (h.0, all_append P xs ys h.1 g)
+use Rattle.laws_commands.proofs.common.Lists.{all_append}
 
 -- ---- the lines of tickets
 

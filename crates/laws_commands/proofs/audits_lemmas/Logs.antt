@@ -53,9 +53,6 @@ burn_then w x y p q = (q.0 ∙ p.0, λ e. q.1 (p.0 ∙ e) ∙ p.1 e)
 stays_then : (w x y : World) → Stays w x → Stays x y → Stays w y
 stays_then w x y p q = (q.0 ∙ p.0, burn_then w x y p.1 q.1)
 
-burn_same : (w : World) → KeepsBurn w w
-burn_same w = (refl, λ e. refl)
-
 contract_log : (w : World) (hash : List ℕ) (mutez : ℕ) (c : Option Contract) → Stays w (with_contract_balance w hash mutez c)
 contract_log w hash mutez (Some c) = (refl, (refl, λ e. refl))
 contract_log w hash mutez None = (refl, (refl, λ e. refl))

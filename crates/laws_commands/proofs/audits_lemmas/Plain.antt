@@ -190,7 +190,7 @@ pub minted_runs_agree : MintedRunsAgree
 minted_runs_agree file done w r g p written short =
     plain_runs_agree file done w r g (world_plain w (files_end_good file done w r g).0.good p) written short
 
-mints_plain : (cs : List Change) → All IsChange cs → AllByRecursion IsPlainMint cs
+pub mints_plain : (cs : List Change) → All IsChange cs → AllByRecursion IsPlainMint cs
 mints_plain [] h = tt
 mints_plain (minted t ∷ cs) h = ((All-head IsChange (minted t) cs h).2, mints_plain cs (All-tail IsChange (minted t) cs h))
 mints_plain (burnt t ∷ cs) h = (tt, mints_plain cs (All-tail IsChange (burnt t) cs h))

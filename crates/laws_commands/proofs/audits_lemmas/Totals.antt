@@ -37,6 +37,7 @@ use Rattle.laws_commands.specs.audits.ToldLines.{identity_of, change_part, holdi
 use Rattle.laws_commands.specs.audits.Follows.{ticket_in, IsPlain}
 use Rattle.laws_commands.specs.audits.Totals.{parts_of, TotalsAreTold}
 use Rattle.laws_commands.proofs.audits_lemmas.Identities.{nodes_tell}
+use Rattle.laws_commands.proofs.audits_lemmas.Follows.{head_below, tail_sorted}
 
 -- ---- sums
 
@@ -96,14 +97,6 @@ none_held i (minted t ∷ cs) = let e = none_held i cs in omega (arith, e)
 none_held i (burnt t ∷ cs) = let e = none_held i cs in omega (arith, e)
 
 -- ---- holdings
-
-head_below : (i : Identity) (is : List Identity) → IsStrictlySortedBy identity_order (i ∷ is) → AllByRecursion (λ j. identity_order i j ≡ Less) is
-unfolding IsStrictlySortedBy
-head_below i is h = h.0
-
-tail_sorted : (i : Identity) (is : List Identity) → IsStrictlySortedBy identity_order (i ∷ is) → IsStrictlySortedBy identity_order is
-unfolding IsStrictlySortedBy
-tail_sorted i is h = h.1
 
 -- what is level with one that is below all is among none of them
 none_level : (id i : Identity) (hs : List (Identity × ℤ)) → identity_order id i ≡ Equal → AllByRecursion (λ j. identity_order i j ≡ Less) (keys_of hs) →

@@ -1,5 +1,5 @@
 -- A world behind receipts is told.
-use Rattle.std.proofs.Common.{◌≡◌, ◌≤◌, ℕ, Bool, true, is_some, List, [], ◌∷◌, ◌++◌, map, sym, subst, arith}
+use Rattle.std.proofs.Common.{◌≡◌, ◌≤◌, ℕ, Bool, true, is_some, List, [], ◌∷◌, map, sym, subst, arith}
 use Rattle.std.specs.Prelude.{ℤ, pos, ◌+ℤ◌, ◌-ℤ◌, ◌<ℤ◌, ◌≤ℤ◌, ◌^◌, ◌-◌, unsigned_abs}
 use Rattle.std.specs.List.{All, AllByRecursion}
 use Rattle.std.specs.declared.cmp.Ordering.{Ordering}
@@ -37,6 +37,7 @@ use Rattle.laws_commands.proofs.audits_lemmas.Judged.{IsOfTicket, own_amount, ba
 use Rattle.laws_commands.proofs.audits_lemmas.Supply.{accounts_mutez, contracts_mutez}
 use Rattle.laws_commands.proofs.audits_lemmas.Tickets.{fitting_tells}
 use Rattle.laws_commands.proofs.audits_lemmas.Totals.{totals_told, three, parts_three}
+use Rattle.laws_commands.proofs.common.Lists.{all_first, all_second}
 
 -- ---- mutez
 
@@ -79,14 +80,6 @@ parts_within rs w h (p ∷ ps) o le =
     subst (λ i. total p.sort i (parts_of rs w) ≤ most) (sym o.0.2) (totals_within rs w o.0.0 h o.0.1 p.sort) in
     (omega (arith, own, whole, top), parts_within rs w h ps o.1 (λ s i. let l = le s i in omega (arith, l)))
 
-second_part : {X : Type 0} (P : X → Type 0) (xs ys : List X) → AllByRecursion P (xs ++ ys) → AllByRecursion P ys
-second_part P [] ys h = h
-second_part P (x ∷ xs) ys h = second_part P xs ys h.1
-
-first_part : {X : Type 0} (P : X → Type 0) (xs ys : List X) → AllByRecursion P (xs ++ ys) → AllByRecursion P xs
-first_part P [] ys h = tt
-first_part P (x ∷ xs) ys h = (h.0, first_part P xs ys h.1)
-
 is_amount : (n : ℤ) → pos 0 <ℤ n → unsigned_abs n ≤ most → is_ticket_amount n ≡ true
 is_amount n p h = by n p h
   where
@@ -111,8 +104,8 @@ accounts_are_told : (xs : List (List ℕ × Account)) → All IsAccount xs → A
 accounts_are_told [] f m h = tt
 accounts_are_told (x ∷ xs) f m h =
     let form = All-head IsAccount x xs f in (
-      (within_mutez x.1.balance m.0, holdings_are_told x.1.holdings form.1 (first_part _ (map holding_part x.1.holdings) _ h)),
-      accounts_are_told xs (All-tail IsAccount x xs f) m.1 (second_part _ (map holding_part x.1.holdings) _ h),
+      (within_mutez x.1.balance m.0, holdings_are_told x.1.holdings form.1 (all_first _ (map holding_part x.1.holdings) _ h)),
+      accounts_are_told xs (All-tail IsAccount x xs f) m.1 (all_second _ (map holding_part x.1.holdings) _ h),
     )
 
 contracts_are_told : (w : World) (xs : List (List ℕ × Contract)) → All (IsGoodContract w) xs → AllByRecursion (λ c. c.1.balance ≤ most_mutez) xs → AllByRecursion IsToldContract xs
@@ -158,13 +151,13 @@ pub worlds_told : WorldsAreTold
 worlds_told rs w h =
     let parts = parts_within rs w h (parts_of rs w) (subst (AllByRecursion IsOfTicket) (sym (parts_three rs w)) (three_of_tickets rs w h)) (λ s i. omega arith) in
     let threes : AllByRecursion (λ p. p.amount ≤ most) (three rs w) = subst (AllByRecursion (λ p. p.amount ≤ most)) (parts_three rs w) parts in
-    let states = second_part _ (map change_part (receipts_changes rs)) _ threes in
+    let states = all_second _ (map change_part (receipts_changes rs)) _ threes in
     let mutez = h.good.sound.mutez in
     let a = accounts_mutez w.accounts in
     let c = contracts_mutez (is_some w.rate) w.contracts in
     record {
       accounts = accounts_are_told w.accounts h.good.sound.form.accounts (accounts_within most_mutez w.accounts (omega (arith, mutez, a, c)))
-          (first_part _ (all_parts (map account_line w.accounts)) _ states);
+          (all_first _ (all_parts (map account_line w.accounts)) _ states);
       contracts = contracts_are_told w w.contracts h.good.sound.contracts (contracts_within most_mutez (is_some w.rate) w.contracts (omega (arith, mutez, a, c)));
       tickets = tickets_are_told rs w h (identities w.log) (identities_plain w.log h.plain.log) (have_places w.log h.good.sound.form.log);
       fees = within_mutez w.fees (omega (arith, mutez));

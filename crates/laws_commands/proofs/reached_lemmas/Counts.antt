@@ -148,7 +148,8 @@ bare_pairs a b (more_pairs x y (more_pairs z w es)) t h i =
     let hs = and_parts (is_stored a x && is_stored b y) (all_entries (is_stored a) (is_stored b) (more_pairs z w es)) h in
     let second = and_parts (is_stored a z && is_stored b w) (all_entries (is_stored a) (is_stored b) es) hs.1 in
     let below = and_parts (is_lt (order x z)) (are_increasing (more_vals z (keys es))) i in
-    absurd (not_below (order x z) (bare_equal a x z t (and_parts (is_stored a x) (is_stored b y) hs.0).0 (and_parts (is_stored a z) (is_stored b w) second.0).0) below.0)
+    absurd (not_below (order x z) (bare_equal a x z t (and_parts (is_stored a x) (is_stored b y) hs.0).0
+    (and_parts (is_stored a z) (is_stored b w) second.0).0) below.0)
 
 -- ---- sets and maps
 

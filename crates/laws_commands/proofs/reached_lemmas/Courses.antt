@@ -15,7 +15,6 @@ use Rattle.rules_world.specs.world.Balances.{Granted, Repeated, TooMuch, endowed
 use Rattle.rules_world.specs.world.Contents.{Content}
 use Rattle.rules_world.specs.world.Good.{IsNewGroup}
 use Rattle.rules_world.specs.world.Groups.{Settled, group}
-use Rattle.rules_world.specs.world.Laws.{IsGroup}
 use Rattle.laws_world.proofs.groups_lemmas.ForCallers.{groups_keep_whole}
 use Rattle.rules_files.specs.course.Course.{Course, Step, goes_on, stops, stuck_step, first_step, step_behind, with_rate, with_prices, costs_step, granting, is_later, timed, numbered, BadOrder}
 use Rattle.rules_files.specs.course.Ranges.{IsStatement}
@@ -30,6 +29,7 @@ use Rattle.laws_files.proofs.ForCallers.{statements_have_ranges, statements_are_
 use Rattle.laws_files.proofs.paid.Groups.{SettlesPaid, group_paid}
 use Rattle.laws_files.proofs.paid.Moves.{paid_by}
 use Rattle.laws_commands.proofs.reached_lemmas.Marks.{IsRanged, form_ranged}
+use Rattle.laws_commands.proofs.common.Files.{may_settle}
 
 -- ---- runs
 
@@ -103,7 +103,8 @@ module _ (c : Course) (h : IsRated c) where
   costs_rated true table = prices_rated (table_of table)
   costs_rated false table = tt
 
-  grant_rated : (who : List ℕ) (mutez : ℕ) (a b : Bool) → IsNewGroup 0 (endowed c.world who mutez) → StaysRated (granting c (cond a Repeated (cond b (Granted (endowed c.world who mutez)) TooMuch)))
+  grant_rated : (who : List ℕ) (mutez : ℕ) (a b : Bool) → IsNewGroup 0 (endowed c.world who mutez) →
+      StaysRated (granting c (cond a Repeated (cond b (Granted (endowed c.world who mutez)) TooMuch)))
   grant_rated who mutez true b n = tt
   grant_rated who mutez false true n = (h.0, n)
   grant_rated who mutez false false n = tt
@@ -116,18 +117,6 @@ module _ (c : Course) (h : IsRated c) where
   settled_rated (Some s) p n = (subst IsRate (sym p.rate) h.0, n s refl)
   settled_rated None p n = tt
 
-  may_settle : (source : List ℕ) (contents : List Content) → IsGoodCourse c → c.groups + 1 < 2 ^ 64 → IsStatement (Group source contents) →
-      IsGroup c.prices (c.groups + 1) source contents c.world
-  may_settle source contents g few s = record {
-    costs = g.charged;
-    small = few;
-    key_hash = s.0;
-    forms = s.1;
-    few = s.2;
-    good = g.whole.good;
-    new = g.new (c.groups + 1) (omega arith) few;
-  }
-
   not_zero : 0 ≢ c.groups + 1
   not_zero e = omega arith
 
@@ -137,7 +126,7 @@ module _ (c : Course) (h : IsRated c) where
   after_group : (source : List ℕ) (contents : List Content) (s : Settled) → IsGoodCourse c → c.groups + 1 < 2 ^ 64 →
       IsStatement (Group source contents) → group c.prices (c.groups + 1) source contents c.world ≡ Some s → IsNewGroup 0 s.world
   after_group source contents s g few i e =
-      (groups_keep_whole c.prices (c.groups + 1) source contents c.world s (may_settle source contents g few i) e g.whole.mutez).1 0 zero_small not_zero h.1
+      (groups_keep_whole c.prices (c.groups + 1) source contents c.world s (may_settle c source contents g few i) e g.whole.mutez).1 0 zero_small not_zero h.1
 
   -- an account is no contract
   step_rated : (s : Statement) → IsPaidCourse c → IsGoodCourse c → c.groups + 1 < 2 ^ 64 → IsStatement s → IsRanged s → StaysRated (step_behind c s)
@@ -217,3 +206,11 @@ courses_are_behind file ss to receipts c stand runs =
     subst (Stays (0 + granted_in ss) (0 + length ss)) runs (file_stays file ss to stand) in
     let few = statements_are_small file ss to stand in
     record { good = h.0.0; paid = h.1; rate = h.2.0; zero = h.2.1; groups = omega (arith, h.0.1, h.3, few.count, few.within) }
+
+-- the statements of a file lead to a good course, whose groups are counted
+pub good_behind : (file : List ℕ) (ss : List Placed) (to : ℕ) (receipts : List Receipt) (c : Course) → AreStatements file 0 ss to →
+    run_all (going [] None) ss ≡ going receipts (Some c) → IsGoodCourse c × (c.groups ≡ length receipts)
+good_behind file ss to receipts c stand runs =
+    let h : Stays (0 + granted_in ss) (0 + length ss) (going receipts (Some c)) =
+    subst (Stays (0 + granted_in ss) (0 + length ss)) runs (file_stays file ss to stand) in
+    (h.0.0, h.0.1)

@@ -18,8 +18,9 @@ use Rattle.rules_code.specs.evaluation.Outcome.{Outcome, Run, block}
 use Rattle.rules_code.specs.evaluation.Evaluation.{Task, node, turns, left_turns, Arg, body, other, no_body, one_body, two_bodies, last_body, outside_views, result_kind, act, tree_run, trees_run, args_run, arg_run, task_run, level}
 use Rattle.laws_commands.proofs.written_lemmas.evaluation.Tags.{rule_named}
 use Rattle.laws_commands.specs.reached.Counted.{Begins, Ends, RunsAreCounted}
-use Rattle.laws_commands.proofs.reached_lemmas.Outcomes.{rises, same_gas, less_room, begins_again, EndsWell, EndsBelow, ends_after, ends_found, ends_block}
+use Rattle.laws_commands.proofs.reached_lemmas.Outcomes.{same_gas, less_room, begins_again, EndsWell, EndsBelow, ends_after, ends_found, ends_block}
 use Rattle.laws_commands.proofs.reached_lemmas.Forms.{run_if, run_if_none, run_if_left, run_if_cons, run_dip, run_turns, run_left_turns, run_loop, run_loop_left, run_iter, run_map, run_exec, run_apply, run_fail, run_push, run_lambda, run_self, run_create, run_ruled}
+use Rattle.laws_commands.proofs.common.Numbers.{rises}
 
 abbrev TaskSmall : ℕ → Task → Type 0
 TaskSmall n (node t) = size t ≤ n

@@ -40,9 +40,10 @@ use Rattle.laws_commands.specs.reached.Kept.{CanBeCounted, AllCanBeCounted, Entr
 use Rattle.laws_commands.specs.reached.Reached.{ListsAreCounted, ReachedAreSound}
 use Rattle.laws_commands.proofs.reached_lemmas.Courses.{IsGoodIf, Stays, one_stays}
 use Rattle.laws_commands.proofs.reached_lemmas.Groups.{spare, spare_rises, spare_is, SettledWithin, group_within}
-use Rattle.laws_commands.proofs.reached_lemmas.Marks.{OnSome, then_has, any_then, either_has}
+use Rattle.laws_commands.proofs.written_lemmas.files.Statements.{then_has, any_then, either_has}
 use Rattle.laws_commands.proofs.reached_lemmas.Reached.{counted_are_sound}
 use Rattle.laws_commands.proofs.reached_lemmas.Worlds.{WorldWithin, more_world}
+use Rattle.laws_commands.proofs.common.Lists.{OnSome}
 
 -- ---- statements take as many bytes as they have nodes
 
@@ -98,9 +99,6 @@ counted_few ts = by (nat_le 1 (length ts) && nat_le (length ts) most_contents)
     by : (b : Bool) → OnSome (λ (cs : List Content). length cs ≤ length ts) (only_if b ts >>= each_content)
     by true = each_few ts
     by false = tt
-
-up_to : (a b c : ℕ) → a ≤ b → b ≤ c → a ≤ c
-up_to a b c h g = omega (arith, h, g)
 
 weaken : {A : Type 0} (P Q : A → Type 0) (o : Option A) → ((x : A) → P x → Q x) → OnSome P o → OnSome Q o
 weaken P Q None f h = tt

@@ -45,12 +45,13 @@ use Rattle.rules_code.specs.evaluation.Operating.{in_view, behind_view, view_run
 use Rattle.rules_code.specs.evaluation.Straight.{minted_so_far, row_run, ruled_run}
 use Rattle.rules_files.specs.snapshots.Spelling.{count_vals}
 use Rattle.laws_code.proofs.typed.ForCallers.{FoundHas, found_then, named_entrypoint, AllTyped, OutlineGood, outline_good}
-use Rattle.laws_commands.proofs.written_lemmas.values.Lists.{all_append, all_take, all_drop}
 use Rattle.laws_commands.proofs.written_lemmas.evaluation.Tags.{name_short, IsNamed, IsNamedRule}
 use Rattle.laws_commands.specs.reached.Counted.{ListsWithin, AllListsWithin, EntryListsWithin, StackWithin, EnvironmentWithin, OperationWithin, IssuedWithin, ContractWithin, Begins, Ends}
 use Rattle.laws_commands.proofs.reached_lemmas.Literals.{literals_are_counted}
 use Rattle.laws_commands.proofs.reached_lemmas.Steps.{more_lists, more_stack, more_step, place_length, step_keeps}
-use Rattle.laws_commands.proofs.reached_lemmas.Outcomes.{rises, same_gas, below, still_below, more_issued, less_room, one_more, roomy, begins_again, with_stack, EndsWell, EndsBelow, run_less, ends_after, ends_if, ends_ending, ends_unless, ends_found, ends_goes, ends_charge, ends_paid, ends_finish, ends_issue}
+use Rattle.laws_commands.proofs.reached_lemmas.Outcomes.{same_gas, below, still_below, more_issued, less_room, one_more, roomy, begins_again, with_stack, EndsWell, EndsBelow, run_less, ends_after, ends_if, ends_ending, ends_unless, ends_found, ends_goes, ends_charge, ends_paid, ends_finish, ends_issue}
+use Rattle.laws_commands.proofs.common.Numbers.{rises}
+use Rattle.laws_commands.proofs.common.Lists.{all_append, all_take, all_drop}
 
 -- ---- items
 
@@ -115,9 +116,6 @@ rebuilt_within n (k.option a) (v.some x) i [] e h l g = h
 rebuilt_within n (k.option a) (v.some x) i (y ∷ ys) e h l g = g.0
 rebuilt_within n (k.option a) v.nothing i ys e h l g = tt
 rebuilt_within n _ _ i ys e h l g = absurd cc
-
-one_item : (a b c : ℕ) → a + suc b ≡ c → suc a + b ≡ c
-one_item a b c e = omega (arith, e)
 
 no_item : (a c : ℕ) → a + 0 ≡ c → a ≡ c
 no_item a c e = omega (arith, e)
@@ -197,10 +195,6 @@ both_parts : (n : ℕ) (b : List ℕ) → length (take n b) + length (drop n b) 
 both_parts zero b = omega arith
 both_parts (suc n) [] = omega arith
 both_parts (suc n) (x ∷ b) = let h : length (take n b) + length (drop n b) ≡ length b = both_parts n b in omega (arith, h)
-
-named_short : (rest : List ℕ) → length (name_of rest) ≤ length rest + 7
-named_short [] = omega arith
-named_short (c ∷ name) = omega arith
 
 abbrev ShortIf : ℕ → Option (List ℕ) → Type 0
 ShortIf n None = Unit {0}

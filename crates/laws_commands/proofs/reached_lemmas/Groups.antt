@@ -1,26 +1,26 @@
 -- Each content makes lists longer by no more items than the most gas that it may have.
-use Rattle.std.proofs.Common.{◌≡◌, ◌≤◌, ◌<◌, ◌+◌, ◌-◌, ◌*◌, ◌^◌, ◌||◌, ℕ, zero, suc, ℤ, pos, Bool, true, false, List, [], ◌∷◌, length, Option, Some, None, refl, arith}
-use Rattle.std.specs.Prelude.{nat_lt, int_lt, unsigned_abs, ◌≤ℤ◌, not, is_some, if◌then◌else◌}
+use Rattle.std.proofs.Common.{◌≡◌, ◌≤◌, ◌<◌, ◌+◌, ◌-◌, ◌*◌, ◌^◌, ℕ, zero, suc, true, false, List, [], ◌∷◌, length, Option, Some, None, refl, arith}
+use Rattle.std.specs.Prelude.{unsigned_abs}
 use Rattle.std.specs.List.{All, list_any}
-use Rattle.std.proofs.lemmas.Int.{ints}
 use Rattle.std.proofs.lemmas.List.Elements.{All-head, All-tail}
+use Rattle.std.proofs.lemmas.Bool.{or_parts}
 use Rattle.rules_text.specs.nodes.Limits.{byte_limit, most_gas}
 use Rattle.rules_text.specs.nodes.Tree.{size}
 use Rattle.rules_data.specs.forms.Spelling.{implicit_place, is_key_hash, is_contract}
 use Rattle.rules_data.specs.gas.Prices.{Listed}
-use Rattle.rules_world.specs.world.Balances.{balance_or_none}
 use Rattle.rules_world.specs.world.Contents.{Action, Originate, Call, Give, Content}
 use Rattle.rules_world.specs.world.Forms.{IsAction, IsContent}
 use Rattle.rules_world.specs.world.Groups.{all_fees, is_over_gas, refusal_of, Turn, all_applied, one_failed, stuck_turn, behind_applied, with_tree, in_turn, Settled, fees_taken, settled_by, setting_of, unless_refused, group}
 use Rattle.rules_world.specs.world.Outcomes.{Setting, ordered, Counts, no_counts}
-use Rattle.rules_world.specs.world.Receipts.{Status, GroupFault, UnknownSource, GasTooHigh, FeeTooHigh}
+use Rattle.rules_world.specs.world.Receipts.{Status, GroupFault}
 use Rattle.rules_world.specs.world.Trees.{Walk, completed, broken_off, stuck_walk, tree}
-use Rattle.rules_world.specs.world.World.{World, account_at}
+use Rattle.rules_world.specs.world.World.{World}
 use Rattle.laws_code.specs.evaluation.Laws.{IsCharged}
 use Rattle.laws_data.proofs.forms_lemmas.Places.{key_hash_length, contract_length}
-use Rattle.laws_commands.proofs.reached_lemmas.Outcomes.{rises}
 use Rattle.laws_commands.proofs.reached_lemmas.Worlds.{WorldWithin, more_world, fee_within, ActionWithin}
 use Rattle.laws_commands.proofs.reached_lemmas.Operations.{WalkWithin, walk_within}
+use Rattle.laws_commands.proofs.written_lemmas.worlds.Groups.{within_gas, few_gas}
+use Rattle.laws_commands.proofs.common.Numbers.{rises}
 
 -- how many items lists may have behind so many contents
 abbrev pub spare : ℕ → ℕ
@@ -39,16 +39,6 @@ spare_rises (suc k) (suc l) le = let h : spare k ≤ spare l = spare_rises k l (
 pub spare_is : (k : ℕ) → spare k ≤ 2 ^ 32 + k * 10000000000
 spare_is zero = omega arith
 spare_is (suc k) = let h : spare k ≤ 2 ^ 32 + k * 10000000000 = spare_is k in omega (arith, h)
-
-few_gas : (c : Content) → pos 0 ≤ℤ c.gas → is_over_gas c ≡ false → unsigned_abs c.gas ≤ most_gas
-few_gas c h e = by c.gas h e
-  where
-    by : (n : ℤ) → pos 0 ≤ℤ n → int_lt (pos most_gas) n ≡ false → unsigned_abs n ≤ most_gas
-    by n h e = omega (arith, ints, h, e)
-
-or_false : (a b : Bool) → (a || b) ≡ false → (a ≡ false) × (b ≡ false)
-or_false true b e = absurd cc
-or_false false b e = (refl, e)
 
 small_in : (a n : ℕ) → a < 2 ^ 32 → 2 ^ 32 ≤ n → a ≤ n
 small_in a n h g = omega (arith, h, g)
@@ -70,9 +60,6 @@ kept_room n g = omega arith
 
 big_room : (n g : ℕ) → 2 ^ 32 ≤ n → byte_limit + g ≤ n + g
 big_room n g h = omega (arith, h)
-
-no_more : (n g left most : ℕ) → g ≤ most → (n + g) - left ≤ n + most
-no_more n g left most h = omega (arith, h)
 
 module _ (s : Setting) (prices : IsCharged s.prices) (key : length s.source ≤ 21) where
   abbrev TurnWithin : ℕ → Turn → Type 0
@@ -100,7 +87,7 @@ module _ (s : Setting) (prices : IsCharged s.prices) (key : length s.source ≤ 
       TurnWithin (spare j) (in_turn s cs w counts)
   turn_within [] k j w counts le all over p = more_world (spare k) (spare j) w (spare_rises k j (omega (arith, le))) p
   turn_within (c ∷ cs) k j w counts le all over p =
-      let no = or_false (is_over_gas c) (list_any is_over_gas cs) over in
+      let no = or_parts (is_over_gas c) (list_any is_over_gas cs) over in
       let content = All-head IsContent c cs all in
       let g = unsigned_abs c.gas in
       let kept = kept_room (spare k) g in
@@ -115,18 +102,6 @@ module _ (s : Setting) (prices : IsCharged s.prices) (key : length s.source ≤ 
 abbrev pub SettledWithin : ℕ → Option Settled → Type 0
 SettledWithin n (Some settled) = WorldWithin n settled.world
 SettledWithin n None = Unit {0}
-
-within_gas : (w : World) (source : List ℕ) (cs : List Content) → refusal_of w source cs ≡ None → list_any is_over_gas cs ≡ false
-within_gas w source cs e =
-    by (not (is_some (account_at w source))) (list_any is_over_gas cs) (nat_lt (balance_or_none w (implicit_place source)) (all_fees cs))
-    refl e
-  where
-    by : (a b c : Bool) → list_any is_over_gas cs ≡ b →
-        (if a then Some UnknownSource else if b then Some GasTooHigh else if c then Some FeeTooHigh else None) ≡ None →
-        list_any is_over_gas cs ≡ false
-    by true b c i e = absurd cc
-    by false true c i e = absurd cc
-    by false false c i e = i
 
 hash_few : (b : List ℕ) → is_key_hash b ≡ true → length b ≤ 21
 hash_few b h = let e = key_hash_length b h in omega (arith, e)

@@ -1,8 +1,7 @@
 -- The world that a file reaches can be kept.
-use Rattle.std.proofs.Common.{◌≡◌, ◌≤◌, ◌<◌, ◌+◌, ◌⊎◌, inl, inr, ℕ, zero, suc, Bool, true, false, ltb, List, [], ◌∷◌, take, refl, ap, ◌∙◌, arith}
+use Rattle.std.proofs.Common.{◌≡◌, ◌≤◌, ◌<◌, ◌+◌, ◌⊎◌, inl, inr, ℕ, zero, suc, List, [], ◌∷◌, take, refl, ap, ◌∙◌, arith}
 use Rattle.std.specs.Int.{w64, to_be_bytes}
 use Rattle.std.specs.List.{All, AllByRecursion}
-use Rattle.std.proofs.lemmas.Bool.{ltb-true, ltb-false}
 use Rattle.rules_text.specs.nodes.Limits.{type_limit}
 use Rattle.rules_text.specs.nodes.Tree.{Tree, int, str, bytes, prim, seq}
 use Rattle.rules_data.specs.types.Kind.{nodes}
@@ -24,6 +23,7 @@ use Rattle.mich_text.specs.Written.{CanBeWritten}
 use Rattle.laws_commands.specs.reached.Kept.{CanBeCounted, IsPast, IsKeptContract, IsKeptIdentity, IsKeptChange, IsKept}
 use Rattle.laws_commands.proofs.reached_lemmas.Courses.{IsBehind}
 use Rattle.laws_commands.proofs.reached_lemmas.Lists.{each_in, here}
+use Rattle.laws_commands.proofs.common.Numbers.{split}
 
 -- a script is a sequence
 script_written : (t : Tree) (x : Script) → script t ≡ found x → HasForm t → CanBeWritten t
@@ -34,13 +34,6 @@ script_written (bytes b) x e h = absurd cc
 script_written (prim name annots ts) x e h = absurd cc
 
 -- ---- the groups of contracts
-
-split : (a b : ℕ) → (a ≤ b) ⊎ (b < a)
-split a b = by (ltb b a) refl
-  where
-    by : (t : Bool) → ltb b a ≡ t → (a ≤ b) ⊎ (b < a)
-    by true e = inr (ltb-true b a e)
-    by false e = inl (ltb-false b a e)
 
 zero_or : (n : ℕ) → (n ≡ 0) ⊎ (1 ≤ n)
 zero_or zero = inl refl

@@ -12,15 +12,13 @@ use Rattle.rules_files.specs.snapshots.Loading.{bodies, is_long, nodes_in, saved
 use Rattle.rules_files.specs.snapshots.Reading.{snapshot_limit}
 use Rattle.rules_files.specs.snapshots.Spelt.{IsEight}
 use Rattle.laws_commands.proofs.reached_lemmas.Lists.{part_within, parts_counted, none_pass, among_parts}
+use Rattle.laws_commands.proofs.common.Numbers.{rises}
 
 front : (xs ys : List ℕ) → length xs ≤ length (xs ++ ys)
 front xs ys = omega (arith, length-append xs ys)
 
 back : (xs ys : List ℕ) → length ys ≤ length (xs ++ ys)
 back xs ys = omega (arith, length-append xs ys)
-
-through : (a b c : ℕ) → a ≤ b → b ≤ c → a ≤ c
-through a b c h g = omega (arith, h, g)
 
 -- ---- parts have some bytes
 
@@ -41,7 +39,7 @@ some_contract c = some_eight c.0 (eight c.1.paid ++ (node_spelling c.1.script ++
 
 some_total : (t : Total) → 1 ≤ length (total_spelling t)
 some_total t =
-    through 1 (length (signed w128 t.minted ++ signed w128 t.burnt)) (length (total_spelling t)) (some_signed (signed w128 t.minted) t.burnt)
+    rises 1 (length (signed w128 t.minted ++ signed w128 t.burnt)) (length (total_spelling t)) (some_signed (signed w128 t.minted) t.burnt)
     (back (identity_spelling t.identity) (signed w128 t.minted ++ signed w128 t.burnt))
 
 -- ---- a state
@@ -61,64 +59,65 @@ module _ (s : State) (short : length (state_spelling s) ≤ snapshot_limit) wher
 
   behind_sums : length (A ++ (C ++ T)) ≤ length (state_spelling s)
   behind_sums =
-      through (length (A ++ (C ++ T))) (length (costs_spelling s ++ (sums_spelling s ++ (A ++ (C ++ T))))) (length (state_spelling s))
-      (through (length (A ++ (C ++ T))) (length (sums_spelling s ++ (A ++ (C ++ T)))) (length (costs_spelling s ++ (sums_spelling s ++ (A ++ (C ++ T)))))
+      rises (length (A ++ (C ++ T))) (length (costs_spelling s ++ (sums_spelling s ++ (A ++ (C ++ T))))) (length (state_spelling s))
+      (rises (length (A ++ (C ++ T))) (length (sums_spelling s ++ (A ++ (C ++ T)))) (length (costs_spelling s ++ (sums_spelling s ++ (A ++ (C ++ T)))))
       (back (sums_spelling s) (A ++ (C ++ T))) (back (costs_spelling s) (sums_spelling s ++ (A ++ (C ++ T)))))
       (back (head_spelling s) (costs_spelling s ++ (sums_spelling s ++ (A ++ (C ++ T)))))
 
   accounts_short : length (flat_map account_spelling s.accounts) ≤ length (state_spelling s)
   accounts_short =
-      through (length (flat_map account_spelling s.accounts)) (length (A ++ (C ++ T))) (length (state_spelling s))
-      (through (length (flat_map account_spelling s.accounts)) (length A) (length (A ++ (C ++ T)))
+      rises (length (flat_map account_spelling s.accounts)) (length (A ++ (C ++ T))) (length (state_spelling s))
+      (rises (length (flat_map account_spelling s.accounts)) (length A) (length (A ++ (C ++ T)))
       (back (eight (length s.accounts)) (flat_map account_spelling s.accounts)) (front A (C ++ T))) behind_sums
 
   rest_short : length (C ++ T) ≤ length (state_spelling s)
-  rest_short = through (length (C ++ T)) (length (A ++ (C ++ T))) (length (state_spelling s)) (back A (C ++ T)) behind_sums
+  rest_short = rises (length (C ++ T)) (length (A ++ (C ++ T))) (length (state_spelling s)) (back A (C ++ T)) behind_sums
 
   contracts_short : length (flat_map contract_spelling s.contracts) ≤ length (state_spelling s)
   contracts_short =
-      through (length (flat_map contract_spelling s.contracts)) (length (C ++ T)) (length (state_spelling s))
-      (through (length (flat_map contract_spelling s.contracts)) (length C) (length (C ++ T))
+      rises (length (flat_map contract_spelling s.contracts)) (length (C ++ T)) (length (state_spelling s))
+      (rises (length (flat_map contract_spelling s.contracts)) (length C) (length (C ++ T))
       (back (eight (length s.contracts)) (flat_map contract_spelling s.contracts)) (front C T)) rest_short
 
   tickets_short : length (flat_map total_spelling s.tickets) ≤ length (state_spelling s)
   tickets_short =
-      through (length (flat_map total_spelling s.tickets)) (length (C ++ T)) (length (state_spelling s))
-      (through (length (flat_map total_spelling s.tickets)) (length T) (length (C ++ T))
+      rises (length (flat_map total_spelling s.tickets)) (length (C ++ T)) (length (state_spelling s))
+      (rises (length (flat_map total_spelling s.tickets)) (length T) (length (C ++ T))
       (back (eight (length s.tickets)) (flat_map total_spelling s.tickets)) (back C T)) rest_short
 
   pub few_accounts : IsEight (length s.accounts)
   few_accounts =
       few (length s.accounts) (length (state_spelling s))
-      (through (length s.accounts) (length (flat_map account_spelling s.accounts)) (length (state_spelling s))
+      (rises (length s.accounts) (length (flat_map account_spelling s.accounts)) (length (state_spelling s))
       (parts_counted account_spelling some_account s.accounts) accounts_short) short
 
   pub few_contracts : IsEight (length s.contracts)
   few_contracts =
       few (length s.contracts) (length (state_spelling s))
-      (through (length s.contracts) (length (flat_map contract_spelling s.contracts)) (length (state_spelling s))
+      (rises (length s.contracts) (length (flat_map contract_spelling s.contracts)) (length (state_spelling s))
       (parts_counted contract_spelling some_contract s.contracts) contracts_short) short
 
   pub few_tickets : IsEight (length s.tickets)
   few_tickets =
       few (length s.tickets) (length (state_spelling s))
-      (through (length s.tickets) (length (flat_map total_spelling s.tickets)) (length (state_spelling s))
+      (rises (length s.tickets) (length (flat_map total_spelling s.tickets)) (length (state_spelling s))
       (parts_counted total_spelling some_total s.tickets) tickets_short) short
 
   own_holdings : (a : List ℕ × Account) → length a.1.holdings ≤ length (account_spelling a)
   own_holdings a =
-      through (length a.1.holdings) (length (flat_map holding_spelling a.1.holdings)) (length (account_spelling a))
+      rises (length a.1.holdings) (length (flat_map holding_spelling a.1.holdings)) (length (account_spelling a))
       (parts_counted holding_spelling some_holding a.1.holdings)
-      (through (length (flat_map holding_spelling a.1.holdings)) (length (counted holding_spelling a.1.holdings)) (length (account_spelling a))
+      (rises (length (flat_map holding_spelling a.1.holdings)) (length (counted holding_spelling a.1.holdings)) (length (account_spelling a))
       (back (eight (length a.1.holdings)) (flat_map holding_spelling a.1.holdings))
-      (through (length (counted holding_spelling a.1.holdings)) (length (eight a.1.balance ++ counted holding_spelling a.1.holdings)) (length (account_spelling a))
+      (rises (length (counted holding_spelling a.1.holdings))
+      (length (eight a.1.balance ++ counted holding_spelling a.1.holdings)) (length (account_spelling a))
       (back (eight a.1.balance) (counted holding_spelling a.1.holdings)) (back a.0 (eight a.1.balance ++ counted holding_spelling a.1.holdings))))
 
   pub few_holdings : (before behind : List (List ℕ × Account)) (a : List ℕ × Account) → s.accounts ≡ before ++ (a ∷ behind) → IsEight (length a.1.holdings)
   few_holdings before behind a e =
       few (length a.1.holdings) (length (state_spelling s))
-      (through (length a.1.holdings) (length (flat_map account_spelling s.accounts)) (length (state_spelling s))
-      (through (length a.1.holdings) (length (account_spelling a)) (length (flat_map account_spelling s.accounts)) (own_holdings a)
+      (rises (length a.1.holdings) (length (flat_map account_spelling s.accounts)) (length (state_spelling s))
+      (rises (length a.1.holdings) (length (account_spelling a)) (length (flat_map account_spelling s.accounts)) (own_holdings a)
       (subst (λ (us : List (List ℕ × Account)). length (account_spelling a) ≤ length (flat_map account_spelling us)) (sym e)
       (part_within account_spelling before behind a))) accounts_short) short
 
@@ -127,12 +126,12 @@ module _ (s : State) (short : length (state_spelling s) ≤ snapshot_limit) wher
   storage_short before behind c e =
       let stored = value_spelling c.1.storage in
       let coded = node_spelling c.1.script ++ stored in
-      through (length stored) (length (state_spelling s)) snapshot_limit
-      (through (length stored) (length (flat_map contract_spelling s.contracts)) (length (state_spelling s))
-      (through (length stored) (length (contract_spelling c)) (length (flat_map contract_spelling s.contracts))
-      (through (length stored) (length (eight c.1.balance ++ (eight c.1.paid ++ coded))) (length (contract_spelling c))
-      (through (length stored) (length (eight c.1.paid ++ coded)) (length (eight c.1.balance ++ (eight c.1.paid ++ coded)))
-      (through (length stored) (length coded) (length (eight c.1.paid ++ coded)) (back (node_spelling c.1.script) stored) (back (eight c.1.paid) coded))
+      rises (length stored) (length (state_spelling s)) snapshot_limit
+      (rises (length stored) (length (flat_map contract_spelling s.contracts)) (length (state_spelling s))
+      (rises (length stored) (length (contract_spelling c)) (length (flat_map contract_spelling s.contracts))
+      (rises (length stored) (length (eight c.1.balance ++ (eight c.1.paid ++ coded))) (length (contract_spelling c))
+      (rises (length stored) (length (eight c.1.paid ++ coded)) (length (eight c.1.balance ++ (eight c.1.paid ++ coded)))
+      (rises (length stored) (length coded) (length (eight c.1.paid ++ coded)) (back (node_spelling c.1.script) stored) (back (eight c.1.paid) coded))
       (back (eight c.1.balance) (eight c.1.paid ++ coded))) (back c.0 (eight c.1.balance ++ (eight c.1.paid ++ coded))))
       (subst (λ (us : List (List ℕ × Contract)). length (contract_spelling c) ≤ length (flat_map contract_spelling us)) (sym e)
       (part_within contract_spelling before behind c))) contracts_short) short
@@ -151,5 +150,7 @@ pub nodes_short : (s : State) → list_any is_long (nodes_in s) ≡ false → (b
     s.contracts ≡ before ++ (c ∷ behind) → AllByRecursion (λ t. is_long t ≡ false) (c.1.script ∷ bodies c.1.storage)
 nodes_short s h before behind c e =
     among_parts (λ t. is_long t ≡ false) (λ (c : List ℕ × Contract). c.1.script ∷ bodies c.1.storage) before behind c
-    (subst (λ (cs : List (List ℕ × Contract)). AllByRecursion (λ t. is_long t ≡ false) (flat_map (λ (c : List ℕ × Contract). c.1.script ∷ bodies c.1.storage) cs)) e
+    (subst
+    (λ (cs : List (List ℕ × Contract)). AllByRecursion (λ t. is_long t ≡ false)
+    (flat_map (λ (c : List ℕ × Contract). c.1.script ∷ bodies c.1.storage) cs)) e
     (none_pass is_long (nodes_in s) h))

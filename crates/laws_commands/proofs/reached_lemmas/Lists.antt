@@ -1,7 +1,9 @@
 -- Elements of lists, each between what stands before and behind it.
-use Rattle.std.proofs.Common.{◌≡◌, ◌≤◌, ◌+◌, ℕ, Bool, true, false, ◌&&◌, ◌||◌, List, [], ◌∷◌, ◌++◌, map, length, fold, refl, sym, ◌∙◌, append_assoc, length-append, subst, arith}
+use Rattle.std.proofs.Common.{◌≡◌, ◌≤◌, ◌+◌, ℕ, Bool, true, false, List, [], ◌∷◌, ◌++◌, map, length, fold, refl, sym, ◌∙◌, append_assoc, length-append, subst, arith}
 use Rattle.std.specs.List.{All, AllByRecursion, flat_map, list_all, list_any, sum_by}
 use Rattle.std.proofs.lemmas.List.Elements.{All-nil, All-cons, All-head, All-tail}
+use Rattle.std.proofs.lemmas.Bool.{and_from, or_parts}
+use Rattle.laws_commands.proofs.common.Lists.{all_first, all_second}
 
 module _ {A : Type 0} (P : A → Type 0) where
   from : (xs pre ys : List A) → xs ≡ pre ++ ys → ((before behind : List A) (x : A) → xs ≡ before ++ (x ∷ behind) → P x) → AllByRecursion P ys
@@ -66,18 +68,10 @@ module _ {A : Type 0} (P : A → Type 0) where
   pub here : (xs before behind : List A) (x : A) → xs ≡ before ++ (x ∷ behind) → All P xs → P x
   here xs before behind x e h = at before behind x (subst (All P) e h)
 
-  pub all_first : (xs ys : List A) → AllByRecursion P (xs ++ ys) → AllByRecursion P xs
-  all_first [] ys h = tt
-  all_first (x ∷ xs) ys h = (h.0, all_first xs ys h.1)
-
-  pub all_second : (xs ys : List A) → AllByRecursion P (xs ++ ys) → AllByRecursion P ys
-  all_second [] ys h = h
-  all_second (x ∷ xs) ys h = all_second xs ys h.1
-
   pub among_parts : {B : Type 0} (part : B → List A) (before behind : List B) (x : B) → AllByRecursion P (flat_map part (before ++ (x ∷ behind))) →
       AllByRecursion P (part x)
-  among_parts part [] behind x h = all_first (part x) (flat_map part behind) h
-  among_parts part (y ∷ before) behind x h = among_parts part before behind x (all_second (part y) (flat_map part (before ++ (x ∷ behind))) h)
+  among_parts part [] behind x h = all_first P (part x) (flat_map part behind) h
+  among_parts part (y ∷ before) behind x h = among_parts part before behind x (all_second P (part y) (flat_map part (before ++ (x ∷ behind))) h)
 
   pub all_unmapped : {B : Type 0} (f : B → A) (ys : List B) → All P (map f ys) → All (λ y. P (f y)) ys
   all_unmapped f [] h = All-nil (λ y. P (f y))
@@ -88,19 +82,7 @@ module _ {A : Type 0} (P : A → Type 0) where
   all_mapped f [] h = tt
   all_mapped f (y ∷ ys) h = (h.0, all_mapped f ys h.1)
 
-  pub both_all : (Q : A → Type 0) (xs : List A) → AllByRecursion P xs → ((x : A) → P x → Q x) → AllByRecursion Q xs
-  both_all Q [] h f = tt
-  both_all Q (x ∷ xs) h f = (f x h.0, both_all Q xs h.1 f)
-
 -- ---- tests
-
-pub both : (a b : Bool) → a ≡ true → b ≡ true → (a && b) ≡ true
-both true b e g = g
-both false b e g = e
-
-or_parts : (a b : Bool) → (a || b) ≡ false → (a ≡ false) × (b ≡ false)
-or_parts true b e = absurd cc
-or_parts false b e = (refl, e)
 
 module _ {A : Type 0} (test : A → Bool) where
   pub none_pass : (xs : List A) → list_any test xs ≡ false → AllByRecursion (λ x. test x ≡ false) xs
@@ -109,4 +91,4 @@ module _ {A : Type 0} (test : A → Bool) where
 
   pub all_pass : (xs : List A) → AllByRecursion (λ x. test x ≡ true) xs → list_all test xs ≡ true
   all_pass [] h = refl
-  all_pass (x ∷ xs) h = both (test x) (list_all test xs) h.0 (all_pass xs h.1)
+  all_pass (x ∷ xs) h = and_from (test x) (list_all test xs) h.0 (all_pass xs h.1)

@@ -1,5 +1,5 @@
 -- What a course tells of the statements that stood before it.
-use Rattle.std.proofs.Common.{◌≡◌, ◌≤◌, ◌+◌, ◌⊎◌, inl, inr, ◌&&◌, ◌||◌, ℕ, ℤ, pos, int_le, nat_le, unsigned_abs, Bool, true, false, cond, List, [], ◌∷◌, ◌++◌, codes, Some, None, Ok, Err, refl, sym, subst, arith, is_some, if◌then◌else◌}
+use Rattle.std.proofs.Common.{◌≡◌, ◌≤◌, ◌+◌, ◌⊎◌, inl, inr, ◌&&◌, ◌||◌, ℕ, ℤ, pos, nat_le, Bool, true, false, cond, List, [], ◌∷◌, ◌++◌, codes, Some, None, Ok, Err, refl, sym, subst, is_some}
 use Rattle.std.specs.declared.option.Option.{Option}
 use Rattle.std.specs.Prelude.{Result, is_none}
 use Rattle.std.specs.Option.{option_map}
@@ -22,25 +22,10 @@ use Rattle.rules_files.specs.commands.Replay.{FileFault, BadStatement, Run, goin
 use Rattle.rules_files.specs.commands.Snapshots.{as_list, statements_of}
 use Rattle.rules_files.specs.snapshots.Course.{is_costs, is_start}
 use Rattle.laws_commands.proofs.reached_lemmas.Prices.{ArePriced, nothing_priced, table_priced}
+use Rattle.laws_commands.proofs.written_lemmas.files.Statements.{then_has, any_then, either_has, number_has}
+use Rattle.laws_commands.proofs.common.Lists.{OnSome}
 
 -- ---- the ranges of levels and rates
-
-abbrev pub OnSome : {A : Type 0} → (A → Type 0) → Option A → Type 0
-OnSome P None = Unit {0}
-OnSome P (Some x) = P x
-
-pub then_has : {A B : Type 0} (Q : A → Type 0) (P : B → Type 0) (o : Option A) (f : A → Option B) → OnSome Q o →
-    ((x : A) → Q x → OnSome P (f x)) → OnSome P (o >>= f)
-then_has Q P None f h g = tt
-then_has Q P (Some x) f h g = g x h
-
-pub any_then : {A B : Type 0} (P : B → Type 0) (o : Option A) (f : A → Option B) → ((x : A) → OnSome P (f x)) → OnSome P (o >>= f)
-any_then P None f g = tt
-any_then P (Some x) f g = g x
-
-pub either_has : {A : Type 0} (P : A → Type 0) (b : Bool) (o q : Option A) → OnSome P o → OnSome P q → OnSome P (if b then o else q)
-either_has P true o q h g = h
-either_has P false o q h g = g
 
 -- levels below 2^31 and rates within their limit
 abbrev pub IsRanged : Statement → Type 0
@@ -48,20 +33,6 @@ IsRanged (Chain id level moment) = level ≤ most_level
 IsRanged (Profile rate) = rate ≤ most_rate
 IsRanged (Block level moment) = level ≤ most_level
 IsRanged s = Unit {0}
-
-abs_within : (most : ℕ) (n : ℤ) → (int_le (pos 0) n && int_le n (pos most)) ≡ true → unsigned_abs n ≤ most
-abs_within most n h = grind arith
-
-number_has : (most : ℕ) (t : Tree) → OnSome (λ n. n ≤ most) (number_of most t)
-number_has most t = by (integer_of t)
-  where
-    ranged : (n : ℤ) (b : Bool) → (int_le (pos 0) n && int_le n (pos most)) ≡ b → OnSome (λ m. m ≤ most) (option_map unsigned_abs (only_if b n))
-    ranged n true e = abs_within most n e
-    ranged n false e = tt
-
-    by : (o : Option ℤ) → OnSome (λ m. m ≤ most) (option_map unsigned_abs (o >>= λ n. only_if (int_le (pos 0) n && int_le n (pos most)) n))
-    by (Some n) = ranged n (int_le (pos 0) n && int_le n (pos most)) refl
-    by None = tt
 
 chain_has : (ts : List Tree) → OnSome IsRanged (chain_of ts)
 chain_has (id ∷ level ∷ moment ∷ []) =

@@ -38,13 +38,14 @@ use Rattle.rules_world.specs.world.Trees.{Walk, completed, broken_off, stuck_wal
 use Rattle.rules_world.specs.world.World.{World, contract_at, key_hash_in}
 use Rattle.laws_code.specs.evaluation.Laws.{IsCharged}
 use Rattle.laws_world.proofs.runs.ForCallers.{script_code}
-use Rattle.laws_commands.proofs.written_lemmas.values.Lists.{all_append}
 use Rattle.laws_commands.specs.reached.Counted.{ListsWithin}
 use Rattle.laws_commands.proofs.reached_lemmas.Steps.{more_lists}
 use Rattle.laws_commands.proofs.reached_lemmas.Literals.{literals_are_counted}
-use Rattle.laws_commands.proofs.reached_lemmas.Outcomes.{rises, same_gas, less_room, roomy}
+use Rattle.laws_commands.proofs.reached_lemmas.Outcomes.{same_gas, less_room, roomy}
 use Rattle.laws_commands.proofs.reached_lemmas.Forms.{take_most}
 use Rattle.laws_commands.proofs.reached_lemmas.Worlds.{WorldWithin, more_world, one_within, moved_within, credited_within, debited_within, WaitingWithin, more_waiting, FoundWithin, literal_within, ArgumentWithin, argument_within, Leaves, leaves_charged, leaves_run, leaves_founding}
+use Rattle.laws_commands.proofs.common.Numbers.{rises}
+use Rattle.laws_commands.proofs.common.Lists.{all_append}
 
 -- a target in a world
 pub record TargetIs (n : ℕ) (t : Target) : Type 0 where

@@ -22,12 +22,10 @@ use Rattle.rules_code.specs.evaluation.Branches.{paid}
 use Rattle.rules_code.specs.evaluation.Loops.{ending}
 use Rattle.rules_code.specs.evaluation.Issuing.{with_operation, issued_where, issue}
 use Rattle.rules_code.specs.evaluation.Given.{on_found, on_goes}
-use Rattle.laws_commands.proofs.written_lemmas.values.Lists.{all_append}
 use Rattle.laws_commands.specs.reached.Counted.{StackWithin, EnvironmentWithin, OperationWithin, IssuedWithin, ContractWithin, Begins, Ends}
 use Rattle.laws_commands.proofs.reached_lemmas.Steps.{Keeps, more_lists, more_stack}
-
-pub rises : (a b c : ℕ) → a ≤ b → b ≤ c → a ≤ c
-rises a b c h g = omega (arith, h, g)
+use Rattle.laws_commands.proofs.common.Numbers.{rises}
+use Rattle.laws_commands.proofs.common.Lists.{all_append}
 
 pub same_gas : (n : ℕ) → n ≤ n
 same_gas n = omega arith
@@ -184,7 +182,7 @@ module _ (most : ℕ) where
 
   pub ends_finish : (s : Step) (B : List Kind) (m : Tally) → Keeps (most - m.gas) s → IssuedWithin (most - m.gas) m.issued →
       Ends most m.gas (finish s B m)
-  ends_finish (done V changes) B m h i = (same_gas m.gas, h, i)
+  ends_finish (done V changes) B m h i = (same_gas m.gas, h.0, i)
   ends_finish (step.fails f) B m h i = tt
   ends_finish wrong B m h i = tt
 

@@ -7,12 +7,12 @@ use Rattle.std.specs.Map.{keys_of}
 use Rattle.std.specs.Ordering.{is_lt}
 use Rattle.std.specs.declared.cmp.Ordering.{Ordering}
 use Rattle.std.specs.declared.cmp.Ordering.TheVariants.{Less}
+use Rattle.std.proofs.lemmas.Bool.{and_from}
 use Rattle.rules_data.specs.values.Tickets.{Identity}
 use Rattle.rules_world.specs.world.World.{identity_order}
 use Rattle.rules_files.specs.snapshots.State.{State}
 use Rattle.rules_files.specs.snapshots.Rules.{Part, is_above, parts_of, has_total, is_content, is_holding, are_holdings}
 use Rattle.std.specs.Prelude.{pos, int_lt}
-use Rattle.laws_commands.proofs.reached_lemmas.Lists.{both}
 
 -- what stands before is below all
 abbrev AreAbove : {K : Type 0} → (K → K → Ordering) → Option K → List K → Type 0
@@ -34,7 +34,7 @@ module _ {A K : Type 0} (order : K → K → Ordering) (text : A → List ℕ) (
   unfolding IsStrictlySortedBy
   held_from former [] a s h = refl
   held_from former (x ∷ xs) a s h =
-      both (rules former x) (list_all (λ (p : Part). p.holds) (parts_of text rules key (Some (key x)) xs))
+      and_from (rules former x) (list_all (λ (p : Part). p.holds) (parts_of text rules key (Some (key x)) xs))
       (h.0 former (first_above order former (key x) (map key xs) a)) (held_from (Some (key x)) xs s.0 s.1 h.1)
 
   pub parts_hold : (xs : List A) → IsStrictlySortedBy order (map key xs) → AllByRecursion HoldsAbove xs →
@@ -55,7 +55,7 @@ hold_both (p ∷ ps) qs h g = by p.holds h (λ i. hold_both ps qs i g)
 -- ---- holdings
 
 pub four : (a b c d : Bool) → a ≡ true → b ≡ true → c ≡ true → d ≡ true → a && b && c && d ≡ true
-four a b c d p q r s = both (a && b && c) d (both (a && b) c (both a b p q) r) s
+four a b c d p q r s = and_from (a && b && c) d (and_from (a && b) c (and_from a b p q) r) s
 
 abbrev pub IsHeldWell : State → Identity × ℤ → Type 0
 IsHeldWell s h = (int_lt (pos 0) h.1 ≡ true) × (is_content h.0 ≡ true) × (has_total s h.0 ≡ true)
@@ -65,7 +65,7 @@ holdings_from : (s : State) (former : Option Identity) (hs : List (Identity × �
 unfolding IsStrictlySortedBy
 holdings_from s former [] a o h = refl
 holdings_from s former (x ∷ hs) a o h =
-    both (is_holding s former x) (are_holdings s (Some x.0) hs)
+    and_from (is_holding s former x) (are_holdings s (Some x.0) hs)
     (four (int_lt (pos 0) x.1) (is_content x.0) (has_total s x.0) (is_above identity_order former x.0) h.0.0 h.0.1 h.0.2
     (first_above identity_order former x.0 (keys_of hs) a)) (holdings_from s (Some x.0) hs o.0 o.1 h.1)
 

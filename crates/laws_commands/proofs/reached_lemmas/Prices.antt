@@ -3,7 +3,7 @@ use Rattle.std.proofs.Common.{◌≡◌, ◌+◌, ◌&&◌, suc, ℕ, ℤ, pos, 
 use Rattle.std.specs.declared.option.Option.{Option}
 use Rattle.std.specs.Prelude.{Result}
 use Rattle.std.specs.List.{All, list_all}
-use Rattle.std.proofs.lemmas.Bool.{and_parts, leb-true}
+use Rattle.std.proofs.lemmas.Bool.{and_parts, leb-true, and_from}
 use Rattle.std.proofs.lemmas.Bool.Decides.{nat_tests}
 use Rattle.std.proofs.lemmas.List.Elements.{All-nil, All-cons}
 use Rattle.rules_text.specs.nodes.Limits.{most_price}
@@ -22,10 +22,6 @@ ArePriced l = (kind : Kind) → is_price (price_of l kind) ≡ true
 pub nothing_priced : ArePriced nothing_listed
 nothing_priced kind = refl
 
-both : (a b : Bool) → a ≡ true → b ≡ true → (a && b) ≡ true
-both true b e g = g
-both false b e g = e
-
 at_least : (b : ℤ) → int_le (pos 1) b ≡ true → nat_le 1 (unsigned_abs b) ≡ true
 at_least b h = grind (arith, nat_tests)
 
@@ -42,8 +38,8 @@ from_priced b c p h = by (is_between (pos 1) (pos most_price) b) (is_between (po
     priced e f =
         let bs = and_parts (int_le (pos 1) b) (int_le b (pos most_price)) e in
         let cs = and_parts (int_le (pos 0) c) (int_le c (pos most_price)) f in
-        both (nat_le 1 (unsigned_abs b) && nat_le (unsigned_abs b) most_price) (nat_le (unsigned_abs c) most_price)
-        (both (nat_le 1 (unsigned_abs b)) (nat_le (unsigned_abs b) most_price) (at_least b bs.0) (at_most (pos 1) b refl bs.0 bs.1))
+        and_from (nat_le 1 (unsigned_abs b) && nat_le (unsigned_abs b) most_price) (nat_le (unsigned_abs c) most_price)
+        (and_from (nat_le 1 (unsigned_abs b)) (nat_le (unsigned_abs b) most_price) (at_least b bs.0) (at_most (pos 1) b refl bs.0 bs.1))
         (at_most (pos 0) c refl cs.0 cs.1)
 
     by : (l r : Bool) → is_between (pos 1) (pos most_price) b ≡ l → is_between (pos 0) (pos most_price) c ≡ r →
@@ -119,7 +115,7 @@ table_priced (prim n as' ts) p e = absurd cc
 
 each_price : (l : Listed) → ArePriced l → (es : List (List ℕ × Kind)) → list_all is_price (map (λ e. price_of l e.1) es) ≡ true
 each_price l h [] = refl
-each_price l h (e ∷ es) = both (is_price (price_of l e.1)) (list_all is_price (map (λ e. price_of l e.1) es)) (h e.1) (each_price l h es)
+each_price l h (e ∷ es) = and_from (is_price (price_of l e.1)) (list_all is_price (map (λ e. price_of l e.1) es)) (h e.1) (each_price l h es)
 
 pub prices_hold : (l : Listed) → ArePriced l → list_all is_price (all_prices l) ≡ true
 prices_hold l h = each_price l h kinds_by_name

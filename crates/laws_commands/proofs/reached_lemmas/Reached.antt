@@ -72,4 +72,5 @@ module _ (file bytes : List ℕ) (s : State) (saves : saved s ≡ Some bytes) (f
 
 pub counted_are_sound : ListsAreCounted → ReachedAreSound
 counted_are_sound lists file bytes s reached saves few =
-    of_run file bytes s saves few (λ ss to receipts c. lists file ss to receipts c) reached.statements reached.to (run_all (going [] None) reached.statements) reached.stand refl reached.reaches
+    of_run file bytes s saves few (λ ss to receipts c. lists file ss to receipts c) reached.statements reached.to
+    (run_all (going [] None) reached.statements) reached.stand refl reached.reaches

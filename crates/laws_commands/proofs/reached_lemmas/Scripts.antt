@@ -32,7 +32,8 @@ AlikeParts (q ∷ qs) (r ∷ rs) = AlikePart q r × AlikeParts qs rs
 AlikeParts [] (r ∷ rs) = ⊥
 AlikeParts (q ∷ qs) [] = ⊥
 
-with_alike : (asked : Kind → Bool) (q r : Part) (f g : Kind → Read) → AlikePart q r → ((a : Kind) → Alike (f a) (g a)) → Alike (with_part asked q f) (with_part asked r g)
+with_alike : (asked : Kind → Bool) (q r : Part) (f g : Kind → Read) → AlikePart q r → ((a : Kind) → Alike (f a) (g a)) →
+    Alike (with_part asked q f) (with_part asked r g)
 with_alike asked (part at (good a)) (part bt (good b)) f g e h =
     subst (λ (c : Kind). Alike (cond (asked a) (f a) (bad at)) (cond (asked c) (g c) (bad bt))) e (by (asked a))
   where
@@ -64,7 +65,8 @@ applied_alike operation_type at bt [] [] h = refl
 applied_alike (one_argument f) at bt (q ∷ []) (r ∷ []) h =
     with_alike (asked_of_argument f) q r (λ a. good (of_argument f a)) (λ a. good (of_argument f a)) h.0 (λ a. refl)
 applied_alike (two_arguments f) at bt (q ∷ u ∷ []) (r ∷ v ∷ []) h =
-    with_alike (asked_of_first f) q r (λ a. with_part (asked_of_second f) u (λ b. good (of_arguments f a b))) (λ a. with_part (asked_of_second f) v (λ b. good (of_arguments f a b))) h.0
+    with_alike (asked_of_first f) q r (λ a. with_part (asked_of_second f) u (λ b. good (of_arguments f a b)))
+    (λ a. with_part (asked_of_second f) v (λ b. good (of_arguments f a b))) h.0
     (λ a. with_alike (asked_of_second f) u v (λ b. good (of_arguments f a b)) (λ b. good (of_arguments f a b)) h.1.0 (λ b. refl))
 applied_alike pair_type at bt (q ∷ u ∷ qs) (r ∷ v ∷ rs) h = pairs_alike q r (u ∷ qs) (v ∷ rs) h.0 h.1
 applied_alike f at bt [] (r ∷ rs) h = absurd h
@@ -87,12 +89,6 @@ mutual
   parts_alike : (at bt : ℕ) (ts : Trees) → AlikeParts (parts at ts) (parts bt ts)
   parts_alike at bt none = tt
   parts_alike at bt (more t ts) = (typed_alike at bt t, parts_alike (at + size t) (bt + size t) ts)
-
-limited_alike : (x y : Read) (a : Kind) → Alike x y → limited x ≡ a_type a → limited y ≡ a_type a
-limited_alike (good b) (good c) a e h = sym (ap (λ (d : Kind). limited (good d)) e) ∙ h
-limited_alike (bad l) (bad m) a e h = absurd cc
-limited_alike (good b) (bad m) a e h = absurd e
-limited_alike (bad l) (good c) a e h = absurd e
 
 storable_by : (b : Bool) (c a : Kind) (at : ℕ) → cond b (found c) (fault at) ≡ found a → cond b (Some c) None ≡ Some a
 storable_by true c a at e = cc
@@ -126,7 +122,13 @@ content_tells (Some p.SectionStorage) at t (more u none) bs = λ behind. refl
 content_tells (Some p.SectionCode) at t (more (seq ts) none) (b ∷ []) = λ behind. refl
 content_tells (Some p.SectionView) at t (more (str s) (more u (more w (more (seq ts) none)))) (n ∷ i ∷ o ∷ b ∷ []) = by (is_view_name s)
   where
-    by : (x : Bool) → Tells (Some p.SectionView) (more (str s) (more u (more w (more (seq ts) none)))) (cond x (view_section record { name = s; input = placed (at + 2) u; output = placed (at + 2 + size u) w; body = a_body (at + 2 + size u + size w) (seq ts) b }) no_section)
+    by : (x : Bool) → Tells (Some p.SectionView) (more (str s) (more u (more w (more (seq ts) none))))
+        (cond x (view_section record {
+          name = s;
+          input = placed (at + 2) u;
+          output = placed (at + 2 + size u) w;
+          body = a_body (at + 2 + size u + size w) (seq ts) b;
+        }) no_section)
     by true = λ behind. refl
     by false = tt
 content_tells _ at t args bs = tt
@@ -180,7 +182,8 @@ sections_tell (more (prim name annots args) ts) at c d s e there =
     let t = prim name annots args in
     let x = content_at at t (inner_bodies t at) in
     let step = then_found (with_content c at x) (λ (z : Contents). with_sections z (sections ts (at + size t))) d e in
-    section_tells c step.0 (primitive_of_name name) args ts s x (content_tells (primitive_of_name name) at t args (inner_bodies t at)) (content_steps c step.0 at x step.1)
+    section_tells c step.0 (primitive_of_name name) args ts s x (content_tells (primitive_of_name name) at t args (inner_bodies t at))
+    (content_steps c step.0 at x step.1)
     (sections_tell ts (at + size t) step.0 d s step.2 there)
 sections_tell (more (int n) ts) at c d s e there = absurd cc
 sections_tell (more (str b) ts) at c d s e there = absurd cc
@@ -228,7 +231,8 @@ storage_is (seq ts) s e =
     let sectioned = then_found (with_sections no_contents (sections ts 1)) (of_contents 0) o outlined.1 in
     let d = sectioned.0 in
     let told = parts_tell 0 d.parameter d.storage d.code d.views o sectioned.2 in
-    told_first ts told.0 o.storage (sections_tell ts 1 no_contents d told.0 sectioned.1 told.1) told.2 ∙ ap (λ (a : Kind). Some a) (sym (bodies_keep o s outlined.2))
+    told_first ts told.0 o.storage (sections_tell ts 1 no_contents d told.0 sectioned.1 told.1) told.2
+    ∙ ap (λ (a : Kind). Some a) (sym (bodies_keep o s outlined.2))
 storage_is (int n) s e = absurd cc
 storage_is (str b) s e = absurd cc
 storage_is (bytes b) s e = absurd cc

@@ -9,7 +9,7 @@ use Rattle.std.specs.BTreeMap.{is_at}
 use Rattle.std.specs.Ordering.{nat_cmp, int_eq}
 use Rattle.std.specs.Cmp.Lexicographic.{slice_cmp}
 use Rattle.std.specs.Str.{bytes_eq}
-use Rattle.std.proofs.lemmas.Bool.{eqb-true}
+use Rattle.std.proofs.lemmas.Bool.{eqb-true, and_from, or_left, or_right}
 use Rattle.std.proofs.lemmas.Bool.Decides.{nat_tests, Decides-eqb}
 use Rattle.std.proofs.lemmas.Int.{ints}
 use Rattle.std.proofs.lemmas.Nat.{from_be_bytes-to_be_bytes_8}
@@ -46,7 +46,7 @@ use Rattle.laws_world.proofs.runs.ForCallers.{contract_length, orderly_of, found
 use Rattle.laws_commands.specs.reached.Kept.{IsPast, IsKeptContract, IsKeptIdentity, IsKept}
 use Rattle.laws_commands.proofs.reached_lemmas.Courses.{IsRate, IsBehind}
 use Rattle.laws_commands.proofs.reached_lemmas.Lengths.{few_accounts, few_contracts, few_tickets, few_holdings, storage_short, nodes_short}
-use Rattle.laws_commands.proofs.reached_lemmas.Lists.{each_in, each_among, all_of, here, all_unmapped, all_mapped, both_all, both, all_pass, one_within, sum_over}
+use Rattle.laws_commands.proofs.reached_lemmas.Lists.{each_in, each_among, all_of, here, all_unmapped, all_mapped, all_pass, one_within, sum_over}
 use Rattle.laws_commands.proofs.reached_lemmas.Marks.{Tracks}
 use Rattle.laws_commands.proofs.reached_lemmas.Parts.{HoldsAbove, parts_hold, hold_both, four, IsHeldWell, holdings_hold}
 use Rattle.laws_commands.proofs.reached_lemmas.Prices.{prices_hold, prices_spelt, prices_counted, standard}
@@ -55,14 +55,16 @@ use Rattle.laws_commands.proofs.reached_lemmas.Scripts.{storage_is}
 use Rattle.laws_commands.proofs.reached_lemmas.Tickets.{holding_minted, holding_most, ticket_minted, totalled, minted_known, all_minted, minted_amount, held_sum, burnt_least, burnt_most}
 use Rattle.laws_commands.proofs.reached_lemmas.Trees.{node_is}
 use Rattle.laws_commands.proofs.reached_lemmas.Values.{ticket_fits, compared_spelt, stored, spelt}
+use Rattle.laws_commands.proofs.common.Numbers.{rises}
+use Rattle.laws_commands.proofs.common.Lists.{both_all}
 
 -- ---- tests of numbers
 
 pub five : (a b c d e : Bool) → a ≡ true → b ≡ true → c ≡ true → d ≡ true → e ≡ true → a && b && c && d && e ≡ true
-five a b c d e p q r s t = both (a && b && c && d) e (four a b c d p q r s) t
+five a b c d e p q r s t = and_from (a && b && c && d) e (four a b c d p q r s) t
 
 six : (a b c d e f : Bool) → a ≡ true → b ≡ true → c ≡ true → d ≡ true → e ≡ true → f ≡ true → a && b && c && d && e && f ≡ true
-six a b c d e f p q r s t u = both (a && b && c && d && e) f (five a b c d e p q r s t) u
+six a b c d e f p q r s t u = and_from (a && b && c && d && e) f (five a b c d e p q r s t) u
 
 le_test : (n m : ℕ) → n ≤ m → nat_le n m ≡ true
 le_test n m h = grind (arith, nat_tests)
@@ -115,17 +117,14 @@ mutez_of w h =
 small_mutez : (n : ℕ) → n ≤ most_mutez → IsEight n
 small_mutez n h = omega (arith, h)
 
-through : (a b c : ℕ) → a ≤ b → b ≤ c → a ≤ c
-through a b c h g = omega (arith, h, g)
-
 -- ---- hashes
 
 past_hash : (s : State) (hash : List ℕ) → s.groups < 2 ^ 64 → IsPast s.groups hash → is_hash s hash ≡ true
 past_hash s hash few p =
     let number : from_be_bytes w64 (take 8 hash) ≡ p.0 =
     ap (λ (h : List ℕ). from_be_bytes w64 (take 8 h)) p.4 ∙ from_be_bytes-to_be_bytes_8 p.0 (below p.0 s.groups p.3 few) in
-    both (nat_le 1 (from_be_bytes w64 (take 8 hash)) && nat_le (from_be_bytes w64 (take 8 hash)) s.groups) (bytes_eq (drop 12 hash) (replicate 8 0))
-    (both (nat_le 1 (from_be_bytes w64 (take 8 hash))) (nat_le (from_be_bytes w64 (take 8 hash)) s.groups)
+    and_from (nat_le 1 (from_be_bytes w64 (take 8 hash)) && nat_le (from_be_bytes w64 (take 8 hash)) s.groups) (bytes_eq (drop 12 hash) (replicate 8 0))
+    (and_from (nat_le 1 (from_be_bytes w64 (take 8 hash))) (nat_le (from_be_bytes w64 (take 8 hash)) s.groups)
     (subst (λ (n : ℕ). nat_le 1 n ≡ true) (sym number) (le_test 1 p.0 p.2))
     (subst (λ (n : ℕ). nat_le n s.groups ≡ true) (sym number) (le_test p.0 s.groups p.3)))
     (bytes_same (drop 12 hash) (replicate 8 0) (ap (λ (h : List ℕ). drop 12 h) p.4))
@@ -140,19 +139,11 @@ there_any : (hash : List ℕ) (c : Contract) (es : List (List ℕ × Contract)) 
 there_any hash c [] e = absurd cc
 there_any hash c (x ∷ es) e = by (is_at (slice_cmp nat_cmp hash) x.0) refl e (λ f. there_any hash c es f)
   where
-    or_first : (a b : Bool) → a ≡ true → (a || b) ≡ true
-    or_first true b e = refl
-    or_first false b e = absurd cc
-
-    or_second : (a b : Bool) → b ≡ true → (a || b) ≡ true
-    or_second true b e = refl
-    or_second false b e = e
-
     by : (b : Bool) → is_at (slice_cmp nat_cmp hash) x.0 ≡ b → cond b (Some x.1) (lookup (is_at (slice_cmp nat_cmp hash)) es) ≡ Some c →
         (lookup (is_at (slice_cmp nat_cmp hash)) es ≡ Some c → list_any (λ c. bytes_eq c.0 hash) es ≡ true) →
         (bytes_eq x.0 hash || list_any (λ c. bytes_eq c.0 hash) es) ≡ true
-    by true t f rest = or_first (bytes_eq x.0 hash) (list_any (λ c. bytes_eq c.0 hash) es) (bytes_same x.0 hash (sym (found_same hash x.0 t)))
-    by false t f rest = or_second (bytes_eq x.0 hash) (list_any (λ c. bytes_eq c.0 hash) es) (rest f)
+    by true t f rest = or_left (bytes_eq x.0 hash) (list_any (λ c. bytes_eq c.0 hash) es) (bytes_same x.0 hash (sym (found_same hash x.0 t)))
+    by false t f rest = or_right (bytes_eq x.0 hash) (list_any (λ c. bytes_eq c.0 hash) es) (rest f)
 
 -- ---- a course
 
@@ -200,14 +191,6 @@ module _ (ss : List Statement) (c : Course) (behind : IsBehind c) (kept : IsKept
   rate_small None h = omega arith
   rate_small (Some rate) h = omega (arith, h)
 
-  or_first : (a b : Bool) → a ≡ true → (a || b) ≡ true
-  or_first true b e = refl
-  or_first false b e = absurd cc
-
-  or_second : (a b : Bool) → b ≡ true → (a || b) ≡ true
-  or_second true b e = refl
-  or_second false b e = e
-
   nothing_begun : (groups : ℕ) (as' : List (List ℕ × Account)) (cs : List (List ℕ × Contract)) → groups ≡ 0 → as' ≡ [] → cs ≡ [] →
       not (nat_le 1 groups || nat_le 1 (length as') || nat_le 1 (length cs)) ≡ true
   nothing_begun groups as' cs g a h =
@@ -219,16 +202,16 @@ module _ (ss : List Statement) (c : Course) (behind : IsBehind c) (kept : IsKept
   started_holds = by marks.begun
     where
       by : (list_any is_start ss ≡ true) ⊎ ((c.groups ≡ 0) × (w.accounts ≡ []) × (w.contracts ≡ [])) → (list_any is_start ss || not (has_begun s)) ≡ true
-      by (inl e) = or_first (list_any is_start ss) (not (has_begun s)) e
-      by (inr e) = or_second (list_any is_start ss) (not (has_begun s)) (nothing_begun c.groups w.accounts w.contracts e.0 e.1 e.2)
+      by (inl e) = or_left (list_any is_start ss) (not (has_begun s)) e
+      by (inr e) = or_right (list_any is_start ss) (not (has_begun s)) (nothing_begun c.groups w.accounts w.contracts e.0 e.1 e.2)
 
   costs_hold : (list_any is_costs ss || list_all is_standard (all_prices c.prices)) ≡ true
   costs_hold = by marks.standard
     where
       by : (list_any is_costs ss ≡ true) ⊎ (c.prices ≡ nothing_listed) → (list_any is_costs ss || list_all is_standard (all_prices c.prices)) ≡ true
-      by (inl e) = or_first (list_any is_costs ss) (list_all is_standard (all_prices c.prices)) e
+      by (inl e) = or_left (list_any is_costs ss) (list_all is_standard (all_prices c.prices)) e
       by (inr e) =
-          or_second (list_any is_costs ss) (list_all is_standard (all_prices c.prices))
+          or_right (list_any is_costs ss) (list_all is_standard (all_prices c.prices))
           (subst (λ (l : Listed). list_all is_standard (all_prices l) ≡ true) (sym e) standard)
 
   head_holds : is_head s ≡ true
@@ -245,7 +228,7 @@ module _ (ss : List Statement) (c : Course) (behind : IsBehind c) (kept : IsKept
       by None h = zero_test w.storage_burn (h refl)
 
   sums_hold : are_sums s ≡ true
-  sums_hold = both (nat_le (all_mutez s) most_mutez) (is_some w.rate || (w.storage_burn == 0)) (le_test (all_mutez s) most_mutez mutez.all) burn_holds
+  sums_hold = and_from (nat_le (all_mutez s) most_mutez) (is_some w.rate || (w.storage_burn == 0)) (le_test (all_mutez s) most_mutez mutez.all) burn_holds
 
   -- ---- accounts
 
@@ -263,7 +246,7 @@ module _ (ss : List Statement) (c : Course) (behind : IsBehind c) (kept : IsKept
 
   accounts_hold : AllByRecursion (HoldsAbove byte_order account_spelling (is_account s) (λ a. a.0)) w.accounts
   accounts_hold = each_among (HoldsAbove byte_order account_spelling (is_account s) (λ a. a.0)) w.accounts (λ before after a e former above.
-      both (is_above byte_order former a.0) (are_holdings s None a.1.holdings) above
+      and_from (is_above byte_order former a.0) (are_holdings s None a.1.holdings) above
       (holdings_hold s a.1.holdings (account_form before after a e).2 (holdings_well before after a e)))
 
   amount_fits : (n : ℤ) → pos 0 <ℤ n → n ≤ℤ pos (2 ^ 127 - 1) → FitsSigned w128 n
@@ -279,7 +262,7 @@ module _ (ss : List Statement) (c : Course) (behind : IsBehind c) (kept : IsKept
   accounts_spelt : All IsSpeltAccount w.accounts
   accounts_spelt = each_in IsSpeltAccount w.accounts (λ before after a e. (
     (account_form before after a e).0,
-    small_mutez a.1.balance (through a.1.balance (sum_by (λ (a : List ℕ × Account). a.1.balance) w.accounts) most_mutez
+    small_mutez a.1.balance (rises a.1.balance (sum_by (λ (a : List ℕ × Account). a.1.balance) w.accounts) most_mutez
         (subst (λ (es : List (List ℕ × Account)). a.1.balance ≤ sum_by (λ (a : List ℕ × Account). a.1.balance) es) (sym e)
         (one_within (λ (a : List ℕ × Account). a.1.balance) before after a)) mutez.accounts),
     few_holdings s text before after a e,
@@ -310,7 +293,8 @@ module _ (ss : List Statement) (c : Course) (behind : IsBehind c) (kept : IsKept
   tickets_minted : (before after : List (List ℕ × Contract)) (d : List ℕ × Contract) → w.contracts ≡ before ++ (d ∷ after) →
       AllByRecursion (λ (t : Held). pos 0 <ℤ minted_ever w (identity_of t)) (tickets d.1.storage)
   tickets_minted before after d e =
-      each_among (λ (t : Held). pos 0 <ℤ minted_ever w (identity_of t)) (tickets d.1.storage) (λ first rest t f. ticket_minted w good before after d e first rest t f)
+      each_among (λ (t : Held). pos 0 <ℤ minted_ever w (identity_of t)) (tickets d.1.storage)
+      (λ first rest t f. ticket_minted w good before after d e first rest t f)
 
   is_stored_well : (d : List ℕ × Contract) → (g : IsGoodContract w d) → is_stored g.0.storage d.1.storage ≡ true
   is_stored_well d g =
@@ -335,7 +319,7 @@ module _ (ss : List Statement) (c : Course) (behind : IsBehind c) (kept : IsKept
       let short = nodes_short s nodes_fit before after d e in
       let code = script_code d.1.script g.0 g.1 in (
         here IsTwentyBytes w.contracts before after d e good.sound.form.contracts,
-        small_mutez d.1.balance (through d.1.balance (sum_by (λ (d : List ℕ × Contract). d.1.balance) w.contracts) most_mutez
+        small_mutez d.1.balance (rises d.1.balance (sum_by (λ (d : List ℕ × Contract). d.1.balance) w.contracts) most_mutez
             (subst (λ (es : List (List ℕ × Contract)). d.1.balance ≤ sum_by (λ (d : List ℕ × Contract). d.1.balance) es) (sym e)
             (one_within (λ (d : List ℕ × Contract). d.1.balance) before after d)) mutez.contracts),
         k.4,
@@ -396,9 +380,9 @@ module _ (ss : List Statement) (c : Course) (behind : IsBehind c) (kept : IsKept
       let A = counted_parts account_spelling (is_account s) (λ a. a.0) s.accounts in
       let C = counted_parts contract_spelling (is_contract s) (λ d. d.0) s.contracts in
       let T = counted_parts total_spelling (is_total s) (λ t. t.identity) s.tickets in
-      both (is_head s) (are_costs s && (are_sums s && list_all (λ (p : Part). p.holds) (A ++ (C ++ T)))) head_holds
-      (both (are_costs s) (are_sums s && list_all (λ (p : Part). p.holds) (A ++ (C ++ T))) (prices_hold c.prices marks.priced)
-      (both (are_sums s) (list_all (λ (p : Part). p.holds) (A ++ (C ++ T))) sums_hold
+      and_from (is_head s) (are_costs s && (are_sums s && list_all (λ (p : Part). p.holds) (A ++ (C ++ T)))) head_holds
+      (and_from (are_costs s) (are_sums s && list_all (λ (p : Part). p.holds) (A ++ (C ++ T))) (prices_hold c.prices marks.priced)
+      (and_from (are_sums s) (list_all (λ (p : Part). p.holds) (A ++ (C ++ T))) sums_hold
       (hold_both A (C ++ T)
       (parts_hold byte_order account_spelling (is_account s) (λ a. a.0) w.accounts good.sound.form.accounts_in_order accounts_hold)
       (hold_both C T

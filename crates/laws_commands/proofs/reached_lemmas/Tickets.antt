@@ -11,6 +11,7 @@ use Rattle.std.specs.List.Sorted.{IsStrictlySortedBy}
 use Rattle.std.proofs.lemmas.Cmp.{tied_itself}
 use Rattle.std.proofs.lemmas.Int.{ints}
 use Rattle.std.proofs.lemmas.List.Elements.{All-head, All-tail}
+use Rattle.std.proofs.lemmas.Bool.{or_left, or_right}
 use Rattle.rules_data.specs.values.Forms.{is_ticket_amount}
 use Rattle.rules_data.specs.values.Val.{is_comparable}
 use Rattle.rules_data.specs.values.Tickets.{Identity, Held, tickets}
@@ -26,6 +27,7 @@ use Rattle.laws_world.proofs.accounts.ForCallers.{alike_equal, equal_of, identit
 use Rattle.laws_world.proofs.lines_lemmas.ForCallers.{all_exact, amount_is_told, told_in_order}
 use Rattle.laws_commands.specs.reached.Kept.{IsKeptIdentity, IsKeptChange}
 use Rattle.laws_commands.proofs.reached_lemmas.Lists.{here}
+use Rattle.laws_commands.proofs.audits_lemmas.Identities.{alike_itself}
 
 -- ---- tickets that are alike
 
@@ -38,9 +40,6 @@ alike_is i j c h =
     let equal : identity_order i j ≡ Equal = equal_of (identity_order i j) (sym (alike_equal i j) ∙ h) in
     let same : (i, pos 1) ∷ [] ≡ (j, pos 1) ∷ [] = all_exact ((i, pos 1) ∷ []) ((j, pos 1) ∷ []) (c, tt) (equal, refl, tt) in
     ap (first_of i) same
-
-alike_itself : (i : Identity) → is_alike i i ≡ true
-alike_itself i = alike_equal i i ∙ ap is_eq (tied_itself identity_total i)
 
 alike_back : (i j : Identity) → is_alike i j ≡ true → is_alike j i ≡ true
 alike_back i j h =
@@ -72,7 +71,7 @@ more_held a b c h g = omega (arith, ints)
 first_held : (a b : ℤ) → pos 0 ≤ℤ b → a ≤ℤ (a +ℤ b)
 first_held a b h = omega (arith, ints)
 
-sum_positive : (a b : ℤ) → pos 0 ≤ℤ a → pos 0 ≤ℤ b → pos 0 ≤ℤ (a +ℤ b)
+pub sum_positive : (a b : ℤ) → pos 0 ≤ℤ a → pos 0 ≤ℤ b → pos 0 ≤ℤ (a +ℤ b)
 sum_positive a b h g = omega (arith, ints)
 
 of_account : (id : Identity) (a : List ℕ × Account) → IsAccount a → pos 0 ≤ℤ amount_held a.1 id
@@ -190,22 +189,14 @@ any_lookup : (w : World) (id : Identity) (js : List Identity) →
 any_lookup w id [] p = absurd (omega (arith, ints))
 any_lookup w id (j ∷ js) p = by (is_at (identity_order id) j) refl p (λ q. any_lookup w id js q)
   where
-    or_first : (a b : Bool) → a ≡ true → (a || b) ≡ true
-    or_first true b e = refl
-    or_first false b e = absurd cc
-
-    or_second : (a b : Bool) → b ≡ true → (a || b) ≡ true
-    or_second true b e = refl
-    or_second false b e = e
-
     by : (b : Bool) → is_at (identity_order id) j ≡ b →
         pos 0 <ℤ unwrap_or (cond b (Some (minted_ever w j)) (lookup (is_at (identity_order id)) (map (λ j. (j, minted_ever w j)) js))) (pos 0) →
         (pos 0 <ℤ unwrap_or (lookup (is_at (identity_order id)) (map (λ j. (j, minted_ever w j)) js)) (pos 0) →
         list_any (λ t. is_alike t.identity id) (map (total_of w) js) ≡ true) →
         (is_alike j id || list_any (λ t. is_alike t.identity id) (map (total_of w) js)) ≡ true
     by true e q rest =
-        or_first (is_alike j id) (list_any (λ t. is_alike t.identity id) (map (total_of w) js)) (alike_back id j (alike_equal id j ∙ e))
-    by false e q rest = or_second (is_alike j id) (list_any (λ t. is_alike t.identity id) (map (total_of w) js)) (rest q)
+        or_left (is_alike j id) (list_any (λ t. is_alike t.identity id) (map (total_of w) js)) (alike_back id j (alike_equal id j ∙ e))
+    by false e q rest = or_right (is_alike j id) (list_any (λ t. is_alike t.identity id) (map (total_of w) js)) (rest q)
 
 module _ (w : World) (g : IsGood w []) where
   burnt_some : (id : Identity) → pos 0 ≤ℤ burnt_ever w id

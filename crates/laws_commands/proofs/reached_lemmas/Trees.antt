@@ -1,15 +1,14 @@
 -- A node that can be written and whose names are primitives' has a binary form.
-use Rattle.std.proofs.Common.{◌≡◌, ◌≤◌, ◌<◌, ◌^◌, ℕ, pos, negsuc, Bool, true, false, ◌&&◌, ◌||◌, nat_lt, nat_le, Option, Some, None, List, [], ◌∷◌, length, refl, arith}
+use Rattle.std.proofs.Common.{◌≡◌, ◌≤◌, ◌<◌, ◌^◌, ℕ, pos, negsuc, true, false, ◌&&◌, ◌||◌, nat_lt, nat_le, Option, Some, None, List, [], ◌∷◌, length, refl, arith}
 use Rattle.std.specs.Prelude.{◌==◌, is_none}
 use Rattle.std.specs.List.{list_all}
-use Rattle.std.proofs.lemmas.Bool.{and_parts}
+use Rattle.std.proofs.lemmas.Bool.{and_parts, and_from}
 use Rattle.std.proofs.lemmas.Bool.Decides.{nat_tests}
 use Rattle.rules_text.specs.nodes.Limits.{name_limit, encoded_limit}
 use Rattle.rules_text.specs.nodes.Tree.{Tree, int, str, bytes, prim, seq, Trees, none, more}
 use Rattle.rules_text.specs.nodes.Primitives.{code_of_name}
 use Rattle.rules_text.specs.text.Lexical.{shape_of}
 use Rattle.rules_text.specs.text.Lexical as text
-use Rattle.rules_text.specs.declared.text.Shape.{Shape}
 use Rattle.rules_text.specs.declared.text.Shape.TheVariants.{Note}
 use Rattle.rules_text.specs.binary.Spelling.{spelling}
 use Rattle.rules_text.specs.binary.Reading.{is_text, is_noted, is_annotation}
@@ -21,10 +20,6 @@ use Rattle.laws_typing.specs.packing.Names.{HasCodes, HaveCodes}
 use Rattle.mich_text.specs.Written.{IsAnnotation, AreAnnotations, HasTextForm, HaveTextForms, CanBeWritten}
 use Rattle.mich_text.specs.Written as forms
 
-both : (a b : Bool) → a ≡ true → b ≡ true → (a && b) ≡ true
-both true b e g = g
-both false b e g = e
-
 -- ---- strings
 
 same_text : (c : ℕ) → forms.is_text c ≡ true → is_text c ≡ true
@@ -34,13 +29,9 @@ all_text : (s : List ℕ) → list_all forms.is_text s ≡ true → list_all is_
 all_text [] h = refl
 all_text (c ∷ s) h =
     let hs = and_parts (forms.is_text c) (list_all forms.is_text s) h in
-    both (is_text c) (list_all is_text s) (same_text c hs.0) (all_text s hs.1)
+    and_from (is_text c) (list_all is_text s) (same_text c hs.0) (all_text s hs.1)
 
 -- ---- annotations
-
-abbrev IsNote : Option Shape → Bool
-IsNote (Some Note) = true
-IsNote _ = false
 
 noted_first : (c : ℕ) → shape_of c ≡ Some Note → (c == 64 || c == 58 || c == 37) ≡ true
 noted_first c h = grind (arith, nat_tests)
@@ -52,7 +43,7 @@ all_noted : (xs : List ℕ) → list_all text.is_noted xs ≡ true → list_all 
 all_noted [] h = refl
 all_noted (x ∷ xs) h =
     let hs = and_parts (text.is_noted x) (list_all text.is_noted xs) h in
-    both (is_noted x) (list_all is_noted xs) (same_noted x hs.0) (all_noted xs hs.1)
+    and_from (is_noted x) (list_all is_noted xs) (same_noted x hs.0) (all_noted xs hs.1)
 
 short : (n : ℕ) → n ≤ name_limit → nat_le n name_limit ≡ true
 short n h = grind (arith, nat_tests)
@@ -60,12 +51,12 @@ short n h = grind (arith, nat_tests)
 annotation : (a : List ℕ) → IsAnnotation a → is_annotation a ≡ true
 annotation [] h = absurd cc
 annotation (c ∷ cs) h =
-    both ((c == 64 || c == 58 || c == 37) && list_all is_noted cs) (nat_le (length cs) name_limit)
-    (both (c == 64 || c == 58 || c == 37) (list_all is_noted cs) (noted_first c h.0) (all_noted cs h.1)) (short (length cs) h.2)
+    and_from ((c == 64 || c == 58 || c == 37) && list_all is_noted cs) (nat_le (length cs) name_limit)
+    (and_from (c == 64 || c == 58 || c == 37) (list_all is_noted cs) (noted_first c h.0) (all_noted cs h.1)) (short (length cs) h.2)
 
 annotations : (xs : List (List ℕ)) → AreAnnotations xs → list_all is_annotation xs ≡ true
 annotations [] h = refl
-annotations (a ∷ xs) h = both (is_annotation a) (list_all is_annotation xs) (annotation a h.0) (annotations xs h.1)
+annotations (a ∷ xs) h = and_from (is_annotation a) (list_all is_annotation xs) (annotation a h.0) (annotations xs h.1)
 
 -- ---- nodes
 

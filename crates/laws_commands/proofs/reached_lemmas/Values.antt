@@ -1,13 +1,11 @@
 -- A value that fits a type that can be stored passes the test on stored values and has a spelling.
-use Rattle.std.proofs.Common.{◌≡◌, ◌≤◌, ◌<◌, ◌^◌, ◌∙◌, ℕ, suc, Bool, true, false, cond, ◌&&◌, nat_le, List, [], ◌∷◌, ◌++◌, length, take, drop, refl, ap, arith}
-use Rattle.std.specs.Prelude.{◌==◌, ℤ, pos, negsuc, not, FitsSigned}
+use Rattle.std.proofs.Common.{◌≡◌, ◌≤◌, ◌<◌, ◌^◌, ◌∙◌, ℕ, Bool, true, false, ◌&&◌, nat_le, List, [], ◌∷◌, ◌++◌, length, refl, ap, arith}
+use Rattle.std.specs.Prelude.{ℤ, pos, negsuc, FitsSigned}
 use Rattle.std.specs.Int.{w128}
 use Rattle.std.specs.List.{list_all, AllByRecursion}
 use Rattle.std.specs.Ordering.{is_lt}
-use Rattle.std.specs.Str.{bytes_eq}
-use Rattle.std.proofs.lemmas.Bool.{and_parts, leb-true, eqb-true}
+use Rattle.std.proofs.lemmas.Bool.{and_parts, leb-true, and_from}
 use Rattle.std.proofs.lemmas.Int.{ints}
-use Rattle.std.proofs.lemmas.List.{length-drop}
 use Rattle.rules_text.specs.nodes.Limits.{byte_limit}
 use Rattle.rules_text.specs.nodes.Tree.{Tree, int, str, bytes, prim, seq}
 use Rattle.rules_data.specs.declared.types.Simple.{Simple}
@@ -16,7 +14,6 @@ use Rattle.rules_data.specs.types.Kind.{Kind}
 use Rattle.rules_data.specs.types.Kind as k
 use Rattle.rules_data.specs.types.Attributes.{comparable, storable}
 use Rattle.rules_data.specs.numbers.Limits.{is_int}
-use Rattle.rules_data.specs.forms.Spelling.{default_name, is_name_byte, is_entrypoint, is_key_hash, key_length, is_key, is_place, is_written_entrypoint, is_address}
 use Rattle.rules_data.specs.values.Val.{Val, Vals, no_val, more_vals, Pairs, no_pair, more_pairs}
 use Rattle.rules_data.specs.values.Val as v
 use Rattle.rules_data.specs.values.Forms.{has_simple_form, AllHave, AllEntriesHave, IsSequence, is_ticket_amount}
@@ -41,46 +38,16 @@ use Rattle.laws_commands.specs.written.Written.{HasForm, IsWritten, AreWritten, 
 use Rattle.laws_commands.specs.reached.Kept.{CanBeCounted, AllCanBeCounted, EntriesCanBeCounted}
 use Rattle.laws_commands.proofs.written_lemmas.values.Levels.{text_form}
 use Rattle.laws_commands.proofs.reached_lemmas.Counts.{few_vals, few_pairs, front_within, back_within}
-use Rattle.laws_commands.proofs.reached_lemmas.Lists.{all_first, all_second}
 use Rattle.laws_commands.proofs.reached_lemmas.ScriptCodes.{lambda_codes}
 use Rattle.laws_commands.proofs.reached_lemmas.Trees.{node_is}
-
-both : (a b : Bool) → a ≡ true → b ≡ true → (a && b) ≡ true
-both true b e g = g
-both false b e g = e
+use Rattle.laws_commands.proofs.written_lemmas.evaluation.Minted.{compared_stored}
+use Rattle.laws_commands.proofs.written_lemmas.values.Fitting.{hash_short, key_short, length_short, address_short}
+use Rattle.laws_commands.proofs.common.Lists.{all_first, all_second}
 
 -- ---- lengths
 
-hash_short : (b : List ℕ) → is_key_hash b ≡ true → IsShort b
-hash_short [] h = absurd cc
-hash_short (tag ∷ hash) h =
-    let long : length hash ≡ 20 = eqb-true (length hash) 20 (and_parts (nat_le tag 3) (length hash == 20) h).1 in
-    omega (arith, long)
-
-key_short : (b : List ℕ) → is_key b ≡ true → IsShort b
-key_short [] h = absurd cc
-key_short (tag ∷ body) h = by (tag == 0) (and_parts (nat_le tag 2) (length body == key_length tag) h).1
-  where
-    by : (t : Bool) → (length body == cond t 32 33) ≡ true → suc (length body) < 2 ^ 32
-    by true e = let long : length body ≡ 32 = eqb-true (length body) 32 e in omega (arith, long)
-    by false e = let long : length body ≡ 33 = eqb-true (length body) 33 e in omega (arith, long)
-
-length_short : (b : List ℕ) (n : ℕ) → n < 2 ^ 32 → (length b == n) ≡ true → IsShort b
-length_short b n less h = let long : length b ≡ n = eqb-true (length b) n h in omega (arith, long, less)
-
-entrypoint_short : (b : List ℕ) → is_written_entrypoint b ≡ true → length b ≤ 31
-entrypoint_short [] h = omega arith
-entrypoint_short (c ∷ b) h =
-    let name = (and_parts (is_entrypoint (c ∷ b)) (not (bytes_eq (c ∷ b) default_name)) h).0 in
-    leb-true (length (c ∷ b)) 31 (and_parts (nat_le 1 (length (c ∷ b))) (nat_le (length (c ∷ b)) 31)
-    (and_parts (nat_le 1 (length (c ∷ b)) && nat_le (length (c ∷ b)) 31) (list_all is_name_byte (c ∷ b)) name).0).1
-
-address_short : (b : List ℕ) → is_address b ≡ true → IsShort b
-address_short b h = omega (
-  arith,
-  length-drop 22 b,
-  entrypoint_short (drop 22 b) (and_parts (is_place (take 22 b)) (is_written_entrypoint (drop 22 b)) h).1,
-)
+short : (b : List ℕ) → length b ≤ byte_limit → IsShort b
+short b h = omega (arith, h)
 
 within_limit : (n : ℕ) → nat_le n byte_limit ≡ true → n < 2 ^ 32
 within_limit n h = let le = leb-true n byte_limit h in omega (arith, le)
@@ -117,11 +84,11 @@ simple_spelt s.Nat (v.number n) h = nat_fits n h
 simple_spelt s.Mutez (v.number n) h = amount_fits n h
 simple_spelt s.String (v.text b) h = text_short b h
 simple_spelt s.Bytes (v.bytes b) h = within_limit (length b) h
-simple_spelt s.KeyHash (v.bytes b) h = hash_short b h
-simple_spelt s.Key (v.bytes b) h = key_short b h
-simple_spelt s.Signature (v.bytes b) h = length_short b 64 (omega arith) h
-simple_spelt s.ChainId (v.bytes b) h = length_short b 4 (omega arith) h
-simple_spelt s.Address (v.bytes b) h = address_short b h
+simple_spelt s.KeyHash (v.bytes b) h = short b (hash_short b h)
+simple_spelt s.Key (v.bytes b) h = short b (key_short b h)
+simple_spelt s.Signature (v.bytes b) h = short b (length_short b 64 (omega arith) h)
+simple_spelt s.ChainId (v.bytes b) h = short b (length_short b 4 (omega arith) h)
+simple_spelt s.Address (v.bytes b) h = short b (address_short b h)
 simple_spelt u x h = absurd cc
 
 -- ---- types that can be compared
@@ -139,26 +106,6 @@ compared_spelt (k.pair a b) (v.both x y) c h =
     (compared_spelt a x cs.0 hs.0, compared_spelt b y cs.1 hs.1)
 compared_spelt a x c h = absurd cc
 
-module _ (w : Known) where
-  pub compared_stored : (a : Kind) (x : Val) → comparable a ≡ true → Fits w a x → is_stored a x ≡ true
-  compared_stored (k.simple u) x c h = h
-  compared_stored (k.option a) v.nothing c h = refl
-  compared_stored (k.option a) (v.some x) c h = compared_stored a x c h
-  compared_stored (k.or a b) (v.left x) c h = compared_stored a x (and_parts (comparable a) (comparable b) c).0 h
-  compared_stored (k.or a b) (v.right x) c h = compared_stored b x (and_parts (comparable a) (comparable b) c).1 h
-  compared_stored (k.pair a b) (v.both x y) c h =
-      let cs = and_parts (comparable a) (comparable b) c in
-      both (is_stored a x) (is_stored b y) (compared_stored a x cs.0 h.0) (compared_stored b y cs.1 h.1)
-  compared_stored (k.list a) x c h = absurd cc
-  compared_stored (k.set a) x c h = absurd cc
-  compared_stored (k.map a b) x c h = absurd cc
-  compared_stored (k.big_map a b) x c h = absurd cc
-  compared_stored (k.lambda a b) x c h = absurd cc
-  compared_stored (k.contract a) x c h = absurd cc
-  compared_stored k.operation x c h = absurd cc
-  compared_stored (k.ticket a) x c h = absurd cc
-  compared_stored a x c h = absurd h
-
 -- ---- order
 
 first_below : (x : Val) (xs : Vals) → AreAbove x xs → is_below_first x xs ≡ true
@@ -167,7 +114,7 @@ first_below x (more_vals y ys) h = ap is_lt h.0
 
 increasing : (xs : Vals) → AreIncreasing xs → are_increasing xs ≡ true
 increasing no_val h = refl
-increasing (more_vals x xs) h = both (is_below_first x xs) (are_increasing xs) (first_below x xs h.0) (increasing xs h.1)
+increasing (more_vals x xs) h = and_from (is_below_first x xs) (are_increasing xs) (first_below x xs h.0) (increasing xs h.1)
 
 keys_above : (x : Val) (es : Pairs) → AreKeysAbove x es → AreAbove x (keys es)
 keys_above x no_pair h = tt
@@ -195,13 +142,13 @@ leads_to (bad l) C h = absurd h
 
 all_tested : (P : Val → Type 0) (test : Val → Bool) → ((x : Val) → P x → test x ≡ true) → (xs : Vals) → AllHave P xs → all_values test xs ≡ true
 all_tested P test each no_val h = refl
-all_tested P test each (more_vals x xs) h = both (test x) (all_values test xs) (each x h.0) (all_tested P test each xs h.1)
+all_tested P test each (more_vals x xs) h = and_from (test x) (all_values test xs) (each x h.0) (all_tested P test each xs h.1)
 
 entries_tested : (P Q : Val → Type 0) (key value : Val → Bool) → ((x : Val) → P x → key x ≡ true) → ((y : Val) → Q y → value y ≡ true) →
     (es : Pairs) → AllEntriesHave P Q es → all_entries key value es ≡ true
 entries_tested P Q key value each_key each_value no_pair h = refl
 entries_tested P Q key value each_key each_value (more_pairs x y es) h =
-    both (key x && value y) (all_entries key value es) (both (key x) (value y) (each_key x h.0) (each_value y h.1))
+    and_from (key x && value y) (all_entries key value es) (and_from (key x) (value y) (each_key x h.0) (each_value y h.1))
     (entries_tested P Q key value each_key each_value es h.2)
 
 -- ---- the test
@@ -215,27 +162,27 @@ module _ (w : Known) where
   stored (k.or a b) (v.right x) t f h = stored b x (and_parts (storable a) (storable b) t).1 f.1 h
   stored (k.pair a b) (v.both x y) t f h =
       let ts = and_parts (storable a) (storable b) t in
-      both (is_stored a x) (is_stored b y) (stored a x ts.0 f.0 h.0) (stored b y ts.1 f.1 h.1)
+      and_from (is_stored a x) (is_stored b y) (stored a x ts.0 f.0 h.0) (stored b y ts.1 f.1 h.1)
   stored (k.list a) (v.list xs) t f h = all_tested (Fits w a) (is_stored a) (λ x i. stored a x t f i) xs h
   stored (k.set a) (v.set xs) t f h =
-      both (all_values (is_stored a) xs) (are_increasing xs) (all_tested (Fits w a) (is_stored a) (λ x i. compared_stored w a x f.0 i) xs h.0)
+      and_from (all_values (is_stored a) xs) (are_increasing xs) (all_tested (Fits w a) (is_stored a) (λ x i. compared_stored w a x f.0 i) xs h.0)
       (increasing xs h.1)
   stored (k.map a b) (v.table es) t f h =
       let ts = and_parts (storable a) (storable b) t in
-      both (all_entries (is_stored a) (is_stored b) es) (are_increasing (keys es))
+      and_from (all_entries (is_stored a) (is_stored b) es) (are_increasing (keys es))
       (entries_tested (Fits w a) (Fits w b) (is_stored a) (is_stored b) (λ x i. compared_stored w a x f.0 i) (λ y i. stored b y ts.1 f.2 i) es h.0)
       (increasing (keys es) (keys_increase es h.1))
   stored (k.big_map a b) (v.big_table es) t f h =
       let ts = and_parts (storable a) (storable b) t in
-      both (all_entries (is_stored a) (is_stored b) es) (are_increasing (keys es))
+      and_from (all_entries (is_stored a) (is_stored b) es) (are_increasing (keys es))
       (entries_tested (Fits w a) (Fits w b) (is_stored a) (is_stored b) (λ x i. compared_stored w a x f.0 i) (λ y i. stored b y ts.1 f.3 i) es h.0)
       (increasing (keys es) (keys_increase es h.1))
   stored (k.lambda a b) (v.lambda t recursive) s f h =
-      both (is_sequence t) (leads (tree_type t place.lambda (call_kinds a b recursive)) (b ∷ [])) (sequence t h.0)
+      and_from (is_sequence t) (leads (tree_type t place.lambda (call_kinds a b recursive)) (b ∷ [])) (sequence t h.0)
       (leads_to (tree_type t place.lambda (call_kinds a b recursive)) (b ∷ []) h.2)
   stored (k.ticket a) (v.ticket issuer kind content amount) t f h =
-      both (same_kind kind a && is_stored a content) (is_ticket_amount amount)
-      (both (same_kind kind a) (is_stored a content) (ap (λ (b : Kind). same_kind b a) h.0 ∙ same_kind_refl a) (compared_stored w a content f.0 h.1)) h.2
+      and_from (same_kind kind a && is_stored a content) (is_ticket_amount amount)
+      (and_from (same_kind kind a) (is_stored a content) (ap (λ (b : Kind). same_kind b a) h.0 ∙ same_kind_refl a) (compared_stored w a content f.0 h.1)) h.2
   stored (k.contract a) x t f h = absurd cc
   stored k.operation x t f h = absurd cc
   stored a x t f h = absurd h

@@ -44,8 +44,9 @@ use Rattle.laws_code.specs.evaluation.Laws.{IsCharged}
 use Rattle.laws_commands.specs.reached.Counted.{ListsWithin, StackWithin, OperationWithin, IssuedWithin, ContractWithin, Ends}
 use Rattle.laws_commands.proofs.reached_lemmas.Literals.{literals_are_counted}
 use Rattle.laws_commands.proofs.reached_lemmas.Steps.{place_length}
-use Rattle.laws_commands.proofs.reached_lemmas.Outcomes.{rises, same_gas, less_room, roomy, more_contract, more_operation, ends_ending}
+use Rattle.laws_commands.proofs.reached_lemmas.Outcomes.{same_gas, less_room, roomy, more_contract, more_operation, ends_ending}
 use Rattle.laws_commands.proofs.reached_lemmas.Evaluation.{runs_are_counted}
+use Rattle.laws_commands.proofs.common.Numbers.{rises}
 
 -- ---- worlds
 
@@ -324,9 +325,6 @@ module _ (most : ℕ) where
 
     chain_few : (a n : ℕ) → a ≤ 4 → byte_limit ≤ n → a ≤ n
     chain_few a n h f = omega (arith, h, f)
-
-    source_place : length (implicit_place s.source) ≤ most - g
-    source_place = omega (arith, key, big)
 
     pub leaves_run : (c : Called) (counts : Counts) (effect : List Change → Effect) → length c.sender ≤ most - g →
         length c.target.hash ≤ 20 →

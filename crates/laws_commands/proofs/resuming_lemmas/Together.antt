@@ -19,7 +19,6 @@ use Rattle.laws_files.specs.Laws.{IsGoodCourse}
 use Rattle.laws_commands.specs.resuming.Laws.{IsClosed, told_behind, GoesOn, CoursesGoOn, OneEnd, SoundStatesGoOn, Continues, ResumingGoesOn}
 use Rattle.laws_commands.specs.reached.Reached.{ReachedAreSound}
 use Rattle.laws_commands.proofs.resuming_lemmas.courses.Alike.{AreTwins, AreAlikeRuns, runs_alike}
-use Rattle.laws_commands.proofs.resuming_lemmas.courses.Good.{good_behind}
 use Rattle.laws_commands.proofs.resuming_lemmas.courses.Heads.{head_is}
 use Rattle.laws_commands.proofs.resuming_lemmas.courses.Loaded.{loaded_twin}
 use Rattle.laws_commands.proofs.resuming_lemmas.logs.Inserted.{loaded_log}
@@ -28,6 +27,7 @@ use Rattle.laws_commands.proofs.resuming_lemmas.text.Beside.{AreBeside, beside_g
 use Rattle.laws_commands.proofs.resuming_lemmas.text.Closed.{Stays, closed_stand, closed_on}
 use Rattle.laws_commands.proofs.resuming_lemmas.text.Feeds.{IsFed, IsFedOrEmpty, fed_file}
 use Rattle.laws_commands.proofs.resuming_lemmas.text.Once.{one_list, Further, goes_further, no_statement, one_end}
+use Rattle.laws_commands.proofs.reached_lemmas.Courses.{good_behind}
 
 -- ---- the first file
 

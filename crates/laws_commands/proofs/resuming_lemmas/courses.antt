@@ -2,4 +2,3 @@ pub mod Alike
 pub mod Heads
 pub mod Prices
 pub mod Loaded
-pub mod Good

@@ -1,22 +1,17 @@
 -- What a run prints has its text forms, and agrees.
-use Rattle.std.proofs.Common.{◌≡◌, ◌≤◌, ◌<◌, ◌+◌, ◌-◌, ◌^◌, ◌⊎◌, ◌↔◌, inl, inr, ℕ, Bool, true, false, List, [], ◌∷◌, length, ltb, refl, subst, arith}
-use Rattle.std.specs.List.{All, AllByRecursion}
-use Rattle.std.proofs.lemmas.Bool.{ltb-true, ltb-false}
-use Rattle.std.proofs.lemmas.List.Elements.{All-head, All-tail}
+use Rattle.std.proofs.Common.{◌≡◌, ◌≤◌, ◌+◌, ◌-◌, ◌^◌, ◌↔◌, inl, inr, ℕ, List, [], ◌∷◌, length, refl, subst, arith}
+use Rattle.std.specs.List.{AllByRecursion}
 use Rattle.rules_text.specs.nodes.Limits.{statement_limit}
 use Rattle.rules_text.specs.nodes.Tree.{Tree}
 use Rattle.rules_text.specs.text.Printed.{printed}
 use Rattle.rules_text.specs.declared.text.TextKind.TheVariants.{TooLong}
 use Rattle.rules_text.specs.text.Text.{IsStatementLimit, Stands, past_limit}
-use Rattle.rules_code.specs.steps.Changes.{Change, minted, burnt}
 use Rattle.rules_code.specs.evaluation.Surroundings.{Contract}
 use Rattle.rules_world.specs.lines.Nodes.{state_nodes}
-use Rattle.rules_world.specs.world.Forms.{IsChange}
 use Rattle.rules_world.specs.world.Receipts.{Receipt}
 use Rattle.rules_audit.specs.Form.{Holds}
 use Rattle.mich_text.specs.Written.{HasTextForm, CanBeWritten}
 use Rattle.mich_text.proofs.ForCallers.{can_be_written, line_bare, line_stands, no_sign, written_again}
-use Rattle.laws_commands.specs.audits.Plain.{IsPlainMint}
 use Rattle.laws_commands.specs.audits.Receipts.{IsAmount, IsReceipt}
 use Rattle.laws_commands.specs.audits.Runs.{group_nodes, nodes_of}
 use Rattle.laws_commands.specs.audits.States.{IsToldContract, IsToldWorld}
@@ -25,14 +20,15 @@ use Rattle.laws_commands.specs.audits.Written.{IsWritable}
 use Rattle.laws_commands.proofs.audits_lemmas.FileLogs.{files_burn, files_tell}
 use Rattle.laws_commands.proofs.audits_lemmas.Goods.{files_end_good}
 use Rattle.laws_commands.proofs.audits_lemmas.Lines.{line_read}
-use Rattle.laws_commands.proofs.audits_lemmas.Plain.{plain_mints, runs_agree}
+use Rattle.laws_commands.proofs.audits_lemmas.Plain.{plain_mints, runs_agree, mints_plain}
 use Rattle.laws_commands.proofs.audits_lemmas.Worlds.{worlds_told}
 use Rattle.laws_commands.specs.written.Worlds.{IsWrittenReceipt}
 use Rattle.laws_commands.specs.written.Agreement.{RunsHaveForms, IsRead, IsWithin, RunsAreRead, ReadRunsAgree, ShortRunsAgree}
 use Rattle.laws_commands.proofs.written_lemmas.values.Levels.{closed}
-use Rattle.laws_commands.proofs.written_lemmas.values.Lists.{all_append}
 use Rattle.laws_commands.proofs.written_lemmas.files.Files.{files_end_written}
 use Rattle.laws_commands.proofs.written_lemmas.files.Printed.{group_form, state_forms}
+use Rattle.laws_commands.proofs.common.Numbers.{split}
+use Rattle.laws_commands.proofs.common.Lists.{all_append}
 
 -- ---- all nodes
 
@@ -40,11 +36,6 @@ groups_form : (n : ℕ) (rs : List Receipt) → n + length rs ≤ 2 ^ 64 → All
     AllByRecursion HasTextForm (group_nodes n rs)
 groups_form n [] few h i = tt
 groups_form n (r ∷ rs) few h i = (group_form n r (omega (arith, few)) h.0 i.0, groups_form (n + 1) rs (omega (arith, few)) h.1 i.1)
-
-mints_plain : (cs : List Change) → All IsChange cs → AllByRecursion IsPlainMint cs
-mints_plain [] h = tt
-mints_plain (minted t ∷ cs) h = ((All-head IsChange (minted t) cs h).2, mints_plain cs (All-tail IsChange (minted t) cs h))
-mints_plain (burnt t ∷ cs) h = (tt, mints_plain cs (All-tail IsChange (burnt t) cs h))
 
 balances : (cs : List (List ℕ × Contract)) → AllByRecursion IsToldContract cs → AllByRecursion (λ c. IsAmount c.1.balance) cs
 balances [] h = tt
@@ -69,13 +60,6 @@ runs_have_forms file done w r g =
     told.supply)
 
 -- ---- each line
-
-split : (a b : ℕ) → (a ≤ b) ⊎ (b < a)
-split a b = by (ltb b a) refl
-  where
-    by : (t : Bool) → ltb b a ≡ t → (a ≤ b) ⊎ (b < a)
-    by true e = inr (ltb-true b a e)
-    by false e = inl (ltb-false b a e)
 
 -- a line that is read is no longer than a statement
 short_line : (t u : Tree) → HasTextForm t → Holds (printed t) u → length (printed t) ≤ statement_limit

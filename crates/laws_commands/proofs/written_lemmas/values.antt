@@ -1,5 +1,5 @@
 -- Values that are written, how they are read and printed, and what steps make of them.
-pub mod Lists
+pub mod Bytes
 pub mod Values
 pub mod Levels
 pub mod Literals

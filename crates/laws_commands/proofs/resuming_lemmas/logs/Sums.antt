@@ -21,6 +21,7 @@ use Rattle.rules_files.specs.snapshots.Course.{total_of, ticket_of, changes_of}
 use Rattle.laws_world.proofs.accounts.ForCallers.{alike_equal, equal_of, identity_total, held_positive, in_positive, burnt_positive}
 use Rattle.laws_world.proofs.lines_lemmas.ForCallers.{amount_is_told, told_in_order}
 use Rattle.laws_commands.proofs.resuming_lemmas.logs.Inserted.{loaded_log}
+use Rattle.laws_commands.proofs.reached_lemmas.Tickets.{sum_positive}
 
 -- ---- amounts of what is alike
 
@@ -129,9 +130,6 @@ burnt_spread w id (j ∷ js) h = by (int_lt (pos 0) (burnt_ever w j)) refl (burn
       (nothing (is_at (identity_order id) j) (burnt_ever w j) (not_below (burnt_ever w j) (h j) e))
 
 -- ---- what is held is not below nothing
-
-sum_positive : (a b : ℤ) → pos 0 ≤ℤ a → pos 0 ≤ℤ b → pos 0 ≤ℤ (a +ℤ b)
-sum_positive a b h g = omega (arith, ints)
 
 accounts_positive : (id : Identity) (es : List (List ℕ × Account)) → All IsAccount es → pos 0 ≤ℤ held_by_accounts id es
 accounts_positive id [] h = omega (arith, ints)

@@ -2,8 +2,7 @@
 use Rattle.std.proofs.Common.{◌≡◌, ℕ, Bool, true, false, List, [], ◌∷◌, ◌++◌, Option, Some, None, refl}
 use Rattle.std.specs.Prelude.{nat_lt}
 use Rattle.rules_text.specs.nodes.Limits.{block_limit}
-use Rattle.rules_text.specs.nodes.Tree.{Tree, Trees}
-use Rattle.rules_data.specs.declared.gas.Kind.{Kind as Priced}
+use Rattle.rules_text.specs.nodes.Tree.{Tree}
 use Rattle.rules_data.specs.declared.gas.Kind.TheVariants as g
 use Rattle.rules_data.specs.types.Kind.{Kind}
 use Rattle.rules_data.specs.values.Val.{Val}
@@ -12,7 +11,6 @@ use Rattle.rules_code.specs.instructions.Rules.{Ruled, ruled, faulty}
 use Rattle.rules_code.specs.instructions.Straight.{Straight, on_operations, OperationRow}
 use Rattle.rules_code.specs.instructions.Straight as i
 use Rattle.rules_code.specs.steps.Costs.{kind_of, weight_of}
-use Rattle.rules_code.specs.typing.Typing.{Typing}
 use Rattle.rules_code.specs.evaluation.Contracts.{Viewed, viewed}
 use Rattle.rules_code.specs.evaluation.Surroundings.{Surroundings}
 use Rattle.rules_code.specs.evaluation.Operations.{Tally}
@@ -21,8 +19,7 @@ use Rattle.rules_code.specs.evaluation.Outcome.{Run, block, opened, charge, unle
 use Rattle.rules_code.specs.evaluation.Branches.{paid, chosen, if_run, if_none_run, if_left_run, if_cons_run, dip_run}
 use Rattle.rules_code.specs.evaluation.Items.{items, mapped_items, with_items, rebuilt}
 use Rattle.rules_code.specs.evaluation.Loops.{ending, turn_where, turns_run, left_turns_run, loop_run, loop_left_run, each_run, iter_run, map_each_run, map_run}
-use Rattle.rules_code.specs.evaluation.Calls.{exec_run, apply_run, fail_run}
-use Rattle.rules_code.specs.evaluation.Given.{push_run, lambda_run, self_run, create_run}
+use Rattle.rules_code.specs.evaluation.Calls.{exec_run}
 use Rattle.rules_code.specs.evaluation.Shapes.{on_top, on_truth}
 use Rattle.rules_code.specs.evaluation.Straight.{row_run, ruled_run}
 use Rattle.laws_commands.proofs.resuming_lemmas.prices.Plain.{plainly, moved}
@@ -89,18 +86,6 @@ module _ (e : Surroundings) (d : ℕ) (A : List Kind) (V : List Val) (m : Tally)
   pub exec_same : (again : Tree → Run) → exec_run again (plainly e) d A V m ≡ exec_run (λ t. moved (again t)) e d A V m
   exec_same again = refl
 
-  pub apply_same : apply_run (plainly e) d A V m ≡ apply_run e d A V m
-  apply_same = refl
-
-  pub fail_same : fail_run (plainly e) d A V m ≡ fail_run e d A V m
-  fail_same = refl
-
-  pub push_same : (ts : Trees) (typing : Typing) → push_run ts typing (plainly e) d A V m ≡ push_run ts typing e d A V m
-  push_same ts typing = refl
-
-  pub create_same : (ts : Trees) (typing : Typing) → create_run ts typing (plainly e) d A V m ≡ create_run ts typing e d A V m
-  create_same ts typing = refl
-
   pub if_same : (r s : Run) → if_run r s (plainly e) d A V m ≡ if_run (moved r) (moved s) e d A V m
   if_same r s = λ k. on_truth A V (λ A b V. paid e g.If m (λ m. chosen_same b r s e d A V m k))
 
@@ -115,14 +100,6 @@ module _ (e : Surroundings) (d : ℕ) (A : List Kind) (V : List Val) (m : Tally)
   map_same result r = λ k.
       on_top A V (λ c A x V. unless_stuck (mapped_items c x) (λ i. unless_stuck (result i.kind A) (λ b. paid e g.Map m (λ m.
       map_each_same r i.kind b (rebuilt x) (with_items c b) [] i.values e d A V m k))))
-
-  pub self_same : (annots : List (List ℕ)) (ts : Trees) (typing : Typing) →
-      self_run annots ts typing (plainly e) d A V m ≡ self_run annots ts typing e d A V m
-  self_same annots ts typing = refl
-
-  pub lambda_same : (kind : Priced) (recursive : Bool) (ts : Trees) (typing : Typing) →
-      lambda_run kind recursive ts typing (plainly e) d A V m ≡ lambda_run kind recursive ts typing e d A V m
-  lambda_same kind recursive ts typing = refl
 
 -- ---- instructions without bodies
 

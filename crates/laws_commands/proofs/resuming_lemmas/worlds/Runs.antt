@@ -22,7 +22,7 @@ use Rattle.rules_world.specs.world.World.{World, contract_at}
 use Rattle.laws_world.proofs.accounts.ForCallers.{minted_append}
 use Rattle.laws_commands.proofs.resuming_lemmas.prices.Plain.{plain, plainly}
 use Rattle.laws_commands.proofs.resuming_lemmas.prices.Evaluation.{eval_blind}
-use Rattle.laws_commands.proofs.resuming_lemmas.worlds.Relogged.{relogged, Passes, log_stays, grown_passes}
+use Rattle.laws_commands.proofs.resuming_lemmas.worlds.Relogged.{relogged, log_stays, grown_passes}
 
 -- what two groups have in common, and where they may differ: in what the logs begin with, and in the tables of prices
 pub record Pair : Type 0 where
@@ -135,12 +135,6 @@ module _ (p : Pair) where
   effect_alike hash effect x y h = absurd h
 
   -- ---- the growth of a contract
-
-  -- a world that was changed alike
-  pub applied_alike : (f : World → World) → Passes f → (a : Success) (more : List Change) → Begins a.world more →
-      AreAlike (applied (record a { world = f a.world })) (applied (record a { world = f (twin more a.world) }))
-  applied_alike f q a more h =
-      (more, log_stays f q a.world ∙ h, λ k. record a { world = sym (q (p.other ++ more) a.world) k })
 
   short_alike : (b : Bool) (payer hash : List ℕ) (burn : Burn) (a : Success) (more : List Change) → Begins a.world more →
       AreAlike (unless_short b payer hash burn a) (unless_short b payer hash burn (record a { world = twin more a.world }))

@@ -28,8 +28,8 @@ use Rattle.laws_code.proofs.control.ForCallers.{fit_drop, types_drop}
 use Rattle.laws_code.proofs.control.Branches.{turns_type, left_turns_type}
 use Rattle.laws_code.proofs.stacks.ForCallers.{positive, sound_after, sound_with, sound_pop, bool_type, type_option, type_left, type_right, type_list}
 use Rattle.laws_commands.specs.written.Written.{IsWritten, AllWritten}
-use Rattle.laws_commands.proofs.written_lemmas.values.Lists.{all_append, all_take, all_drop}
 use Rattle.laws_commands.proofs.written_lemmas.evaluation.Stands.{Keeps, Begins, KeepsRun, refuelled, keeps_next, keeps_ending, keeps_only_if, keeps_paid}
+use Rattle.laws_commands.proofs.common.Lists.{all_append, all_take, all_drop}
 
 drop_amount : (w : Known) (id : Identity) (n : ℕ) (A : List Kind) (V : List Val) → AllFit w A V → amount_on id (drop n V) ≤ℤ amount_on id V
 drop_amount w id zero A V h = omega (arith, ints)

@@ -35,11 +35,11 @@ use Rattle.laws_code.proofs.control.ForCallers.{good_in_lambda}
 use Rattle.laws_code.proofs.stacks.ForCallers.{on_positive, sound_with}
 use Rattle.mich_text.specs.Written.{HasTextForm}
 use Rattle.laws_commands.specs.written.Written.{HasForm, IsWritten, AllWritten, SeesWritten}
-use Rattle.laws_commands.proofs.written_lemmas.values.Lists.{all_append}
 use Rattle.laws_commands.proofs.written_lemmas.values.Levels.{closed, text_form}
 use Rattle.laws_commands.proofs.written_lemmas.values.Values.{kind_form, over_two_form}
 use Rattle.laws_commands.proofs.written_lemmas.values.Fitting.{fits_form}
 use Rattle.laws_commands.proofs.written_lemmas.evaluation.Stands.{Keeps, Begins, KeepsRun, refuelled, keeps_ending, keeps_only_if, keeps_charge, keeps_paid}
+use Rattle.laws_commands.proofs.common.Lists.{all_append}
 
 pub leads_typed : (t : Typing) (C : List Kind) → Leads t C → IsTyped t
 leads_typed (goes B) C h = tt

@@ -23,10 +23,12 @@ use Rattle.rules_code.specs.evaluation.Issuing.{with_origination}
 use Rattle.rules_code.specs.evaluation.Given.{value_of, push_run, body_of, lambda_run, self_run, script_of, on_delegate, on_origination, create_run}
 use Rattle.laws_code.proofs.typed.ForCallers.{FoundHas, found_then, named_entrypoint}
 use Rattle.laws_commands.specs.written.Written.{HasForm, HaveForms, IsByte, AreBytes, IsWritten, AllWritten, IsWrittenTally}
-use Rattle.laws_commands.proofs.written_lemmas.values.Lists.{all_append, all_replicate, high_first, contract_bytes}
-use Rattle.laws_commands.proofs.written_lemmas.values.Literals.{Gives, reads}
+use Rattle.laws_commands.proofs.written_lemmas.values.Bytes.{high_first, contract_bytes}
+use Rattle.laws_commands.proofs.common.Readings.{Gives}
+use Rattle.laws_commands.proofs.written_lemmas.values.Literals.{reads}
 use Rattle.laws_commands.proofs.written_lemmas.evaluation.Tags.{name_bytes}
 use Rattle.laws_commands.proofs.written_lemmas.evaluation.Stands.{Keeps, Begins, refuelled, keeps_unless, keeps_found, keeps_goes, keeps_charge, keeps_paid, keeps_issue}
+use Rattle.laws_commands.proofs.common.Lists.{all_append, all_replicate}
 
 found_is : {A : Type 0} (P : A → Type 0) (o : Found A) (x : A) → FoundHas P o → o ≡ found x → P x
 found_is P o x h e = subst (FoundHas P) e h

@@ -27,10 +27,10 @@ use Rattle.laws_code.specs.stacks.Sound.{seen, total, After, SafeRun}
 use Rattle.laws_code.proofs.control.Items.{Each, each_positive, each_grow, each_element, each_entry, element_amount, entry_amount}
 use Rattle.laws_code.proofs.stacks.ForCallers.{on-append, positive, no_amount_compared, knows_grow, sound_after, type_list, type_element, type_entry, type_option}
 use Rattle.laws_commands.specs.written.Written.{IsWritten, AreWritten, EntriesAreWritten, AllWritten, IsWrittenTally}
-use Rattle.laws_commands.proofs.written_lemmas.values.Lists.{all_append}
 use Rattle.laws_commands.proofs.written_lemmas.evaluation.Stands.{Keeps, Begins, KeepsRun, refuelled, keeps_ending, keeps_unless, keeps_paid}
 use Rattle.laws_commands.proofs.written_lemmas.evaluation.Branches.{begins_pop}
 use Rattle.rules_code.specs.evaluation.Branches.{paid}
+use Rattle.laws_commands.proofs.common.Lists.{all_append}
 
 elements_written : (xs : Vals) → AreWritten xs → AllWritten (elements xs)
 elements_written no_val h = tt

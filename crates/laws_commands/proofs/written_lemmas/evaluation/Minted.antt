@@ -1,6 +1,6 @@
 -- What TICKET mints has a type that a ticket may have, and a content of it.
 use Rattle.std.proofs.Common.{◌≡◌, ◌≤◌, ◌+◌, ℕ, Bool, true, false, ◌&&◌, List, [], ◌∷◌, Some, refl, sym, subst, arith}
-use Rattle.std.proofs.lemmas.Bool.{and_parts}
+use Rattle.std.proofs.lemmas.Bool.{and_parts, and_from}
 use Rattle.rules_text.specs.nodes.Limits.{type_limit}
 use Rattle.rules_data.specs.types.Kind.{Kind, nodes}
 use Rattle.rules_data.specs.types.Kind as k
@@ -18,10 +18,6 @@ use Rattle.laws_data.proofs.types_lemmas.ForCallers.{same_kind_true}
 use Rattle.laws_code.specs.stacks.Sound.{AllTypes}
 use Rattle.laws_code.proofs.typed.ForCallers.{Taken}
 
-both : (a b : Bool) → a ≡ true → b ≡ true → (a && b) ≡ true
-both true b e g = g
-both false b e g = e
-
 module _ (w : Known) where
   -- a value that fits a type that can be compared passes the test on stored values
   pub compared_stored : (a : Kind) (x : Val) → comparable a ≡ true → Fits w a x → is_stored a x ≡ true
@@ -32,7 +28,7 @@ module _ (w : Known) where
   compared_stored (k.or a b) (v.right x) c h = compared_stored b x (and_parts (comparable a) (comparable b) c).1 h
   compared_stored (k.pair a b) (v.both x y) c h =
       let cs = and_parts (comparable a) (comparable b) c in
-      both (is_stored a x) (is_stored b y) (compared_stored a x cs.0 h.0) (compared_stored b y cs.1 h.1)
+      and_from (is_stored a x) (is_stored b y) (compared_stored a x cs.0 h.0) (compared_stored b y cs.1 h.1)
   compared_stored (k.list a) x c h = absurd cc
   compared_stored (k.set a) x c h = absurd cc
   compared_stored (k.map a b) x c h = absurd cc

@@ -32,16 +32,18 @@ use Rattle.laws_data.proofs.types_lemmas.ForCallers.{same_kind_true}
 use Rattle.laws_code.specs.evaluation.Laws.{known}
 use Rattle.laws_code.specs.stacks.Sound.{SafeRun}
 use Rattle.laws_code.proofs.typed.ForCallers.{Taken, RuledTypes, rule_taken}
-use Rattle.laws_commands.specs.written.Written.{HasForm, IsByte, AreBytes}
-use Rattle.laws_commands.proofs.written_lemmas.values.Lists.{all_take, all_drop, implicit_bytes, text_bytes}
+use Rattle.laws_commands.specs.written.Written.{HasForm, IsByte, AreBytes, IsWritten}
+use Rattle.laws_commands.proofs.written_lemmas.values.Bytes.{implicit_bytes, text_bytes}
 use Rattle.laws_commands.proofs.written_lemmas.values.Fitting.{fits_form}
 use Rattle.laws_commands.proofs.written_lemmas.values.Mints.{step_mints}
-use Rattle.laws_commands.proofs.written_lemmas.values.Steps.{MayMint, MayStep, OptionWritten, optional_written, step_keeps}
+use Rattle.laws_commands.proofs.common.Steps.{MayMint, MayStep}
+use Rattle.laws_commands.proofs.written_lemmas.values.Steps.{MayHold, optional_written, step_keeps}
 use Rattle.laws_commands.proofs.written_lemmas.evaluation.Tags.{IsNamed, IsNamedRule, rule_named}
 use Rattle.laws_commands.proofs.written_lemmas.evaluation.Given.{spelled_bytes}
 use Rattle.laws_commands.proofs.written_lemmas.evaluation.Minted.{compared_stored, content_is}
 use Rattle.laws_commands.proofs.written_lemmas.evaluation.Stands.{Keeps, Begins, KeepsRun, refuelled, keeps_charge, keeps_finish, keeps_issue}
 use Rattle.laws_commands.proofs.written_lemmas.evaluation.Views.{keeps_view}
+use Rattle.laws_commands.proofs.common.Lists.{all_take, all_drop, OnSome}
 
 abbrev BytesIf : Option (List ℕ) → Type 0
 BytesIf None = Unit {0}
@@ -77,7 +79,7 @@ contract_is at name a address h g =
     named_bytes at (place_of address) a (chosen_entrypoint (entrypoint_of address) name) (all_take IsByte 22 address g)
     (chosen_bytes (entrypoint_of address) name (name_is (drop 22 address) (all_drop IsByte 22 address g)) h)
 
-some_bytes : (o : Option (List ℕ)) → BytesIf o → OptionWritten (option_map v.bytes o)
+some_bytes : (o : Option (List ℕ)) → BytesIf o → OnSome IsWritten (option_map v.bytes o)
 some_bytes None h = tt
 some_bytes (Some b) h = h
 
@@ -129,7 +131,7 @@ module _ (There : List ℕ → Type 0) where
     after_is (Some b) c B go e f h = let l : b ≡ c = cc in subst (λ C. Keeps There (go C)) (ap after l ∙ sym f) h
     after_is None c B go e f h = absurd cc
 
-    by_step : (e : Surroundings) (A : List Kind) (V : List Val) (m : Tally) → Begins There e A V m → (r : Straight) → MayStep r V →
+    by_step : (e : Surroundings) (A : List Kind) (V : List Val) (m : Tally) → Begins There e A V m → (r : Straight) → MayStep MayHold r V →
         (B : List Kind) →
         Keeps There (finish (step e.environment (minted_so_far e m) (trial e) r V) B m)
     by_step e A V m g r may B =
@@ -138,7 +140,7 @@ module _ (There : List ℕ → Type 0) where
         e.environment.own g.own (step_mints e.environment.own e.environment refl (minted_so_far e m) (trial e) r V) g.tally
 
     may_mint : (e : Surroundings) (r : TicketRow) (A B : List Kind) (V : List Val) (m : Tally) → Taken (on_tickets r) A B → Begins There e A V m →
-        MayMint r V
+        MayMint MayHold r V
     may_mint e (i.ticket a) (c ∷ A) B (x ∷ V) m t g =
         let K = known e.contract_at m.issued in
         let types = content_is c a A B t in (

@@ -15,7 +15,7 @@ use Rattle.rules_code.specs.typing.Nodes.{bodies, inner_bodies, outline, script_
 use Rattle.rules_code.specs.typing.Nodes as nodes_of
 use Rattle.laws_code.proofs.typed.ForCallers.{FoundHas, found_then}
 use Rattle.laws_commands.specs.written.Written.{HasForm, HaveForms}
-use Rattle.laws_commands.proofs.written_lemmas.values.Lists.{all_append}
+use Rattle.laws_commands.proofs.common.Lists.{all_append}
 
 abbrev ContentWritten : Content → Type 0
 ContentWritten (view_section w) = HasForm w.body.node

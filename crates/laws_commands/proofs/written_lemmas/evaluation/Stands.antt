@@ -27,9 +27,9 @@ use Rattle.rules_code.specs.evaluation.Surroundings.{Contract}
 use Rattle.rules_code.specs.steps.Changes.{Change, minted, burnt}
 use Rattle.std.specs.List.{AllByRecursion}
 use Rattle.laws_commands.specs.written.Written.{HasIssuer, AllWritten, IsWrittenChange, IsWrittenFailure, IsWrittenOperation, IsWrittenTally, SeesWritten}
-use Rattle.laws_commands.proofs.written_lemmas.values.Lists.{all_append}
 use Rattle.laws_commands.proofs.written_lemmas.values.Mints.{IsOwnMint, Mints}
 use Rattle.laws_commands.proofs.written_lemmas.values.Steps as steps
+use Rattle.laws_commands.proofs.common.Lists.{all_append}
 
 -- where code begins
 pub record Begins (There : List ℕ → Type 0) (e : Surroundings) (A : List Kind) (V : List Val) (m : Tally) : Type 0 where
@@ -137,13 +137,14 @@ module _ (There : List ℕ → Type 0) where
   issuers_of own here (minted t ∷ cs) h = ((own, h.0, here), issuers_of own here cs h.1)
   issuers_of own here (burnt t ∷ cs) h = (tt, issuers_of own here cs h.1)
 
-  pub keeps_finish : (s : Step) (B : List Kind) (m : Tally) → steps.Keeps s → (own : List ℕ) → There own → Mints own s → IsWrittenTally There m → Keeps (finish s B m)
+  pub keeps_finish : (s : Step) (B : List Kind) (m : Tally) → steps.Keeps s → (own : List ℕ) → There own →
+      Mints own s → IsWrittenTally There m → Keeps (finish s B m)
   keeps_finish (done V cs) B m h own here mints t = (
     h.0,
     record {
       issued = t.issued;
       changes = all_append IsWrittenChange m.changes cs t.changes h.1;
-      issuers = all_append (HasIssuer There) m.changes cs t.issuers (issuers_of own here cs mints);
+      issuers = all_append (HasIssuer There) m.changes cs t.issuers (issuers_of own here cs mints.1);
     },
   )
   keeps_finish (step.fails x) B m h own here mints t = h

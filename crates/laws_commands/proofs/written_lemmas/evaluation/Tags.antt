@@ -2,7 +2,7 @@
 use Rattle.std.proofs.Common.{◌≡◌, ◌<◌, ◌≤◌, ℕ, ◌+◌, Bool, true, false, ◌&&◌, Option, Some, None, List, [], ◌∷◌, length, refl, arith}
 use Rattle.std.specs.Prelude.{nat_le, if◌then◌else◌}
 use Rattle.std.specs.List.{list_all}
-use Rattle.std.proofs.lemmas.Bool.{and_parts, leb-true}
+use Rattle.std.proofs.lemmas.Bool.{and_parts, leb-true, and_from}
 use Rattle.std.proofs.lemmas.Bool.Decides.{nat_tests}
 use Rattle.rules_text.specs.nodes.Limits.{count_limit, part_limit}
 use Rattle.rules_text.specs.nodes.Tree.{Trees, none, more, size}
@@ -26,7 +26,7 @@ use Rattle.rules_code.specs.instructions.Instructions.{Instruction, row, overloa
 use Rattle.rules_code.specs.instructions.Rules.{Ruled, ruled, faulty, with_change, with_row, with_instruction, rule}
 use Rattle.mich_text.specs.Written.{is_text, IsString}
 use Rattle.laws_commands.specs.written.Written.{IsByte, AreBytes}
-use Rattle.laws_commands.proofs.written_lemmas.values.Lists.{all_test}
+use Rattle.laws_commands.proofs.common.Lists.{all_test}
 
 -- ---- names
 
@@ -53,14 +53,10 @@ name_short name h = (
       (and_parts (nat_le 1 (length name) && nat_le (length name) 31) (list_all is_name_byte name) h).0).1,
 )
 
-both : (a b : Bool) → a ≡ true → b ≡ true → (a && b) ≡ true
-both true b e g = g
-both false b e g = e
-
 texts : (name : List ℕ) → list_all is_name_byte name ≡ true → list_all is_text name ≡ true
 texts [] h = refl
 texts (c ∷ name) h =
-    let hs = and_parts (is_name_byte c) (list_all is_name_byte name) h in both (is_text c) (list_all is_text name) (named_text c hs.0)
+    let hs = and_parts (is_name_byte c) (list_all is_name_byte name) h in and_from (is_text c) (list_all is_text name) (named_text c hs.0)
     (texts name hs.1)
 
 name_string : (name : List ℕ) → is_entrypoint name ≡ true → IsString name

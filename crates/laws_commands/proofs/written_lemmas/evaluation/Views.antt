@@ -33,12 +33,13 @@ use Rattle.laws_code.proofs.stacks.ForCallers.{no_amount, packable_duplicable, K
 use Rattle.laws_code.proofs.typed.ForCallers.{FoundHas}
 use Rattle.laws_code.proofs.safety_lemmas.ForCallers.{SeesIf, good_in_view, sees}
 use Rattle.laws_commands.specs.written.Written.{HasIssuer, HasForm, IsByte, AreBytes, IsWritten, IsWrittenContract, IsWrittenChange, SeesWritten}
-use Rattle.laws_commands.proofs.written_lemmas.values.Lists.{all_append, all_take, all_drop, contract_bytes}
+use Rattle.laws_commands.proofs.written_lemmas.values.Bytes.{contract_bytes}
 use Rattle.laws_commands.proofs.written_lemmas.values.Steps.{tickets_written, burns_written}
 use Rattle.laws_commands.proofs.written_lemmas.evaluation.Issuers.{burns_issued}
 use Rattle.laws_commands.proofs.written_lemmas.evaluation.Scripts.{OutlineWritten, outline_written}
 use Rattle.laws_commands.proofs.written_lemmas.evaluation.Stands.{Keeps, Begins, KeepsRun, keeps_ending}
 use Rattle.laws_commands.proofs.written_lemmas.evaluation.Calls.{leads_typed}
+use Rattle.laws_commands.proofs.common.Lists.{all_append, all_take, all_drop}
 
 record ViewWritten (w : Viewed) : Type 0 where
   hash : AreBytes w.hash

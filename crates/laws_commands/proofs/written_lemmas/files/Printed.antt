@@ -25,9 +25,10 @@ use Rattle.laws_commands.specs.written.Written.{IsWrittenIdentity, IsWrittenTick
 use Rattle.laws_commands.specs.written.Worlds.{IsWrittenAccount, IsWrittenAt, IsWrittenWorld, IsWrittenEffect, IsWrittenStatus, IsWrittenReceipt}
 use Rattle.laws_commands.specs.audits.Receipts.{IsAmount, IsEffect, IsStatus, IsReceipt}
 use Rattle.laws_commands.specs.audits.States.{IsToldHolding, IsToldAccount, IsCount, IsToldTicket}
-use Rattle.laws_commands.proofs.written_lemmas.values.Lists.{all_append, bytes_tested, contract_bytes, contract_short}
+use Rattle.laws_commands.proofs.written_lemmas.values.Bytes.{bytes_tested, contract_bytes, contract_short}
 use Rattle.laws_commands.proofs.written_lemmas.values.Values.{kind_form}
 use Rattle.laws_commands.proofs.written_lemmas.values.Fitting.{fits_form, ticket_is, hash_short}
+use Rattle.laws_commands.proofs.common.Lists.{all_append}
 
 abbrev AllForms : List Tree → Type 0
 AllForms = AllByRecursion HasTextForm

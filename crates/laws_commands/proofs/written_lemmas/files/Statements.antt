@@ -10,18 +10,15 @@ use Rattle.rules_world.specs.world.Contents.{Originate, Call, Give}
 use Rattle.rules_files.specs.statements.Statements.{Statement, Chain, Profile, Costs, Account, Block, Group, ◌>>=◌, only_if, integer_of, number_of, moment_of, gas_of, ticket_amount_of, within, bytes_of, entrypoint_of, table_of, nodes_of, named, originate_of, call_of, give_of, action_by, content_by, each_content, contents_of, chain_of, profile_of, costs_of, account_of, block_of, group_of, statement_by, form}
 use Rattle.laws_commands.specs.written.Written.{HasForm, HaveForms, AreBytes}
 use Rattle.laws_commands.specs.written.Worlds.{IsWrittenAction, IsWrittenContent, IsWrittenStatement}
-use Rattle.laws_commands.proofs.written_lemmas.values.Lists.{bytes_from}
+use Rattle.laws_commands.proofs.written_lemmas.values.Bytes.{bytes_from}
+use Rattle.laws_commands.proofs.common.Lists.{OnSome}
 
-abbrev OnSome : {A : Type 0} → (A → Type 0) → Option A → Type 0
-OnSome P None = Unit {0}
-OnSome P (Some x) = P x
-
-then_has : {A B : Type 0} (Q : A → Type 0) (P : B → Type 0) (o : Option A) (f : A → Option B) → OnSome Q o →
+pub then_has : {A B : Type 0} (Q : A → Type 0) (P : B → Type 0) (o : Option A) (f : A → Option B) → OnSome Q o →
     ((x : A) → Q x → OnSome P (f x)) → OnSome P (o >>= f)
 then_has Q P None f h g = tt
 then_has Q P (Some x) f h g = g x h
 
-any_then : {A B : Type 0} (P : B → Type 0) (o : Option A) (f : A → Option B) → ((x : A) → OnSome P (f x)) → OnSome P (o >>= f)
+pub any_then : {A B : Type 0} (P : B → Type 0) (o : Option A) (f : A → Option B) → ((x : A) → OnSome P (f x)) → OnSome P (o >>= f)
 any_then P None f g = tt
 any_then P (Some x) f g = g x
 
@@ -29,7 +26,7 @@ if_has : {A : Type 0} (P : A → Type 0) (b : Bool) (x : A) → P x → OnSome P
 if_has P true x h = h
 if_has P false x h = tt
 
-either_has : {A : Type 0} (P : A → Type 0) (b : Bool) (o q : Option A) → OnSome P o → OnSome P q → OnSome P (if b then o else q)
+pub either_has : {A : Type 0} (P : A → Type 0) (b : Bool) (o q : Option A) → OnSome P o → OnSome P q → OnSome P (if b then o else q)
 either_has P true o q h g = h
 either_has P false o q h g = g
 
@@ -60,7 +57,7 @@ bytes_has test (seq ts) h = tt
 abs_within : (most : ℕ) (n : ℤ) → (int_le (pos 0) n && int_le n (pos most)) ≡ true → unsigned_abs n ≤ most
 abs_within most n h = grind arith
 
-number_has : (most : ℕ) (t : Tree) → OnSome (λ n. n ≤ most) (number_of most t)
+pub number_has : (most : ℕ) (t : Tree) → OnSome (λ n. n ≤ most) (number_of most t)
 number_has most t = by (integer_of t)
   where
     ranged : (n : ℤ) (b : Bool) → (int_le (pos 0) n && int_le n (pos most)) ≡ b → OnSome (λ m. m ≤ most) (option_map unsigned_abs (only_if b n))

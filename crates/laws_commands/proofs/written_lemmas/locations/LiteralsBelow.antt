@@ -9,8 +9,8 @@ use Rattle.rules_data.specs.types.Kind as k
 use Rattle.rules_data.specs.values.Val.{Val, Vals, no_val, more_vals, Pairs, no_pair, more_pairs}
 use Rattle.rules_data.specs.values.Val as v
 use Rattle.rules_data.specs.values.Literals.{Word, unit_word, true_word, false_word, none_word, some_word, left_word, right_word, pair_word, entry_word, recursive_word, other_word, word_of_name, Pending, body, claim, Literal, good, bad, with_pending, and_then, mapped, Reader, simple_value, on_value, option_named, read_option, or_named, read_or, read_parts, pair_named, parts_of, read_elements, read_list, is_behind, read_increasing, read_set, read_binding, entry_named, read_entry, read_entries, read_table, read_body, recursive_named, read_lambda, read_contract, read, read_rest}
-use Rattle.laws_commands.proofs.written_lemmas.values.Lists.{all_append}
 use Rattle.laws_commands.proofs.written_lemmas.locations.Below.{size_some}
+use Rattle.laws_commands.proofs.common.Lists.{all_append}
 
 abbrev pub PendingBelow : ℕ → Pending → Type 0
 PendingBelow n (body at a b recursive t) = at + size t ≤ n

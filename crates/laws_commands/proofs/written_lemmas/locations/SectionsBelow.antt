@@ -19,9 +19,9 @@ use Rattle.rules_code.specs.typing.Typing.{Typer}
 use Rattle.rules_code.specs.typing.Sections.{Section, Placed, Body, WrittenView, Content, parameter_section, storage_section, code_section, view_section, no_section, placed, a_body, view_content, content_of, content_at, Contents, no_contents, once, with_content, with_sections}
 use Rattle.rules_code.specs.typing.Sections as sections
 use Rattle.rules_code.specs.typing.Scripts.{of_parameter, parameter_of, typed_as, TypedView, typed_view, typed_views, Outline, of_parts, of_contents, outline_of, unless_fault, is_small, fault_of_body, code_fault, view_fault, a_view, with_views, a_script, with_bodies}
-use Rattle.laws_commands.proofs.written_lemmas.values.Lists.{all_append}
 use Rattle.laws_commands.proofs.written_lemmas.locations.Below.{FoundBelow, size_some, ReadingBelow, reading_below, type_below, then_below}
 use Rattle.laws_commands.proofs.written_lemmas.locations.TypingsBelow.{TyperBelow, FaultBelow, body_fault_below}
+use Rattle.laws_commands.proofs.common.Lists.{all_append, OnSome}
 
 -- what is found has P, and a fault is below
 abbrev pub FoundIs : {A : Type 0} → (A → Type 0) → ℕ → Found A → Type 0
@@ -165,14 +165,10 @@ ContentBelow n (code_section b) = BodyBelow n b
 ContentBelow n (view_section w) = WrittenBelow n w
 ContentBelow n no_section = Unit {0}
 
-abbrev OnPart : {A : Type 0} → (A → Type 0) → Option A → Type 0
-OnPart P None = Unit {0}
-OnPart P (Some x) = P x
-
 record ContentsBelow (n : ℕ) (c : Contents) : Type 0 where
-  parameter : OnPart (PlacedBelow n) c.parameter
-  storage : OnPart (PlacedBelow n) c.storage
-  code : OnPart (BodyBelow n) c.code
+  parameter : OnSome (PlacedBelow n) c.parameter
+  storage : OnSome (PlacedBelow n) c.storage
+  code : OnSome (BodyBelow n) c.code
   views : AllByRecursion (WrittenBelow n) c.views
 
 once_is : {A : Type 0} (n at : ℕ) (o : Option A) (c : Contents) → at < n → ContentsBelow n c → FoundIs (ContentsBelow n) n (once at o c)
@@ -281,8 +277,8 @@ views_typed n (w ∷ ws) h =
     then_is (AllByRecursion (TypedBelow n)) (AllByRecursion (TypedBelow n)) n (typed_views ws) (λ us. found (u ∷ us)) (views_typed n ws h.1)
     (λ us j. (i, j)))
 
-parts_below : (n at : ℕ) (a s : Option Placed) (b : Option Body) (ws : List WrittenView) → at < n → OnPart (PlacedBelow n) a →
-    OnPart (PlacedBelow n) s → OnPart (BodyBelow n) b →
+parts_below : (n at : ℕ) (a s : Option Placed) (b : Option Body) (ws : List WrittenView) → at < n → OnSome (PlacedBelow n) a →
+    OnSome (PlacedBelow n) s → OnSome (BodyBelow n) b →
     AllByRecursion (WrittenBelow n) ws → FoundIs (OutlineBelow n) n (of_parts at a s b ws)
 parts_below n at (Some a) (Some s) (Some b) ws l f g h i =
     then_is (λ e. Unit {0}) (OutlineBelow n) n (parameter_of a) _ (any_is n (parameter_of a) (entered_below n a f)) (λ e q.

@@ -20,8 +20,9 @@ use Rattle.mich_text.specs.Written.{IsNumber, IsString, IsBytes, IsName, IsAnnot
 use Rattle.mich_text.specs.Written as forms
 use Rattle.laws_commands.specs.written.Written.{HasForm, IsByte, AreBytes}
 use Rattle.laws_commands.proofs.written_lemmas.values.Levels.{closed}
-use Rattle.laws_commands.proofs.written_lemmas.values.Lists.{all_take, all_drop, bytes_tested}
+use Rattle.laws_commands.proofs.written_lemmas.values.Bytes.{bytes_tested}
 use Rattle.laws_commands.proofs.written_lemmas.values.Names.{coded_name}
+use Rattle.laws_commands.proofs.common.Lists.{all_take, all_drop}
 
 -- what is read has P, and bytes are left
 abbrev Gives : {A : Type 0} → (A → Type 0) → Result (A × Spot) Fault → Type 0

@@ -4,7 +4,7 @@ use mathlib.Core.Bool.{true≢false}
 use Rattle.std.specs.Prelude.{◌==◌, codes, ℤ, pos, negsuc, not}
 use Rattle.std.specs.List.{list_all}
 use Rattle.std.specs.Str.{bytes_eq}
-use Rattle.std.proofs.lemmas.Bool.{and_parts, leb-true, eqb-true}
+use Rattle.std.proofs.lemmas.Bool.{and_parts, leb-true, eqb-true, and_from}
 use Rattle.std.proofs.lemmas.Bool.Decides.{nat_tests}
 use Rattle.std.proofs.lemmas.Int.{ints}
 use Rattle.std.proofs.lemmas.List.{length-drop}
@@ -25,7 +25,7 @@ use Rattle.mich_text.specs.Written.{IsNumber, IsString, IsBytes, HasTextForm, Ha
 use Rattle.mich_text.specs.Written as forms
 use Rattle.laws_commands.specs.written.Written.{AreBytes, IsWritten, AreWritten, EntriesAreWritten}
 use Rattle.laws_commands.proofs.written_lemmas.values.Levels.{text_form}
-use Rattle.laws_commands.proofs.written_lemmas.values.Lists.{bytes_tested}
+use Rattle.laws_commands.proofs.written_lemmas.values.Bytes.{bytes_tested}
 use Rattle.laws_commands.proofs.written_lemmas.values.Values.{kind_form, truth_form, lambda_form, over_one_form, over_two_form}
 
 -- ---- numbers
@@ -51,15 +51,11 @@ ticket_is (negsuc n) h = grind (arith, ints)
 same_text : (c : ℕ) → is_text_byte c ≡ true → forms.is_text c ≡ true
 same_text c h = grind (arith, nat_tests)
 
-both : (a b : Bool) → a ≡ true → b ≡ true → (a && b) ≡ true
-both true b e g = g
-both false b e g = e
-
 all_text : (b : List ℕ) → list_all is_text_byte b ≡ true → list_all forms.is_text b ≡ true
 all_text [] h = refl
 all_text (c ∷ b) h =
     let hs = and_parts (is_text_byte c) (list_all is_text_byte b) h in
-    both (forms.is_text c) (list_all forms.is_text b) (same_text c hs.0) (all_text b hs.1)
+    and_from (forms.is_text c) (list_all forms.is_text b) (same_text c hs.0) (all_text b hs.1)
 
 pub string_is : (b : List ℕ) → is_text b ≡ true → IsString b
 string_is b h =
@@ -75,7 +71,7 @@ hash_short (tag ∷ hash) h =
     let long : length hash ≡ 20 = eqb-true (length hash) 20 (and_parts (nat_le tag 3) (length hash == 20) h).1 in
     omega (arith, long)
 
-key_short : (b : List ℕ) → is_key b ≡ true → length b ≤ byte_limit
+pub key_short : (b : List ℕ) → is_key b ≡ true → length b ≤ byte_limit
 key_short [] h = absurd cc
 key_short (tag ∷ body) h = by (tag == 0) (and_parts (nat_le tag 2) (length body == key_length tag) h).1
   where
@@ -83,7 +79,7 @@ key_short (tag ∷ body) h = by (tag == 0) (and_parts (nat_le tag 2) (length bod
     by true e = let long : length body ≡ 32 = eqb-true (length body) 32 e in omega (arith, long)
     by false e = let long : length body ≡ 33 = eqb-true (length body) 33 e in omega (arith, long)
 
-length_short : (b : List ℕ) (n : ℕ) → n ≤ byte_limit → (length b == n) ≡ true → length b ≤ byte_limit
+pub length_short : (b : List ℕ) (n : ℕ) → n ≤ byte_limit → (length b == n) ≡ true → length b ≤ byte_limit
 length_short b n less h = let long : length b ≡ n = eqb-true (length b) n h in omega (arith, long, less)
 
 entrypoint_short : (b : List ℕ) → is_written_entrypoint b ≡ true → length b ≤ 31

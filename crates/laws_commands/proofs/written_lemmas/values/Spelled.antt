@@ -20,9 +20,10 @@ use Rattle.rules_code.specs.steps.Packing.{packed}
 use Rattle.mich_text.specs.Written.{IsAnnotation, AreAnnotations, HasTextForm, HaveTextForms}
 use Rattle.laws_commands.proofs.written_lemmas.values.Levels.{text_form}
 use Rattle.laws_commands.specs.written.Written.{IsByte, AreBytes, IsWritten, AreWritten, EntriesAreWritten}
-use Rattle.laws_commands.proofs.written_lemmas.values.Lists.{all_append, all_take, high_first, low_first, bytes_from, text_bytes, all_test}
+use Rattle.laws_commands.proofs.written_lemmas.values.Bytes.{high_first, low_first, bytes_from, text_bytes}
 use Rattle.laws_commands.proofs.written_lemmas.values.Names.{code_small}
 use Rattle.laws_commands.proofs.written_lemmas.values.Values.{kind_form}
+use Rattle.laws_commands.proofs.common.Lists.{all_append, all_take, all_test}
 
 -- ---- hashes
 

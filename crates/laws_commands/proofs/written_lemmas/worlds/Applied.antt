@@ -50,12 +50,14 @@ use Rattle.laws_world.proofs.groups_lemmas.Taken.{IsTaken}
 use Rattle.mich_text.specs.Written.{IsBytes, HasTextForm}
 use Rattle.laws_commands.specs.written.Written.{HasForm, IsByte, AreBytes, IsWritten, IsWrittenChange, IsWrittenFailure, IsWrittenOperation}
 use Rattle.laws_commands.specs.written.Worlds.{IsWrittenWaiting, IsWrittenEffect, IsWrittenWorld}
-use Rattle.laws_commands.proofs.written_lemmas.values.Lists.{all_append, all_take, all_drop, all_map, bytes_tested, implicit_bytes, contract_bytes, contract_short}
-use Rattle.laws_commands.proofs.written_lemmas.values.Literals.{Gives, reads}
+use Rattle.laws_commands.proofs.written_lemmas.values.Bytes.{bytes_tested, implicit_bytes, contract_bytes, contract_short}
+use Rattle.laws_commands.proofs.common.Readings.{Gives}
+use Rattle.laws_commands.proofs.written_lemmas.values.Literals.{reads}
 use Rattle.laws_commands.proofs.written_lemmas.values.Fitting.{fits_form}
 use Rattle.laws_commands.proofs.written_lemmas.evaluation.Given.{spelled_bytes}
 use Rattle.laws_commands.proofs.written_lemmas.worlds.Worlds.{moved_written, credited_written, paid_written, burnt_written, burnt_contracts, PaysFor, pays_for}
 use Rattle.laws_commands.proofs.written_lemmas.worlds.Runs.{EndsWritten, run_written}
+use Rattle.laws_commands.proofs.common.Lists.{all_append, all_take, all_drop, all_map}
 
 abbrev pub Leaves : Outcome → Type 0
 Leaves (applied a) = IsWrittenWorld a.world × AllByRecursion IsWrittenWaiting a.emitted × AllByRecursion IsWrittenEffect a.effects

@@ -1,9 +1,10 @@
 -- Groups of operations.
-use Rattle.std.proofs.Common.{◌≡◌, ◌≤◌, ◌+◌, ◌-◌, ℕ, zero, suc, pos, Bool, true, false, ◌||◌, Option, Some, None, List, [], ◌∷◌, ◌++◌, map, length, refl, subst, arith}
+use Rattle.std.proofs.Common.{◌≡◌, ◌≤◌, ◌+◌, ◌-◌, ℕ, zero, suc, pos, Bool, true, false, Option, Some, None, List, [], ◌∷◌, ◌++◌, map, length, refl, subst, arith}
 use Rattle.std.specs.Prelude.{ℤ, ◌≤ℤ◌, int_lt, nat_lt, not, is_some, unsigned_abs, if◌then◌else◌}
 use Rattle.std.specs.List.{All, AllByRecursion, list_any}
 use Rattle.std.proofs.lemmas.Int.{ints}
 use Rattle.std.proofs.lemmas.List.Elements.{All-head, All-tail}
+use Rattle.std.proofs.lemmas.Bool.{or_parts}
 use Rattle.rules_text.specs.nodes.Limits.{most_gas}
 use Rattle.rules_data.specs.forms.Spelling.{implicit_place}
 use Rattle.rules_data.specs.gas.Prices.{Listed}
@@ -21,10 +22,11 @@ use Rattle.laws_world.specs.runs.Going.{IsSetting, IsGoing, KeepsGoing}
 use Rattle.laws_world.proofs.groups_lemmas.ForCallers.{KeepsWalk, apply_keeps, begins, tree_keeps, fees_going, fees_there, setting}
 use Rattle.laws_commands.specs.written.Written.{AreBytes, IsWrittenFailure}
 use Rattle.laws_commands.specs.written.Worlds.{IsWrittenWorld, IsWrittenContent, IsWrittenWaiting, IsWrittenEffect, IsWrittenStatus, IsWrittenReceipt}
-use Rattle.laws_commands.proofs.written_lemmas.values.Lists.{all_append, implicit_bytes}
+use Rattle.laws_commands.proofs.written_lemmas.values.Bytes.{implicit_bytes}
 use Rattle.laws_commands.proofs.written_lemmas.worlds.Worlds.{fee_written}
 use Rattle.laws_commands.proofs.written_lemmas.worlds.Applied.{Leaves}
 use Rattle.laws_commands.proofs.written_lemmas.worlds.Operations.{leaves_apply}
+use Rattle.laws_commands.proofs.common.Lists.{all_append}
 
 -- ---- trees
 
@@ -55,15 +57,11 @@ skipped_written [] = tt
 skipped_written (c ∷ cs) = (tt, skipped_written cs)
 
 -- a content that isn't over the limit of gas
-few_gas : (c : Content) → pos 0 ≤ℤ c.gas → is_over_gas c ≡ false → unsigned_abs c.gas ≤ most_gas
+pub few_gas : (c : Content) → pos 0 ≤ℤ c.gas → is_over_gas c ≡ false → unsigned_abs c.gas ≤ most_gas
 few_gas c h e = by c.gas h e
   where
     by : (n : ℤ) → pos 0 ≤ℤ n → int_lt (pos most_gas) n ≡ false → unsigned_abs n ≤ most_gas
     by n h e = omega (arith, ints, h, e)
-
-or_false : (a b : Bool) → (a || b) ≡ false → (a ≡ false) × (b ≡ false)
-or_false true b e = absurd cc
-or_false false b e = (refl, e)
 
 module _ (start : World) (s : Setting) (set : IsSetting s) (source : AreBytes s.source) where
   module _ (contents : ℕ) (few : contents ≤ 1000) where
@@ -107,7 +105,7 @@ module _ (start : World) (s : Setting) (set : IsSetting s) (source : AreBytes s.
   turn_written [] contents w counts few all form over h g = (h, tt)
   turn_written (c ∷ cs) contents w counts few all form over h g =
       let less : suc contents ≤ 1000 = omega arith in
-      let no = or_false (is_over_gas c) (list_any is_over_gas cs) over in
+      let no = or_parts (is_over_gas c) (list_any is_over_gas cs) over in
       let content = All-head IsContent c cs all in
       let going = begins start s set contents w c.action counts content.2 g in
       after_tree (suc contents) less (unsigned_abs c.gas) (tree s w (ordered c.action ∷ []) (unsigned_abs c.gas) counts) cs (in_turn s cs)
@@ -127,7 +125,7 @@ settled_is w (all_applied x ss) i h = h
 settled_is w (one_failed ss) i h = (i, h)
 settled_is w stuck_turn i h = tt
 
-within_gas : (w : World) (source : List ℕ) (cs : List Content) → refusal_of w source cs ≡ None → list_any is_over_gas cs ≡ false
+pub within_gas : (w : World) (source : List ℕ) (cs : List Content) → refusal_of w source cs ≡ None → list_any is_over_gas cs ≡ false
 within_gas w source cs e =
     by (not (is_some (account_at w source))) (list_any is_over_gas cs) (nat_lt (balance_or_none w (implicit_place source)) (all_fees cs))
     refl e

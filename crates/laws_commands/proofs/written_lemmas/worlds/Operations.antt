@@ -50,9 +50,10 @@ use Rattle.laws_world.proofs.groups_lemmas.ForCallers.{IsReceived, account_chang
 use Rattle.mich_text.specs.Written.{IsBytes, HasTextForm}
 use Rattle.laws_commands.specs.written.Written.{HasForm, IsByte, AreBytes, IsWritten, IsWrittenChange}
 use Rattle.laws_commands.specs.written.Worlds.{IsMade, IsWrittenWaiting, IsWrittenEffect, IsWrittenWorld}
-use Rattle.laws_commands.proofs.written_lemmas.values.Lists.{all_take, all_drop, bytes_tested, implicit_bytes, contract_bytes, contract_short}
+use Rattle.laws_commands.proofs.written_lemmas.values.Bytes.{bytes_tested, implicit_bytes, contract_bytes, contract_short}
 use Rattle.laws_commands.proofs.written_lemmas.values.Values.{kind_form}
-use Rattle.laws_commands.proofs.written_lemmas.values.Literals.{Gives, reads}
+use Rattle.laws_commands.proofs.common.Readings.{Gives}
+use Rattle.laws_commands.proofs.written_lemmas.values.Literals.{reads}
 use Rattle.laws_commands.proofs.written_lemmas.values.Fitting.{fits_form}
 use Rattle.laws_commands.proofs.written_lemmas.evaluation.Tags.{name_bytes}
 use Rattle.laws_commands.proofs.written_lemmas.evaluation.Given.{new_bytes}
@@ -61,6 +62,7 @@ use Rattle.laws_commands.proofs.written_lemmas.worlds.Worlds.{contract_written, 
 use Rattle.laws_commands.proofs.written_lemmas.locations.Located.{IsLocated, literal_located, script_located}
 use Rattle.laws_commands.proofs.written_lemmas.worlds.Applied.{Leaves, leaves_charged, place_is, spelled_is, taken_short, named_short, entry_short, hash_bytes, FoundIs, literal_written, unit_taken, MissedIs, missed_is, leaves_growing, leaves_run, leaves_to_account, leaves_to_contract, IsHanded}
 use Rattle.rules_code.specs.steps.Failure.{no_entrypoint}
+use Rattle.laws_commands.proofs.common.Lists.{all_take, all_drop}
 
 -- ---- a ticket goes from its source
 

@@ -23,7 +23,6 @@ use Rattle.laws_code.specs.evaluation.Laws.{IsType}
 use Rattle.laws_world.proofs.runs.ForCallers.{script_code, IsMet, is_met, orderly, stands, contract_stores}
 use Rattle.laws_commands.specs.written.Written.{HasIssuer, AreBytes, IsWritten, AllWritten, IsWrittenTicket, IsWrittenChange, IsWrittenFailure, IsWrittenContract, IsWrittenOperation, IsWrittenTally, IsWrittenEnvironment}
 use Rattle.laws_commands.specs.written.Worlds.{IsThere, IsMade, IsWrittenWorld}
-use Rattle.laws_commands.proofs.written_lemmas.values.Lists.{all_append, all_flat}
 use Rattle.laws_commands.proofs.written_lemmas.values.Steps.{tickets_written, burns_written}
 use Rattle.laws_commands.proofs.written_lemmas.evaluation.Issuers.{burns_issued, issuers_more}
 use Rattle.laws_commands.proofs.written_lemmas.evaluation.Scripts.{code_written}
@@ -31,6 +30,7 @@ use Rattle.laws_commands.proofs.written_lemmas.evaluation.Stands.{Keeps, Begins,
 use Rattle.laws_commands.proofs.written_lemmas.evaluation.Calls.{leads_typed}
 use Rattle.laws_commands.proofs.written_lemmas.evaluation.Evaluation.{keeps_eval, safe_run}
 use Rattle.laws_commands.proofs.written_lemmas.worlds.Worlds.{contract_is, contract_written, hash_made, there_more}
+use Rattle.laws_commands.proofs.common.Lists.{all_append, all_flat}
 
 -- ---- how it ends
 

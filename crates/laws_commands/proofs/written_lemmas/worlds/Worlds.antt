@@ -24,8 +24,8 @@ use Rattle.laws_world.proofs.runs.Worlds.{set_at}
 use Rattle.laws_world.proofs.runs.ForCallers.{found_same}
 use Rattle.laws_commands.specs.written.Written.{IsByte, AreBytes, IsWrittenIdentity, IsWrittenTicket, IsWrittenContract}
 use Rattle.laws_commands.specs.written.Worlds.{IsThere, IsMade, IsWrittenAccount, IsWrittenAt, IsWrittenWorld}
-use Rattle.laws_commands.proofs.written_lemmas.values.Lists.{all_take, all_drop}
 use Rattle.laws_commands.proofs.written_lemmas.evaluation.Issuers.{issuers_more}
+use Rattle.laws_commands.proofs.common.Lists.{all_take, all_drop}
 
 -- ---- entries
 
