@@ -14,8 +14,9 @@ ghost use Rattle.mich_step.specs.Parts.{ArePartsOnTop, IsPair, IsPart, IsReplace
 use mich_base::{Link, Memory, Rows};
 use mich_overload::PairRow;
 use mich_stack::{StepError, nothing, pop, push};
-use mich_term::{Burner, Value, discard};
+use mich_term::{Burner, Value, discard, shadow};
 use std::alloc::Global;
+use std::mem;
 
 // Takes the comb of a value and the next so many.
 fn take_comb(
@@ -142,30 +143,34 @@ fn get_part(alloc: Global, place: u32, stack: &mut Rows<Value>) -> Result<Value,
     Ok(left)
 }
 
-// A comb with another part in a place, and the part that stood there.
+// Puts another part in a place of a comb, and gives the part that stood there.
 #[tactic(auto, using(crate::proofs::Combs::replaced_there, crate::proofs::Combs::replaced_is))]
 fn replace_part(
     alloc: Global,
-    comb: Value,
+    comb: &mut Value,
     place: u32,
     new: Value,
-) -> Result<(Value, Value), Memory>
-    requires { (big : Sight) × (is_some (replaced place (seen big new) (seen big comb)) ≡ true) }
-    ensures { IfOk result (λ p. (big : Sight) → IsReplaced (replaced place (seen big new) (seen big comb)) (seen big p.0) (seen big p.1)) }
+) -> Result<Value, Memory>
+    requires { (big : Sight) × (is_some (replaced place (seen big new) (seen big comb.old)) ≡ true) }
+    ensures { IfOk result (λ old. (big : Sight) → IsReplaced (replaced place (seen big new) (seen big comb.old)) (seen big comb.new) (seen big old)) }
 {
     if place == 0 {
-        return Ok((new, comb));
+        return Ok(mem::replace(comb, new));
     }
-    let (first, second) = split_pair(comb)?;
-    let Some(further) = place.checked_sub(2) else {
-        let new = Link::new(alloc, new)?;
-        let second = Link::new(alloc, second)?;
-        return Ok((Value::Pair(new, second), first));
+    let Value::Pair(first, second) = comb else {
+        unreachable!()
     };
-    let (rest, old) = replace_part(alloc, second, further, new)?;
-    let first = Link::new(alloc, first)?;
-    let rest = Link::new(alloc, rest)?;
-    Ok((Value::Pair(first, rest), old))
+    let Some(further) = place.checked_sub(2) else {
+        let old = mem::replace(first, Link::new(alloc, new)?);
+        return old.into_value();
+    };
+    if let Some(rest) = second.get_mut() {
+        return replace_part(alloc, rest, further, new);
+    }
+    let mut rest = shadow(alloc, second.get())?;
+    let old = replace_part(alloc, &mut rest, further, new)?;
+    *second = Link::new(alloc, rest)?;
+    Ok(old)
 }
 
 fn update_part(alloc: Global, place: u32, stack: &mut Rows<Value>) -> Result<Value, StepError>
@@ -175,10 +180,10 @@ fn update_part(alloc: Global, place: u32, stack: &mut Rows<Value>) -> Result<Val
     let Some(new) = pop(stack) else {
         unreachable!()
     };
-    let Some(whole) = pop(stack) else {
+    let Some(mut comb) = pop(stack) else {
         unreachable!()
     };
-    let (comb, old) = replace_part(alloc, whole, place, new)?;
+    let old = replace_part(alloc, &mut comb, place, new)?;
     push(stack, comb)?;
     Ok(old)
 }
