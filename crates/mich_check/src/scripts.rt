@@ -17,7 +17,7 @@ ghost use Rattle.mich_check.specs.Scripts.{AreTypedViews, IsScriptCode, IsTyped,
 use crate::creating::{origination, stack_behind};
 use crate::ends::{Ends, code_ends, view_ends};
 use crate::nodes::check_body;
-use mich_base::{App, Memory, Node, Rows, Shared, Ty, copy_node, copy_type};
+use mich_base::{App, Memory, Named, Node, Rows, Shared, Ty, copy_node, copy_type};
 use mich_control::{CheckError, Made, Place, ends_in, is_view, only};
 use mich_instr::{Block, Instr, Script, ViewCode};
 use mich_outline::{Outline, Placed, TypingError, View, read_outline};
@@ -41,7 +41,7 @@ fn script_of(
     node: &Node,
     outline: Outline<'_>,
     code: Block,
-    views: Rows<ViewCode>,
+    views: Named<ViewCode>,
 ) -> Result<Script, Memory>
     ensures { IfOk result (λ s. script_code s ≡ script_made (tree node.now) (outline_of outline.entry) (codes code) (view_codes views)) }
 {
@@ -59,11 +59,9 @@ fn script_of(
 fn view_with(alloc: Global, view: &View<'_>, code: Block) -> Result<ViewCode, Memory>
     ensures { IfOk result (λ v. view_code v ≡ view_made (view_of view.now) (codes code)) }
 {
-    let name = view.name.copy(alloc)?;
     let input = copy_type(alloc, &view.input)?;
     let output = copy_type(alloc, &view.output)?;
     Ok(ViewCode {
-        name,
         input,
         output,
         code,
@@ -113,13 +111,13 @@ fn check_views(
     alloc: Global,
     storage: &Ty,
     views: &Rows<View<'_>>,
-) -> Result<Rows<ViewCode>, CheckError>
+) -> Result<Named<ViewCode>, CheckError>
     ensures { AreTypedViews (kind storage.now) (map view_of views.now) result }
 {
-    let mut typed = Rows::new(alloc);
+    let mut typed = Named::new(alloc);
     for view in views.as_slice() {
         let code = check_view(alloc, storage, view)?;
-        typed.push(code)?;
+        typed.push(alloc, view.name.copy(alloc)?, code)?;
     }
     Ok(typed)
 }

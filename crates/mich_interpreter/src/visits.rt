@@ -3,16 +3,15 @@ ghost use Rattle.std.specs.Prelude.{◌≡◌, IfOk, option_map};
 ghost use Rattle.rules_data.specs.forms.Spelling.{contract_place, implicit_place, spelled_address};
 ghost use Rattle.mich_base.specs.TypeView.{kind};
 ghost use Rattle.mich_forms.specs.Spelled.{address_bytes};
-ghost use Rattle.mich_frames.specs.Views.{code_named, view_code};
-ghost use Rattle.mich_instr.specs.View as of;
+ghost use Rattle.mich_frames.specs.Views.{view_code};
 ghost use Rattle.mich_instr.specs.View.{codes, view_codes};
 ghost use Rattle.mich_instr.specs.declared.instr.Script.{out-Script};
 ghost use Rattle.mich_interpreter.specs.View.{Beyond};
 ghost use Rattle.mich_interpreter.specs.Visits.{HasCode, Finds, FindsIn};
 
-use mich_base::{Memory, Rows, Text, Ty};
+use mich_base::{Memory, Text, Ty};
 use mich_forms::{Address, Entrypoint, KeyHash, Place};
-use mich_instr::{Block, Script, ViewCode};
+use mich_instr::{Block, Script};
 use mich_overload::same_kind;
 use mich_term::{Value, shadow};
 use mich_world::{Contract, World};
@@ -27,18 +26,6 @@ pub(crate) struct Visit {
     pub(crate) storage: Value,
 }
 
-// The first view of a name.
-fn named_view<'a>(views: &'a Rows<ViewCode>, name: &Text) -> Option<&'a ViewCode>
-    ensures { option_map (λ v. of.view_code v.now) result ≡ code_named name.now (view_codes views.now) }
-{
-    for candidate in views.as_slice() {
-        if candidate.name.as_slice() == name.as_slice() {
-            return Some(candidate);
-        }
-    }
-    None
-}
-
 // The code of the view of a name, where it has these types of input and output.
 fn code_of_view(
     script: &Script,
@@ -48,7 +35,7 @@ fn code_of_view(
 ) -> Result<Option<Block>, Memory>
     ensures { IfOk result (λ o. option_map codes o ≡ view_code name.now (kind input.now) (kind output.now) (view_codes (out-Script script.now).views)) }
 {
-    let Some(view) = named_view(&script.views, name) else {
+    let Some(view) = script.views.first(name) else {
         return Ok(None);
     };
     if same_kind(&view.input, input) && same_kind(&view.output, output) {
