@@ -48,13 +48,12 @@ pub(crate) fn copy_ids(alloc: Global, ids: &Rows<TicketId>) -> Result<Rows<Ticke
 fn copy_lines(alloc: Global, lines: &Lines) -> Result<Lines, Memory>
     ensures { IfOk result (λ copies. copies.entries ≡ lines.now.entries) }
 {
-    let mut copies = BTreeMap::new(alloc);
+    let mut copies = Vec::with_capacity(alloc, lines.len())?;
     for (id, line) in lines.iter() {
         let key = copy_id(alloc, id)?;
-        let copy = copy_line(alloc, line)?;
-        copies.insert(key, copy)?;
+        copies.push((key, copy_line(alloc, line)?))?;
     }
-    Ok(copies)
+    Ok(BTreeMap::from_iter(alloc, copies)?)
 }
 
 fn copy_line(alloc: Global, line: &Line) -> Result<Line, Memory>
