@@ -26,11 +26,10 @@ use crate::literals::read_literal;
 use crate::scripts::check_create;
 use mich_base::{App, Memory, Node, Nodes, Rows, Shared, Ty, copy_node, copy_type};
 use mich_control::{
-    Body, Branch, CheckError, Form, Loop, MOST_TAKEN, Made, Place, apart, begun, behind_loop,
-    branch_instr, over, reach,
+    Body, Branch, CheckError, Form, Loop, Made, Place, apart, begun, behind_loop, branch_instr,
     branch_stacks, call_types, check_bodiless, check_self, check_straight, check_transfer, counted,
     dip_parts, dipped, ends_in, form_of_name, joined, lambda_made, loop_instr, loop_stacks,
-    map_stacks, mapped, only, push_made, read_arrow, split_stack, type_with,
+    map_stacks, mapped, needed, only, over, push_made, read_arrow, split_stack, type_with,
 };
 use mich_data::Pending;
 use mich_instr::{Block, Instr};
@@ -179,8 +178,8 @@ fn check_branch(
     ensures typed { IsInstrAt at (context place.entry) (prim app.now.name app.now.annots (trees app.now.args)) (kinds types) result }
     ensures ends { IfOk result (λ _. end.new ≡ at + (sizes (trees app.now.args) + 1)) }
 {
-    let needed = reach(&app.args, types.len()).saturating_add(MOST_TAKEN);
-    let (aside, upper) = apart(types, needed)?;
+    let count = needed(&app.args, &types);
+    let (aside, upper) = apart(types, count)?;
     let made = check_branch_on(alloc, branch, app, at, place, upper, end)?;
     let after = over(aside, made.after)?;
     Ok(Made {
@@ -234,8 +233,8 @@ fn check_loop(
     ensures typed { IsInstrAt at (context place.entry) (prim app.now.name app.now.annots (trees app.now.args)) (kinds types) result }
     ensures ends { IfOk result (λ _. end.new ≡ at + (sizes (trees app.now.args) + 1)) }
 {
-    let needed = reach(&app.args, types.len()).saturating_add(MOST_TAKEN);
-    let (aside, upper) = apart(types, needed)?;
+    let count = needed(&app.args, &types);
+    let (aside, upper) = apart(types, count)?;
     let made = check_loop_on(alloc, turns, app, at, place, upper, end)?;
     let after = over(aside, made.after)?;
     Ok(Made {
@@ -300,6 +299,30 @@ fn check_dip(
 
 #[cycle(check)]
 fn check_map(
+    alloc: Global,
+    app: &App,
+    at: u32,
+    place: Place<'_>,
+    types: Rows<Ty>,
+    end: &mut u32,
+) -> Result<Made, CheckError>
+    requires fits { at + sizes (trees app.now.args) + 1 < 2 ^ 32 }
+    requires form { form_of (primitive_of_name app.now.name) ≡ f.map }
+    ensures typed { IsInstrAt at (context place.entry) (prim app.now.name app.now.annots (trees app.now.args)) (kinds types) result }
+    ensures ends { IfOk result (λ _. end.new ≡ at + (sizes (trees app.now.args) + 1)) }
+{
+    let count = needed(&app.args, &types);
+    let (aside, upper) = apart(types, count)?;
+    let made = check_map_on(alloc, app, at, place, upper, end)?;
+    let after = over(aside, made.after)?;
+    Ok(Made {
+        instr: made.instr,
+        after,
+    })
+}
+
+#[cycle(check)]
+fn check_map_on(
     alloc: Global,
     app: &App,
     at: u32,

@@ -7,15 +7,21 @@ ghost use Rattle.mich_control.specs.Answers.{typing};
 use crate::stacks::stacked;
 use mich_base::{Memory, Node, Nodes, Primitive, Rows, Ty, primitive_of_name};
 
-/// How many types an instruction comes to, at most, beside those that its numbers count.
-pub const MOST_TAKEN: usize = 4;
+// How many types an instruction comes to, at most, beside those that its numbers count.
+const MOST_TAKEN: usize = 4;
 
 // How many types have to be left over, so that it pays to put them aside.
 const LEAST_ASIDE: usize = 32;
 
-/// So many types on top that the code of these nodes can't come to what is below them, or `most`.
+/// How many types the code of an instruction with these arguments comes to, at most; so many as to leave none over where it is more.
+/// It goes through no more nodes than the stack has types.
+pub fn needed(args: &Nodes, types: &Rows<Ty>) -> usize {
+    reach(args, types.len().saturating_sub(LEAST_ASIDE)).saturating_add(MOST_TAKEN)
+}
+
+// So many types on top that the code of these nodes can't come to what is below them, or `most`. Each node counts as one at least.
 #[cycle(reach)]
-pub fn reach(nodes: &Nodes, most: usize) -> usize
+fn reach(nodes: &Nodes, most: usize) -> usize
     ensures { result ≤ most }
 {
     let mut sum = 0;
@@ -34,11 +40,14 @@ fn reach_of(node: &Node, most: usize) -> usize
 {
     match node {
         Node::Int(number) => match usize::try_from(*number) {
-            Ok(count) => count.min(most),
+            Ok(count) => count.max(1).min(most),
             Err(_) => most,
         },
-        Node::Str(_) | Node::Bytes(_) => 0,
-        Node::Seq(nodes) => reach(nodes, most),
+        Node::Str(_) | Node::Bytes(_) => most.min(1),
+        Node::Seq(nodes) => {
+            let one = most.min(1);
+            one + reach(nodes, most - one)
+        }
         Node::Prim(app) => {
             let taken = MOST_TAKEN.min(most);
             match primitive_of_name(&app.name) {

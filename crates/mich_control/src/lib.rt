@@ -23,7 +23,7 @@ mod shapes;
 mod stacks;
 
 pub use arrows::{Arrow, Written, begun, call_types, lambda_made, read_arrow};
-pub use aside::{MOST_TAKEN, apart, over, reach};
+pub use aside::{apart, needed, over};
 pub use dips::{Count, Dip, counted, dip_parts, dipped, split_stack};
 pub use error::CheckError;
 pub use form::{Bodiless, Branch, Form, Loop, form_of_name};
