@@ -6,8 +6,8 @@ ghost use Rattle.mich_base.specs.View.{tree};
 ghost use Rattle.mich_ops.specs.View.{effect};
 
 use crate::changes::changes_node;
-use crate::parts::{address_node, number_node, place_node};
 use crate::line::put;
+use crate::parts::{address_node, number_node, place_node};
 use mich_base::{Memory, Node, Nodes, Rows, copy_node};
 use mich_data::value_node;
 use mich_ops::Effect;

@@ -49,11 +49,7 @@ fn put_status(alloc: Global, line: &mut Vec<u8>, found: &Status) -> Result<(), M
     }
 }
 
-fn put_statuses(
-    alloc: Global,
-    line: &mut Vec<u8>,
-    statuses: &Rows<Status>,
-) -> Result<(), Memory>
+fn put_statuses(alloc: Global, line: &mut Vec<u8>, statuses: &Rows<Status>) -> Result<(), Memory>
     ensures { OnOk result (line.new.items ≡ line.old.items ++ printed (sequence (map told_status_node (map status statuses.now)))) }
 {
     if statuses.is_empty() {

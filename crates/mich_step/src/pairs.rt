@@ -145,12 +145,7 @@ fn get_part(alloc: Global, place: u32, stack: &mut Rows<Value>) -> Result<Value,
 
 // Puts another part in a place of a comb, and gives the part that stood there.
 #[tactic(auto, using(crate::proofs::Combs::replaced_there, crate::proofs::Combs::replaced_is))]
-fn replace_part(
-    alloc: Global,
-    comb: &mut Value,
-    place: u32,
-    new: Value,
-) -> Result<Value, Memory>
+fn replace_part(alloc: Global, comb: &mut Value, place: u32, new: Value) -> Result<Value, Memory>
     requires { (big : Sight) × (is_some (replaced place (seen big new) (seen big comb.old)) ≡ true) }
     ensures { IfOk result (λ old. (big : Sight) → IsReplaced (replaced place (seen big new) (seen big comb.old)) (seen big comb.new) (seen big old)) }
 {
