@@ -4,7 +4,8 @@ ghost use Rattle.rules_text.specs.nodes.Tree.{Tree};
 ghost use Rattle.mich_instr.specs.Code as made;
 ghost use Rattle.mich_overload.specs.View.{straight};
 ghost use Rattle.mich_overload.specs.Steps.{in_step};
-ghost use Rattle.mich_stack.specs.Views.{Sight, failure as step_failure};
+ghost use Rattle.rules_code.specs.steps.Step.{Step, fails};
+ghost use Rattle.mich_stack.specs.Views.{Sight, HasFailed};
 ghost use Rattle.mich_interpreter.specs.Ends.{Comes, Carries, ComesIn, CarriesIn, Spends, KeepsAct, failure};
 
 use crate::act::{Act, Failed};
@@ -17,21 +18,22 @@ use mich_base::Memory;
 use mich_check::cache::Bodies;
 use mich_gas::Costs;
 use mich_overload::Simple;
-use mich_stack::{StepError, StepFailure};
+use mich_stack::StepError;
 use mich_step::prices::{price, weigh};
 use mich_step::step;
 use mich_world::World;
 use std::alloc::Global;
 
 // The failure of a run by that of an instruction.
-pub(crate) fn failed(why: StepFailure) -> Failed
-    ensures { (big : Sight) → failure big result ≡ step_failure why }
+pub(crate) fn failed(why: StepError) -> Result<Failed, Memory>
+    ensures { IfOk result (λ f. (big : Sight) (s : Step) → HasFailed s why → s ≡ fails (failure big f)) }
 {
     match why {
-        StepFailure::IntegerLimit => Failed::IntegerLimit,
-        StepFailure::MutezOverflow => Failed::MutezOverflow,
-        StepFailure::ShiftLimit => Failed::ShiftLimit,
-        StepFailure::SizeLimit => Failed::SizeLimit,
+        StepError::IntegerLimit => Ok(Failed::IntegerLimit),
+        StepError::MutezOverflow => Ok(Failed::MutezOverflow),
+        StepError::ShiftLimit => Ok(Failed::ShiftLimit),
+        StepError::SizeLimit => Ok(Failed::SizeLimit),
+        StepError::Memory => Err(Memory),
     }
 }
 
@@ -49,8 +51,10 @@ fn act_step(alloc: Global, m: &mut State, costs: &Costs, instr: &Simple) -> Resu
     }
     match step(alloc, instr, &mut m.stack, &mut m.ledger, &m.env) {
         Ok(()) => Ok(Act::On),
-        Err(StepError::Failed(why)) => Ok(Act::Failed(failed(why))),
-        Err(StepError::Memory) => Err(Memory),
+        Err(why) => {
+            let why = failed(why)?;
+            Ok(Act::Failed(why))
+        }
     }
 }
 

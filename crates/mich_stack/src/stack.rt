@@ -53,8 +53,13 @@ pub fn pop(stack: &mut Rows<Value>) -> Option<Value>
 pub fn put(stack: &mut Rows<Value>, taken: usize, value: Value) -> Result<(), Memory>
     ensures { IfOk result (λ _. (big : Sight) → values big stack.new ≡ seen big value ∷ drop taken (values big stack.old)) }
 {
-    take_off(stack, taken);
-    push(stack, value)?;
+    let len = stack.len();
+    if taken == 0 || len < taken {
+        take_off(stack, taken);
+        return push(stack, value);
+    }
+    stack.truncate(len + 1 - taken);
+    stack.set(len - taken, value);
     Ok(())
 }
 
