@@ -12,22 +12,23 @@ ghost use Rattle.mich_interpreter.specs.Runs.{StaysIn, StaysBehind, StaysBehindA
 
 use crate::act::{Act, Failed, View};
 use crate::applying::act_apply;
-use crate::branches::{act_if, act_if_cons, act_if_left, act_if_none};
+use crate::branches::{act_if_cons, act_if_left, act_if_none};
 use crate::callers::{enter, go_back, go_home};
 use crate::calls::{act_exec, act_failwith, act_never};
 use crate::creating::act_create;
 use crate::dipping::act_dip;
 use crate::frame::Frame;
-use crate::giving::{act_lambda, act_push, act_self};
+use crate::giving::{act_lambda, act_self, go_push};
+use crate::paying::pay;
 use crate::iterating::{act_iter, next_each};
 use crate::loops::{Turn, act_loop, act_loop_left, further_turn, next_left_turn, next_turn};
 use crate::mapping::{act_map, next_made};
-use crate::stack::{put_all, put_below};
+use crate::stack::{pop_truth, put_all, put_below};
 use crate::state::State;
-use crate::straights::act_straight;
+use crate::straights::{Went, act_straight, go_straight, stopped};
 use mich_base::{BLOCK_LIMIT, Boxed, Memory, Rows};
 use mich_check::cache::Bodies;
-use mich_gas::Costs;
+use mich_gas::{Costs, Kind};
 use mich_instr::{Block, Instr};
 use mich_world::World;
 use std::alloc::Global;
@@ -79,7 +80,6 @@ fn perform(
     ensures keeps { IfOk result (λ a. KeepsAct a m.old m.new) }
 {
     match instr {
-        Instr::If(first, second) => Ok(act_if(m, costs, first, second)?),
         Instr::IfNone(first, second) => Ok(act_if_none(m, costs, first, second)?),
         Instr::IfLeft(first, second) => Ok(act_if_left(m, costs, first, second)?),
         Instr::IfCons(first, second) => Ok(act_if_cons(alloc, m, costs, first, second)?),
@@ -104,16 +104,10 @@ fn perform(
             ..
         } => Ok(act_lambda(alloc, m, costs, *recursive, arg, ret, body, code)?),
         Instr::Never => Ok(act_never(m, costs)?),
-        Instr::Push {
-            ty,
-            literal,
-            lambdas,
-            ..
-        } => Ok(act_push(alloc, m, costs, ty, literal, lambdas)?),
         Instr::SelfContract { entrypoint, .. } => Ok(act_self(alloc, m, costs, entrypoint)?),
         Instr::Straight(simple, _) => Ok(act_straight(alloc, m, costs, world, bodies, simple)?),
         Instr::CreateContract(script) => Ok(act_create(alloc, m, costs, script)?),
-        Instr::Seq(_) => unreachable!(),
+        Instr::Seq(_) | Instr::If(_, _) | Instr::Push { .. } => unreachable!(),
     }
 }
 
@@ -272,6 +266,20 @@ fn leave(alloc: Global, m: &mut Machine, costs: &Costs) -> Result<Step, Memory>
     }
 }
 
+// What an instruction that opens nothing comes to in the block that runs.
+#[inline(always)]
+fn ended(went: Went) -> Result<Step, Memory>
+    ensures { result ≡ step_of went }
+{
+    match went {
+        Went::On => Ok(Step::Paid),
+        other => {
+            let why = stopped(other)?;
+            Ok(Step::Failed(why))
+        }
+    }
+}
+
 // The next instruction of the block, at a place within it.
 #[tactic(auto, using(crate::proofs::Keeping::same_keeps, crate::proofs::Keeping::keeps_state, crate::proofs::Keeping::keeps_on))]
 fn advance_inside(
@@ -295,6 +303,38 @@ fn advance_inside(
         let begun = begin_inside(m, None, inner)?;
         if begun {
             Ok(Step::Free)
+        } else {
+            Ok(Step::Failed(Failed::DepthLimit))
+        }
+    } else if let Instr::Straight(simple, _) = instr
+        && simple.in_step()
+    {
+        let went = go_straight(alloc, &mut m.state, costs, simple);
+        m.at += 1;
+        ended(went)
+    } else if let Instr::Push {
+        ty,
+        literal,
+        lambdas,
+        ..
+    } = instr
+    {
+        let went = go_push(alloc, &mut m.state, costs, ty, literal, lambdas);
+        m.at += 1;
+        ended(went)
+    } else if let Instr::If(first, second) = instr {
+        if !pay(&mut m.state.meter, costs, Kind::If, 0) {
+            return Ok(Step::Failed(Failed::OutOfGas));
+        }
+        let body = if pop_truth(&mut m.state.stack) {
+            first.share()?
+        } else {
+            second.share()?
+        };
+        m.at += 1;
+        let begun = begin_inside(m, None, body)?;
+        if begun {
+            Ok(Step::Paid)
         } else {
             Ok(Step::Failed(Failed::DepthLimit))
         }

@@ -12,15 +12,16 @@ use crate::act::{Act, Failed};
 use crate::big_maps::act_big_map;
 use crate::hashing::act_packing;
 use crate::issuing::act_operation;
-use crate::paying::pay_capped;
+use crate::paying::{pay, pay_capped};
 use crate::state::State;
 use mich_base::Memory;
 use mich_check::cache::Bodies;
-use mich_gas::Costs;
-use mich_overload::Simple;
-use mich_stack::StepError;
-use mich_step::prices::{price, weigh};
-use mich_step::step;
+use mich_gas::{Costs, Kind};
+use mich_overload::{LogicRow, NumberRow, PairRow, Simple, StackRow, UnionRow};
+use mich_stack::{StepError, read_at};
+use mich_step::prices::{logic_price, number_price, number_weight, price, union_price, weigh};
+use mich_step::{dig, dug, dup_value, logic_step, number_step, pair, step, swap, union_step, unit, unpair};
+use mich_term::weight;
 use mich_world::World;
 use std::alloc::Global;
 
@@ -37,24 +38,168 @@ pub(crate) fn failed(why: StepError) -> Result<Failed, Memory>
     }
 }
 
+// How an instruction that opens nothing went: a plain number, which is handed back in a register.
+#[derive(Clone, Copy)]
+pub(crate) enum Went {
+    On,
+    OutOfGas,
+    IntegerLimit,
+    MutezOverflow,
+    ShiftLimit,
+    SizeLimit,
+    Memory,
+}
+
+// How it went by the end of its step.
+#[inline(always)]
+fn went(done: Result<(), StepError>) -> Went
+    ensures { result ≡ went_of done }
+{
+    match done {
+        Ok(()) => Went::On,
+        Err(StepError::IntegerLimit) => Went::IntegerLimit,
+        Err(StepError::MutezOverflow) => Went::MutezOverflow,
+        Err(StepError::ShiftLimit) => Went::ShiftLimit,
+        Err(StepError::SizeLimit) => Went::SizeLimit,
+        Err(StepError::Memory) => Went::Memory,
+    }
+}
+
+// The failure of one that didn't go on.
+pub(crate) fn stopped(went: Went) -> Result<Failed, Memory>
+    ensures { IfOk result (λ f. act_of went ≡ Ok (a.Failed f)) }
+{
+    match went {
+        Went::OutOfGas => Ok(Failed::OutOfGas),
+        Went::IntegerLimit => Ok(Failed::IntegerLimit),
+        Went::MutezOverflow => Ok(Failed::MutezOverflow),
+        Went::ShiftLimit => Ok(Failed::ShiftLimit),
+        Went::SizeLimit => Ok(Failed::SizeLimit),
+        Went::On | Went::Memory => Err(Memory),
+    }
+}
+
+fn go_numbers(alloc: Global, m: &mut State, costs: &Costs, row: &NumberRow) -> Went
+    requires comes { (app : Tree) × Comes (made.straight (on_numbers (number_row row.now)) app) costs.now m.old }
+    ensures acts { (app : Tree) → Carries (made.straight (on_numbers (number_row row.now)) app) costs.now m.old m.new (act_of result) }
+    ensures less { IfOk (act_of result) (λ a. Spends a m.old.meter m.new.meter) }
+    ensures keeps { IfOk (act_of result) (λ a. KeepsAct a m.old m.new) }
+{
+    let weighed = number_weight(row, &m.stack);
+    if !pay_capped(&mut m.meter, costs, number_price(row), weighed) {
+        return Went::OutOfGas;
+    }
+    went(number_step(alloc, row, &mut m.stack))
+}
+
+fn go_logic(m: &mut State, costs: &Costs, row: &LogicRow) -> Went
+    requires comes { (app : Tree) × Comes (made.straight (on_logic (logic_row row.now)) app) costs.now m.old }
+    ensures acts { (app : Tree) → Carries (made.straight (on_logic (logic_row row.now)) app) costs.now m.old m.new (act_of result) }
+    ensures less { IfOk (act_of result) (λ a. Spends a m.old.meter m.new.meter) }
+    ensures keeps { IfOk (act_of result) (λ a. KeepsAct a m.old m.new) }
+{
+    if !pay(&mut m.meter, costs, logic_price(row), 0) {
+        return Went::OutOfGas;
+    }
+    went(logic_step(row, &mut m.stack))
+}
+
+fn go_union(alloc: Global, m: &mut State, costs: &Costs, row: &UnionRow) -> Went
+    requires comes { (app : Tree) × Comes (made.straight (on_unions (union_row row.now)) app) costs.now m.old }
+    ensures acts { (app : Tree) → Carries (made.straight (on_unions (union_row row.now)) app) costs.now m.old m.new (act_of result) }
+    ensures less { IfOk (act_of result) (λ a. Spends a m.old.meter m.new.meter) }
+    ensures keeps { IfOk (act_of result) (λ a. KeepsAct a m.old m.new) }
+{
+    if !pay(&mut m.meter, costs, union_price(row), 0) {
+        return Went::OutOfGas;
+    }
+    went(union_step(alloc, row, &mut m.stack))
+}
+
+fn go_dup(alloc: Global, m: &mut State, costs: &Costs, place: u32) -> Went
+    requires comes { (app : Tree) × Comes (made.straight (on_stack (i.dup place)) app) costs.now m.old }
+    ensures acts { (app : Tree) → Carries (made.straight (on_stack (i.dup place)) app) costs.now m.old m.new (act_of result) }
+    ensures less { IfOk (act_of result) (λ a. Spends a m.old.meter m.new.meter) }
+    ensures keeps { IfOk (act_of result) (λ a. KeepsAct a m.old m.new) }
+{
+    let Some(value) = read_at(&m.stack, (place as usize).saturating_sub(1)) else {
+        unreachable!()
+    };
+    let weighed = weight(value);
+    if !pay_capped(&mut m.meter, costs, Kind::Dup, weighed) {
+        return Went::OutOfGas;
+    }
+    went(dup_value(alloc, place, &mut m.stack))
+}
+
 // One that asks for nothing but the stack, the tickets and what surrounds the run.
-fn act_step(alloc: Global, m: &mut State, costs: &Costs, instr: &Simple) -> Result<Act, Memory>
+fn go_other(alloc: Global, m: &mut State, costs: &Costs, instr: &Simple) -> Went
     requires in_step { in_step (straight instr.now) ≡ true }
     requires comes { (app : Tree) × Comes (made.straight (straight instr.now) app) costs.now m.old }
-    ensures acts { (app : Tree) → Carries (made.straight (straight instr.now) app) costs.now m.old m.new result }
-    ensures less { IfOk result (λ a. Spends a m.old.meter m.new.meter) }
-    ensures keeps { IfOk result (λ a. KeepsAct a m.old m.new) }
+    ensures acts { (app : Tree) → Carries (made.straight (straight instr.now) app) costs.now m.old m.new (act_of result) }
+    ensures less { IfOk (act_of result) (λ a. Spends a m.old.meter m.new.meter) }
+    ensures keeps { IfOk (act_of result) (λ a. KeepsAct a m.old m.new) }
 {
-    let weight = weigh(alloc, instr, &m.stack)?;
-    if !pay_capped(&mut m.meter, costs, price(instr), weight) {
-        return Ok(Act::Failed(Failed::OutOfGas));
+    let Ok(weighed) = weigh(alloc, instr, &m.stack) else {
+        return Went::Memory;
+    };
+    if !pay_capped(&mut m.meter, costs, price(instr), weighed) {
+        return Went::OutOfGas;
     }
-    match step(alloc, instr, &mut m.stack, &mut m.ledger, &m.env) {
-        Ok(()) => Ok(Act::On),
-        Err(why) => {
-            let why = failed(why)?;
-            Ok(Act::Failed(why))
+    went(step(alloc, instr, &mut m.stack, &mut m.ledger, &m.env))
+}
+
+// The same, where what is asked for most has its own way.
+#[inline(always)]
+pub(crate) fn go_straight(alloc: Global, m: &mut State, costs: &Costs, instr: &Simple) -> Went
+    requires in_step { in_step (straight instr.now) ≡ true }
+    requires comes { (app : Tree) × Comes (made.straight (straight instr.now) app) costs.now m.old }
+    ensures acts { (app : Tree) → Carries (made.straight (straight instr.now) app) costs.now m.old m.new (act_of result) }
+    ensures less { IfOk (act_of result) (λ a. Spends a m.old.meter m.new.meter) }
+    ensures keeps { IfOk (act_of result) (λ a. KeepsAct a m.old m.new) }
+{
+    match instr {
+        Simple::Numbers(row) => go_numbers(alloc, m, costs, row),
+        Simple::Logic(row) => go_logic(m, costs, row),
+        Simple::Unions(row) => go_union(alloc, m, costs, row),
+        Simple::Stack(StackRow::Dup(place)) => go_dup(alloc, m, costs, *place),
+        Simple::Stack(StackRow::Swap) => {
+            if !pay(&mut m.meter, costs, Kind::Swap, 0) {
+                return Went::OutOfGas;
+            }
+            went(swap(&mut m.stack))
         }
+        Simple::Stack(StackRow::Dig(depth)) => {
+            if !pay(&mut m.meter, costs, Kind::Dig, 0) {
+                return Went::OutOfGas;
+            }
+            went(dig(alloc, *depth, &mut m.stack))
+        }
+        Simple::Stack(StackRow::Dug(depth)) => {
+            if !pay(&mut m.meter, costs, Kind::Dug, 0) {
+                return Went::OutOfGas;
+            }
+            went(dug(alloc, *depth, &mut m.stack))
+        }
+        Simple::Stack(StackRow::Unit) => {
+            if !pay(&mut m.meter, costs, Kind::Unit, 0) {
+                return Went::OutOfGas;
+            }
+            went(unit(&mut m.stack))
+        }
+        Simple::Pairs(PairRow::Pair(count)) => {
+            if !pay(&mut m.meter, costs, Kind::Pair, 0) {
+                return Went::OutOfGas;
+            }
+            went(pair(alloc, *count, &mut m.stack))
+        }
+        Simple::Pairs(PairRow::Unpair(count)) => {
+            if !pay(&mut m.meter, costs, Kind::Unpair, 0) {
+                return Went::OutOfGas;
+            }
+            went(unpair(*count, &mut m.stack))
+        }
+        _ => go_other(alloc, m, costs, instr),
     }
 }
 
@@ -67,15 +212,12 @@ pub(crate) fn act_straight(
     bodies: &mut Bodies,
     instr: &Simple,
 ) -> Result<Act, Memory>
-    requires { (app : Tree) × ComesIn world.now (made.straight (straight instr.now) app) costs.now m.old }
+    requires beyond { in_step (straight instr.now) ≡ false }
+    requires comes { (app : Tree) × ComesIn world.now (made.straight (straight instr.now) app) costs.now m.old }
     ensures acts { (app : Tree) → CarriesIn world.now (made.straight (straight instr.now) app) costs.now m.old m.new result }
     ensures less { IfOk result (λ a. Spends a m.old.meter m.new.meter) }
     ensures keeps { IfOk result (λ a. KeepsAct a m.old m.new) }
 {
-    if instr.in_step() {
-        let act = act_step(alloc, m, costs, instr)?;
-        return Ok(act);
-    }
     match instr {
         Simple::Operations(row) => Ok(act_operation(alloc, m, costs, world, bodies, row)?),
         Simple::Hashes(row) => Ok(act_packing(alloc, m, costs, bodies, row)?),

@@ -42,7 +42,7 @@ fn drop_values<B: Burner>(
     Ok(())
 }
 
-fn dup_value(alloc: Global, place: u32, stack: &mut Rows<Value>) -> Result<(), StepError>
+pub fn dup_value(alloc: Global, place: u32, stack: &mut Rows<Value>) -> Result<(), StepError>
     requires fits { Fits (stack_step (i.dup place)) stack.old }
     requires suits { SuitsStack (i.dup place) (plain stack.old) }
     ensures { Keeps (stack_step (i.dup place)) stack.old stack.new result }
@@ -55,7 +55,7 @@ fn dup_value(alloc: Global, place: u32, stack: &mut Rows<Value>) -> Result<(), S
     Ok(())
 }
 
-fn swap(stack: &mut Rows<Value>) -> Result<(), StepError>
+pub fn swap(stack: &mut Rows<Value>) -> Result<(), StepError>
     requires { Fits (stack_step i.swap) stack.old }
     ensures { Keeps (stack_step i.swap) stack.old stack.new result }
 {
@@ -70,7 +70,7 @@ fn swap(stack: &mut Rows<Value>) -> Result<(), StepError>
     Ok(())
 }
 
-fn dig(alloc: Global, depth: u32, stack: &mut Rows<Value>) -> Result<(), StepError>
+pub fn dig(alloc: Global, depth: u32, stack: &mut Rows<Value>) -> Result<(), StepError>
     requires { Fits (stack_step (i.dig depth)) stack.old }
     ensures { Keeps (stack_step (i.dig depth)) stack.old stack.new result }
 {
@@ -79,7 +79,7 @@ fn dig(alloc: Global, depth: u32, stack: &mut Rows<Value>) -> Result<(), StepErr
     Ok(())
 }
 
-fn dug(alloc: Global, depth: u32, stack: &mut Rows<Value>) -> Result<(), StepError>
+pub fn dug(alloc: Global, depth: u32, stack: &mut Rows<Value>) -> Result<(), StepError>
     requires { Fits (stack_step (i.dug depth)) stack.old }
     ensures { Keeps (stack_step (i.dug depth)) stack.old stack.new result }
 {
@@ -90,7 +90,7 @@ fn dug(alloc: Global, depth: u32, stack: &mut Rows<Value>) -> Result<(), StepErr
     Ok(())
 }
 
-fn unit(stack: &mut Rows<Value>) -> Result<(), StepError>
+pub fn unit(stack: &mut Rows<Value>) -> Result<(), StepError>
     ensures { Keeps (stack_step i.unit) stack.old stack.new result }
 {
     push(stack, Value::Unit)?;

@@ -37,7 +37,7 @@ fn pair_price(row: &PairRow) -> Kind
     }
 }
 
-fn union_price(row: &UnionRow) -> Kind
+pub fn union_price(row: &UnionRow) -> Kind
     ensures { result ≡ union_kind (union_row row.now) }
 {
     match row {
@@ -67,7 +67,7 @@ pub fn collection_price(row: &CollectionRow) -> Kind
     }
 }
 
-fn number_price(row: &NumberRow) -> Kind
+pub fn number_price(row: &NumberRow) -> Kind
     ensures { result ≡ number_kind (number_row row.now) }
 {
     match row {
@@ -87,7 +87,7 @@ fn number_price(row: &NumberRow) -> Kind
     }
 }
 
-fn logic_price(row: &LogicRow) -> Kind
+pub fn logic_price(row: &LogicRow) -> Kind
     ensures { result ≡ logic_kind (logic_row row.now) }
 {
     match row {
