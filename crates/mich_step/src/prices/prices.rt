@@ -37,6 +37,7 @@ fn pair_price(row: &PairRow) -> Kind
     }
 }
 
+#[inline(always)]
 pub fn union_price(row: &UnionRow) -> Kind
     ensures { result ≡ union_kind (union_row row.now) }
 {
@@ -67,6 +68,7 @@ pub fn collection_price(row: &CollectionRow) -> Kind
     }
 }
 
+#[inline(always)]
 pub fn number_price(row: &NumberRow) -> Kind
     ensures { result ≡ number_kind (number_row row.now) }
 {
@@ -87,6 +89,7 @@ pub fn number_price(row: &NumberRow) -> Kind
     }
 }
 
+#[inline(always)]
 pub fn logic_price(row: &LogicRow) -> Kind
     ensures { result ≡ logic_kind (logic_row row.now) }
 {
