@@ -60,9 +60,9 @@ fn put_parts(comb: Value, others: u32, stack: &mut Rows<Value>) -> Result<(), Me
     let Some(further) = others.checked_sub(1) else {
         return push(stack, comb);
     };
-    let (first, rest) = split_pair(comb)?;
-    put_parts(rest, further, stack)?;
-    push(stack, first)
+    let (first, rest) = held_parts(comb);
+    put_parts(rest.into_value()?, further, stack)?;
+    push(stack, first.into_value()?)
 }
 
 pub fn unpair(count: u32, stack: &mut Rows<Value>) -> Result<(), StepError>
@@ -74,6 +74,18 @@ pub fn unpair(count: u32, stack: &mut Rows<Value>) -> Result<(), StepError>
     };
     put_parts(whole, count.saturating_sub(1), stack)?;
     Ok(())
+}
+
+// The parts of a pair, as they are held.
+#[inline(always)]
+fn held_parts(pair: Value) -> (Link<Value>, Link<Value>)
+    requires { (big : Sight) × IsPair (seen big pair) }
+    ensures { (big : Sight) → seen big pair ≡ both (seen big result.0) (seen big result.1) }
+{
+    let Value::Pair(first, second) = pair else {
+        unreachable!()
+    };
+    (first, second)
 }
 
 // The parts of a pair.
@@ -94,9 +106,9 @@ fn car(stack: &mut Rows<Value>) -> Result<Value, StepError>
     let Some(whole) = pop(stack) else {
         unreachable!()
     };
-    let (first, second) = split_pair(whole)?;
-    push(stack, first)?;
-    Ok(second)
+    let (first, second) = held_parts(whole);
+    push(stack, first.into_value()?)?;
+    Ok(Value::Some(second))
 }
 
 fn cdr(stack: &mut Rows<Value>) -> Result<Value, StepError>
@@ -106,12 +118,20 @@ fn cdr(stack: &mut Rows<Value>) -> Result<Value, StepError>
     let Some(whole) = pop(stack) else {
         unreachable!()
     };
-    let (first, second) = split_pair(whole)?;
-    push(stack, second)?;
-    Ok(first)
+    let (first, second) = held_parts(whole);
+    push(stack, second.into_value()?)?;
+    Ok(Value::Some(first))
 }
 
-// The part of a comb with a number, and what holds all that is passed and left.
+// Whether a value is a number, a truth value, text or bytes, in which there is no ticket.
+#[inline(always)]
+fn is_plain(value: &Value) -> bool
+    ensures { IsTrue result → (big : Sight) → tickets (seen big value.now) ≡ [] }
+{
+    matches!(value, Value::Unit | Value::Bool(_) | Value::Number(_) | Value::Text(_) | Value::Bytes(_))
+}
+
+// The part of a comb with a number, and what holds the tickets in all that is passed and left.
 #[tactic(auto, using(crate::proofs::Combs::part_there, crate::proofs::Combs::part_is, crate::proofs::Combs::part_first))]
 fn take_part(alloc: Global, comb: Value, place: u32) -> Result<(Value, Value), Memory>
     requires { (big : Sight) × (is_some (part_at place (seen big comb)) ≡ true) }
@@ -120,12 +140,14 @@ fn take_part(alloc: Global, comb: Value, place: u32) -> Result<(Value, Value), M
     if place == 0 {
         return Ok((comb, Value::Unit));
     }
-    let (first, second) = split_pair(comb)?;
+    let (first, second) = held_parts(comb);
     let Some(further) = place.checked_sub(2) else {
-        return Ok((first, second));
+        return Ok((first.into_value()?, Value::Some(second)));
     };
-    let (found, left) = take_part(alloc, second, further)?;
-    let first = Link::new(alloc, first)?;
+    let (found, left) = take_part(alloc, second.into_value()?, further)?;
+    if is_plain(first.get()) {
+        return Ok((found, left));
+    }
     let left = Link::new(alloc, left)?;
     Ok((found, Value::Pair(first, left)))
 }
@@ -149,21 +171,19 @@ fn replace_part(
     comb: Value,
     place: u32,
     new: Value,
-) -> Result<(Value, Value), Memory>
+) -> Result<(Value, Link<Value>), Memory>
     requires { (big : Sight) × (is_some (replaced place (seen big new) (seen big comb)) ≡ true) }
     ensures { IfOk result (λ p. (big : Sight) → IsReplaced (replaced place (seen big new) (seen big comb)) (seen big p.0) (seen big p.1)) }
 {
     if place == 0 {
-        return Ok((new, comb));
+        return Ok((new, Link::new(alloc, comb)?));
     }
-    let (first, second) = split_pair(comb)?;
+    let (first, second) = held_parts(comb);
     let Some(further) = place.checked_sub(2) else {
         let new = Link::new(alloc, new)?;
-        let second = Link::new(alloc, second)?;
         return Ok((Value::Pair(new, second), first));
     };
-    let (rest, old) = replace_part(alloc, second, further, new)?;
-    let first = Link::new(alloc, first)?;
+    let (rest, old) = replace_part(alloc, second.into_value()?, further, new)?;
     let rest = Link::new(alloc, rest)?;
     Ok((Value::Pair(first, rest), old))
 }
@@ -180,7 +200,7 @@ fn update_part(alloc: Global, place: u32, stack: &mut Rows<Value>) -> Result<Val
     };
     let (comb, old) = replace_part(alloc, whole, place, new)?;
     push(stack, comb)?;
-    Ok(old)
+    Ok(Value::Some(old))
 }
 
 // What making and taking apart pairs makes of a stack, and what it discards.
