@@ -32,6 +32,7 @@ use mich_gas::{Costs, Kind};
 use mich_instr::{Block, Instr};
 use mich_world::World;
 use std::alloc::Global;
+use std::mem;
 
 // A run on its way: the block that runs with the place of its next instruction, and what is left to do behind it.
 #[derive(Drop)]
@@ -170,10 +171,15 @@ fn begin_inside(m: &mut Machine, below: Option<Frame>, body: Block) -> Result<bo
     ensures begun { IfOk result (λ b. IsBegun b below body (with_rest m.old) m.old m.new) }
     ensures state { m.new.state ≡ m.old.state }
 {
-    let outer = m.block.share()?;
+    if m.depth >= BLOCK_LIMIT {
+        return Ok(false);
+    }
+    let outer = mem::replace(&mut m.block, body);
     m.frames.push(Frame::Rest(outer, m.at))?;
-    let begun = begin(m, below, body)?;
-    Ok(begun)
+    put_frame(&mut m.frames, below)?;
+    m.at = 0;
+    m.depth += 1;
+    Ok(true)
 }
 
 // What has acted in the block that runs.
