@@ -18,6 +18,10 @@ ghost use Rattle.mich_instr.specs.Body.{IsBody};
 ghost use Rattle.mich_instr.specs.Code as made;
 ghost use Rattle.mich_instr.specs.View.{codes};
 ghost use Rattle.mich_interpreter.specs.Literals.{HoldsLiteral, IsLiteralOf};
+ghost use Rattle.laws_code.specs.evaluation.Laws.{IsCharged};
+ghost use Rattle.mich_gas.specs.View.{listed};
+ghost use Rattle.mich_term.specs.Weights.{capped};
+ghost use Rattle.mich_interpreter.specs.Went.{Goes, CarriesWent, IsPushed};
 ghost use Rattle.mich_interpreter.specs.Ends.{Comes, ComesLambda, Carries, CarriesLambda, Spends};
 
 use crate::act::{Act, Failed};
@@ -173,8 +177,11 @@ fn truth_literal(ty: &Ty, literal: &Node) -> Option<bool>
 // Pays for a value that is pushed, and puts it on top.
 #[inline(always)]
 fn go_value(m: &mut State, costs: &Costs, value: Value, weighed: u64) -> Went
-    requires weighed { weighed ≡ capped (whole (val value)) }
-    ensures { IsPushed result value costs.now m.old m.new }
+    ensures pushed { (w : ℕ) → weighed ≡ capped w → IsCharged (listed costs.now) → IsPushed result value (listed costs.now) w m.old m.new }
+    ensures ledger { m.new.ledger ≡ m.old.ledger }
+    ensures counts { m.new.counts ≡ m.old.counts }
+    ensures issued { m.new.issued ≡ m.old.issued }
+    ensures env { m.new.env ≡ m.old.env }
 {
     if !pay_capped(&mut m.meter, costs, Kind::Push, weighed) {
         return Went::OutOfGas;
@@ -195,8 +202,8 @@ fn go_literal(
     lambdas: &Rows<Instr>,
 ) -> Went
     requires { (written : Tree) × Comes (made.push (kind ty.now) written (tree literal.now) (codes lambdas.now)) costs.now m.old }
-    ensures acts { (written : Tree) → Carries (made.push (kind ty.now) written (tree literal.now) (codes lambdas.now)) costs.now m.old m.new (act_of result) }
-    ensures less { IfOk (act_of result) (λ a. Spends a m.old.meter m.new.meter) }
+    ensures acts { (written : Tree) → CarriesWent (made.push (kind ty.now) written (tree literal.now) (codes lambdas.now)) costs.now m.old m.new result }
+    ensures less { Goes result (λ a. Spends a m.old.meter m.new.meter) }
     ensures ledger { m.new.ledger ≡ m.old.ledger }
     ensures counts { m.new.counts ≡ m.old.counts }
     ensures issued { m.new.issued ≡ m.old.issued }
@@ -221,8 +228,8 @@ pub(crate) fn go_push(
     lambdas: &Rows<Instr>,
 ) -> Went
     requires { (written : Tree) × Comes (made.push (kind ty.now) written (tree literal.now) (codes lambdas.now)) costs.now m.old }
-    ensures acts { (written : Tree) → Carries (made.push (kind ty.now) written (tree literal.now) (codes lambdas.now)) costs.now m.old m.new (act_of result) }
-    ensures less { IfOk (act_of result) (λ a. Spends a m.old.meter m.new.meter) }
+    ensures acts { (written : Tree) → CarriesWent (made.push (kind ty.now) written (tree literal.now) (codes lambdas.now)) costs.now m.old m.new result }
+    ensures less { Goes result (λ a. Spends a m.old.meter m.new.meter) }
     ensures ledger { m.new.ledger ≡ m.old.ledger }
     ensures counts { m.new.counts ≡ m.old.counts }
     ensures issued { m.new.issued ≡ m.old.issued }

@@ -7,8 +7,10 @@ ghost use Rattle.mich_interpreter.specs.View.{Beyond};
 ghost use Rattle.mich_interpreter.specs.Ends.{ComesIn, CarriesIn, Waits, Resumes, Spends, Turns, KeepsAct};
 ghost use Rattle.mich_interpreter.specs.declared.state.State.{State as PlainState};
 ghost use Rattle.mich_interpreter.specs.Sees.{Sees};
+ghost use Rattle.mich_interpreter.specs.declared.act.Act.{Act};
+ghost use Rattle.mich_interpreter.specs.Went.{Goes, StepSays};
 ghost use Rattle.mich_interpreter.specs.Callers.{InCall, SomeStart};
-ghost use Rattle.mich_interpreter.specs.Runs.{StaysIn, StaysBehind, StaysBehindAct, StaysBehindTurn, IsBegun, IsSpent, IsPaidStep, IsSettled, HasLeft, with_below, with_rest, SomeRun, SomeEnd, IsEnd, KeepsStep, KeepsEnd, IsNoBlock, IsNoSequence};
+ghost use Rattle.mich_interpreter.specs.Runs.{StaysIn, StaysBehind, StaysBehindAct, StaysBehindTurn, IsBegun, IsSpent, IsPaidStep, IsSettled, HasLeft, with_below, with_rest, SomeRun, SomeEnd, IsEnd, KeepsStep, KeepsEnd, IsNoBlock, IsNoSequence, IsGeneral};
 
 use crate::act::{Act, Failed, View};
 use crate::applying::act_apply;
@@ -64,7 +66,7 @@ pub enum Ended {
     Failed(State, Failed),
 }
 
-// An instruction, which isn't a sequence.
+// An instruction that isn't a sequence, and has no way of its own.
 #[tactic(auto, using(crate::proofs::Keeping::acts_same, crate::proofs::Keeping::acts_group, crate::proofs::Keeping::same_keeps))]
 fn perform(
     alloc: Global,
@@ -75,6 +77,7 @@ fn perform(
     instr: &Instr,
 ) -> Result<Act, Memory>
     requires charged { IsNoSequence instr.now }
+    requires general { IsGeneral instr.now }
     requires comes { ComesIn world.now (code instr.now) costs.now m.old }
     ensures acts { CarriesIn world.now (code instr.now) costs.now m.old m.new result }
     ensures less { IfOk result (λ a. Spends a m.old.meter m.new.meter) }
@@ -280,7 +283,7 @@ fn leave(alloc: Global, m: &mut Machine, costs: &Costs) -> Result<Step, Memory>
 // What an instruction that opens nothing comes to in the block that runs.
 #[inline(always)]
 fn ended(went: Went) -> Result<Step, Memory>
-    ensures { result ≡ step_of went }
+    ensures { (P : Act → Type 0) → Goes went P → IfOk result (λ s. StepSays s P) }
 {
     match went {
         Went::On => Ok(Step::Paid),

@@ -1,12 +1,18 @@
 // Instructions without bodies.
-ghost use Rattle.std.specs.Prelude.{◌≡◌, true, IfOk};
+ghost use Rattle.std.specs.Prelude.{◌≡◌, true, false, IfOk};
 ghost use Rattle.rules_text.specs.nodes.Tree.{Tree};
 ghost use Rattle.mich_instr.specs.Code as made;
 ghost use Rattle.mich_overload.specs.View.{straight};
 ghost use Rattle.mich_overload.specs.Steps.{in_step};
 ghost use Rattle.rules_code.specs.steps.Step.{Step, fails};
 ghost use Rattle.mich_stack.specs.Views.{Sight, HasFailed};
-ghost use Rattle.mich_interpreter.specs.Ends.{Comes, Carries, ComesIn, CarriesIn, Spends, KeepsAct, failure};
+ghost use Rattle.rules_code.specs.instructions.Straight as i;
+ghost use Rattle.rules_code.specs.instructions.Straight.{on_logic, on_numbers, on_stack, on_unions};
+ghost use Rattle.mich_overload.specs.View.{logic_row, number_row, union_row};
+ghost use Rattle.mich_interpreter.specs.declared.act.Act.{Act};
+ghost use Rattle.mich_interpreter.specs.declared.act.Act.TheVariants as a;
+ghost use Rattle.mich_interpreter.specs.Went.{CarriesWent, Goes, IsWent};
+ghost use Rattle.mich_interpreter.specs.Ends.{Comes, ComesIn, CarriesIn, Spends, KeepsAct, failure};
 
 use crate::act::{Act, Failed};
 use crate::big_maps::act_big_map;
@@ -53,7 +59,7 @@ pub(crate) enum Went {
 // How it went by the end of its step.
 #[inline(always)]
 fn went(done: Result<(), StepError>) -> Went
-    ensures { result ≡ went_of done }
+    ensures { IsWent result done }
 {
     match done {
         Ok(()) => Went::On,
@@ -67,7 +73,7 @@ fn went(done: Result<(), StepError>) -> Went
 
 // The failure of one that didn't go on.
 pub(crate) fn stopped(went: Went) -> Result<Failed, Memory>
-    ensures { IfOk result (λ f. act_of went ≡ Ok (a.Failed f)) }
+    ensures { IfOk result (λ f. (P : Act → Type 0) → Goes went P → P (a.Failed f)) }
 {
     match went {
         Went::OutOfGas => Ok(Failed::OutOfGas),
@@ -81,9 +87,9 @@ pub(crate) fn stopped(went: Went) -> Result<Failed, Memory>
 
 fn go_numbers(alloc: Global, m: &mut State, costs: &Costs, row: &NumberRow) -> Went
     requires comes { (app : Tree) × Comes (made.straight (on_numbers (number_row row.now)) app) costs.now m.old }
-    ensures acts { (app : Tree) → Carries (made.straight (on_numbers (number_row row.now)) app) costs.now m.old m.new (act_of result) }
-    ensures less { IfOk (act_of result) (λ a. Spends a m.old.meter m.new.meter) }
-    ensures keeps { IfOk (act_of result) (λ a. KeepsAct a m.old m.new) }
+    ensures acts { (app : Tree) → CarriesWent (made.straight (on_numbers (number_row row.now)) app) costs.now m.old m.new result }
+    ensures less { Goes result (λ a. Spends a m.old.meter m.new.meter) }
+    ensures keeps { Goes result (λ a. KeepsAct a m.old m.new) }
 {
     let weighed = number_weight(row, &m.stack);
     if !pay_capped(&mut m.meter, costs, number_price(row), weighed) {
@@ -94,9 +100,9 @@ fn go_numbers(alloc: Global, m: &mut State, costs: &Costs, row: &NumberRow) -> W
 
 fn go_logic(m: &mut State, costs: &Costs, row: &LogicRow) -> Went
     requires comes { (app : Tree) × Comes (made.straight (on_logic (logic_row row.now)) app) costs.now m.old }
-    ensures acts { (app : Tree) → Carries (made.straight (on_logic (logic_row row.now)) app) costs.now m.old m.new (act_of result) }
-    ensures less { IfOk (act_of result) (λ a. Spends a m.old.meter m.new.meter) }
-    ensures keeps { IfOk (act_of result) (λ a. KeepsAct a m.old m.new) }
+    ensures acts { (app : Tree) → CarriesWent (made.straight (on_logic (logic_row row.now)) app) costs.now m.old m.new result }
+    ensures less { Goes result (λ a. Spends a m.old.meter m.new.meter) }
+    ensures keeps { Goes result (λ a. KeepsAct a m.old m.new) }
 {
     if !pay(&mut m.meter, costs, logic_price(row), 0) {
         return Went::OutOfGas;
@@ -106,9 +112,9 @@ fn go_logic(m: &mut State, costs: &Costs, row: &LogicRow) -> Went
 
 fn go_union(alloc: Global, m: &mut State, costs: &Costs, row: &UnionRow) -> Went
     requires comes { (app : Tree) × Comes (made.straight (on_unions (union_row row.now)) app) costs.now m.old }
-    ensures acts { (app : Tree) → Carries (made.straight (on_unions (union_row row.now)) app) costs.now m.old m.new (act_of result) }
-    ensures less { IfOk (act_of result) (λ a. Spends a m.old.meter m.new.meter) }
-    ensures keeps { IfOk (act_of result) (λ a. KeepsAct a m.old m.new) }
+    ensures acts { (app : Tree) → CarriesWent (made.straight (on_unions (union_row row.now)) app) costs.now m.old m.new result }
+    ensures less { Goes result (λ a. Spends a m.old.meter m.new.meter) }
+    ensures keeps { Goes result (λ a. KeepsAct a m.old m.new) }
 {
     if !pay(&mut m.meter, costs, union_price(row), 0) {
         return Went::OutOfGas;
@@ -118,9 +124,9 @@ fn go_union(alloc: Global, m: &mut State, costs: &Costs, row: &UnionRow) -> Went
 
 fn go_dup(alloc: Global, m: &mut State, costs: &Costs, place: u32) -> Went
     requires comes { (app : Tree) × Comes (made.straight (on_stack (i.dup place)) app) costs.now m.old }
-    ensures acts { (app : Tree) → Carries (made.straight (on_stack (i.dup place)) app) costs.now m.old m.new (act_of result) }
-    ensures less { IfOk (act_of result) (λ a. Spends a m.old.meter m.new.meter) }
-    ensures keeps { IfOk (act_of result) (λ a. KeepsAct a m.old m.new) }
+    ensures acts { (app : Tree) → CarriesWent (made.straight (on_stack (i.dup place)) app) costs.now m.old m.new result }
+    ensures less { Goes result (λ a. Spends a m.old.meter m.new.meter) }
+    ensures keeps { Goes result (λ a. KeepsAct a m.old m.new) }
 {
     let Some(value) = read_at(&m.stack, (place as usize).saturating_sub(1)) else {
         unreachable!()
@@ -136,9 +142,9 @@ fn go_dup(alloc: Global, m: &mut State, costs: &Costs, place: u32) -> Went
 fn go_other(alloc: Global, m: &mut State, costs: &Costs, instr: &Simple) -> Went
     requires in_step { in_step (straight instr.now) ≡ true }
     requires comes { (app : Tree) × Comes (made.straight (straight instr.now) app) costs.now m.old }
-    ensures acts { (app : Tree) → Carries (made.straight (straight instr.now) app) costs.now m.old m.new (act_of result) }
-    ensures less { IfOk (act_of result) (λ a. Spends a m.old.meter m.new.meter) }
-    ensures keeps { IfOk (act_of result) (λ a. KeepsAct a m.old m.new) }
+    ensures acts { (app : Tree) → CarriesWent (made.straight (straight instr.now) app) costs.now m.old m.new result }
+    ensures less { Goes result (λ a. Spends a m.old.meter m.new.meter) }
+    ensures keeps { Goes result (λ a. KeepsAct a m.old m.new) }
 {
     let Ok(weighed) = weigh(alloc, instr, &m.stack) else {
         return Went::Memory;
@@ -154,9 +160,9 @@ fn go_other(alloc: Global, m: &mut State, costs: &Costs, instr: &Simple) -> Went
 pub(crate) fn go_straight(alloc: Global, m: &mut State, costs: &Costs, instr: &Simple) -> Went
     requires in_step { in_step (straight instr.now) ≡ true }
     requires comes { (app : Tree) × Comes (made.straight (straight instr.now) app) costs.now m.old }
-    ensures acts { (app : Tree) → Carries (made.straight (straight instr.now) app) costs.now m.old m.new (act_of result) }
-    ensures less { IfOk (act_of result) (λ a. Spends a m.old.meter m.new.meter) }
-    ensures keeps { IfOk (act_of result) (λ a. KeepsAct a m.old m.new) }
+    ensures acts { (app : Tree) → CarriesWent (made.straight (straight instr.now) app) costs.now m.old m.new result }
+    ensures less { Goes result (λ a. Spends a m.old.meter m.new.meter) }
+    ensures keeps { Goes result (λ a. KeepsAct a m.old m.new) }
 {
     match instr {
         Simple::Numbers(row) => go_numbers(alloc, m, costs, row),

@@ -9,6 +9,7 @@ ghost use Rattle.mich_stack.specs.Views.{Sight, seen, values, plain};
 ghost use Rattle.mich_stack.specs.Ends.{Fits, Keeps, Ends, gone};
 ghost use Rattle.mich_stack.specs.Given.{Gives};
 ghost use Rattle.mich_step.specs.Burners.{StaysReady};
+ghost use Rattle.std.specs.Prelude.{IsTrue};
 ghost use Rattle.mich_step.specs.Parts.{ArePartsOnTop, IsPair, IsPart, IsReplaced};
 
 use mich_base::{Link, Memory, Rows};
