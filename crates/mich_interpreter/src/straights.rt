@@ -9,6 +9,9 @@ ghost use Rattle.mich_stack.specs.Views.{Sight, HasFailed};
 ghost use Rattle.rules_code.specs.instructions.Straight as i;
 ghost use Rattle.rules_code.specs.instructions.Straight.{on_logic, on_numbers, on_stack, on_unions};
 ghost use Rattle.mich_overload.specs.View.{logic_row, number_row, union_row};
+ghost use Rattle.mich_term.specs.Weights.{capped};
+ghost use Rattle.mich_term.specs.ValueView.{val};
+ghost use Rattle.rules_data.specs.values.Weight.{weight as whole};
 ghost use Rattle.mich_interpreter.specs.declared.act.Act.{Act};
 ghost use Rattle.mich_interpreter.specs.declared.act.Act.TheVariants as a;
 ghost use Rattle.mich_interpreter.specs.Went.{CarriesWent, Goes, IsWent};
@@ -27,7 +30,7 @@ use mich_overload::{LogicRow, NumberRow, PairRow, Simple, StackRow, UnionRow};
 use mich_stack::{StepError, read_at};
 use mich_step::prices::{logic_price, number_price, number_weight, price, union_price, weigh};
 use mich_step::{dig, dug, dup_value, logic_step, number_step, pair, step, swap, union_step, unit, unpair};
-use mich_term::weight;
+use mich_term::{Value, weight};
 use mich_world::World;
 use std::alloc::Global;
 
@@ -122,6 +125,17 @@ fn go_union(alloc: Global, m: &mut State, costs: &Costs, row: &UnionRow) -> Went
     went(union_step(alloc, row, &mut m.stack))
 }
 
+// The weight of a value, where numbers are seen first.
+#[inline(always)]
+fn weight_of(value: &Value) -> u64
+    ensures { result ≡ capped (whole (val value.now)) }
+{
+    match value {
+        Value::Number(_) => 1,
+        other => weight(other),
+    }
+}
+
 fn go_dup(alloc: Global, m: &mut State, costs: &Costs, place: u32) -> Went
     requires comes { (app : Tree) × Comes (made.straight (on_stack (i.dup place)) app) costs.now m.old }
     ensures acts { (app : Tree) → CarriesWent (made.straight (on_stack (i.dup place)) app) costs.now m.old m.new result }
@@ -131,7 +145,7 @@ fn go_dup(alloc: Global, m: &mut State, costs: &Costs, place: u32) -> Went
     let Some(value) = read_at(&m.stack, (place as usize).saturating_sub(1)) else {
         unreachable!()
     };
-    let weighed = weight(value);
+    let weighed = weight_of(value);
     if !pay_capped(&mut m.meter, costs, Kind::Dup, weighed) {
         return Went::OutOfGas;
     }

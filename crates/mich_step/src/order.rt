@@ -50,8 +50,16 @@ pub fn dup_value(alloc: Global, place: u32, stack: &mut Rows<Value>) -> Result<(
     let Some(value) = read_at(stack, place.saturating_sub(1) as usize) else {
         unreachable!()
     };
-    let copy = dup(alloc, value)?;
-    push(stack, copy)?;
+    match value {
+        Value::Number(n) => {
+            let number = *n;
+            push(stack, Value::Number(number))?;
+        }
+        other => {
+            let copy = dup(alloc, other)?;
+            push(stack, copy)?;
+        }
+    }
     Ok(())
 }
 

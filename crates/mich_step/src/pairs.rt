@@ -62,8 +62,8 @@ fn put_parts(comb: Value, others: u32, stack: &mut Rows<Value>) -> Result<(), Me
         return push(stack, comb);
     };
     let (first, rest) = held_parts(comb);
-    put_parts(rest.into_value()?, further, stack)?;
-    push(stack, first.into_value()?)
+    put_parts(taken(rest)?, further, stack)?;
+    push(stack, taken(first)?)
 }
 
 pub fn unpair(count: u32, stack: &mut Rows<Value>) -> Result<(), StepError>
@@ -89,6 +89,17 @@ fn held_parts(pair: Value) -> (Link<Value>, Link<Value>)
     (first, second)
 }
 
+// What a part holds, where a number is read in its place.
+#[inline(always)]
+fn taken(part: Link<Value>) -> Result<Value, Memory>
+    ensures { IfOk result (λ v. v ≡ part) }
+{
+    match part.get() {
+        Value::Number(n) => Ok(Value::Number(*n)),
+        _ => part.into_value(),
+    }
+}
+
 // The parts of a pair.
 pub(crate) fn split_pair(pair: Value) -> Result<(Value, Value), Memory>
     requires { (big : Sight) × IsPair (seen big pair) }
@@ -108,7 +119,7 @@ fn car(stack: &mut Rows<Value>) -> Result<Value, StepError>
         unreachable!()
     };
     let (first, second) = held_parts(whole);
-    push(stack, first.into_value()?)?;
+    push(stack, taken(first)?)?;
     Ok(Value::Some(second))
 }
 
@@ -120,7 +131,7 @@ fn cdr(stack: &mut Rows<Value>) -> Result<Value, StepError>
         unreachable!()
     };
     let (first, second) = held_parts(whole);
-    push(stack, second.into_value()?)?;
+    push(stack, taken(second)?)?;
     Ok(Value::Some(first))
 }
 
@@ -143,7 +154,7 @@ fn take_part(alloc: Global, comb: Value, place: u32) -> Result<(Value, Value), M
     }
     let (first, second) = held_parts(comb);
     let Some(further) = place.checked_sub(2) else {
-        return Ok((first.into_value()?, Value::Some(second)));
+        return Ok((taken(first)?, Value::Some(second)));
     };
     let (found, left) = take_part(alloc, second.into_value()?, further)?;
     if is_plain(first.get()) {
