@@ -7,8 +7,8 @@ ghost use Rattle.mich_overload.specs.Steps.{in_step};
 ghost use Rattle.rules_code.specs.steps.Step.{Step, fails};
 ghost use Rattle.mich_stack.specs.Views.{Sight, HasFailed};
 ghost use Rattle.rules_code.specs.instructions.Straight as i;
-ghost use Rattle.rules_code.specs.instructions.Straight.{on_logic, on_numbers, on_stack, on_unions};
-ghost use Rattle.mich_overload.specs.View.{logic_row, number_row, union_row};
+ghost use Rattle.rules_code.specs.instructions.Straight.{on_logic, on_numbers, on_pairs, on_stack, on_unions};
+ghost use Rattle.mich_overload.specs.View.{logic_row, number_row, pair_row, union_row};
 ghost use Rattle.mich_term.specs.Weights.{capped};
 ghost use Rattle.mich_term.specs.ValueView.{val};
 ghost use Rattle.rules_data.specs.values.Weight.{weight as whole};
@@ -28,8 +28,8 @@ use mich_check::cache::Bodies;
 use mich_gas::{Costs, Kind};
 use mich_overload::{LogicRow, NumberRow, PairRow, Simple, StackRow, UnionRow};
 use mich_stack::{StepError, read_at};
-use mich_step::prices::{logic_price, number_price, number_weight, price, union_price, weigh};
-use mich_step::{dig, dug, dup_value, logic_step, number_step, pair, step, swap, union_step, unit, unpair};
+use mich_step::prices::{logic_price, number_price, number_weight, pair_price, price, union_price, weigh};
+use mich_step::{dig, dug, dup_value, logic_step, number_step, pair, pairs, step, swap, union_step, unit, unpair};
 use mich_term::{Value, weight};
 use mich_world::World;
 use std::alloc::Global;
@@ -152,6 +152,18 @@ fn go_dup(alloc: Global, m: &mut State, costs: &Costs, place: u32) -> Went
     went(dup_value(alloc, place, &mut m.stack))
 }
 
+fn go_pairs(alloc: Global, m: &mut State, costs: &Costs, row: &PairRow) -> Went
+    requires comes { (app : Tree) × Comes (made.straight (on_pairs (pair_row row.now)) app) costs.now m.old }
+    ensures acts { (app : Tree) → CarriesWent (made.straight (on_pairs (pair_row row.now)) app) costs.now m.old m.new result }
+    ensures less { Goes result (λ a. Spends a m.old.meter m.new.meter) }
+    ensures keeps { Goes result (λ a. KeepsAct a m.old m.new) }
+{
+    if !pay(&mut m.meter, costs, pair_price(row), 0) {
+        return Went::OutOfGas;
+    }
+    went(pairs(alloc, row, &mut m.stack, &mut m.ledger))
+}
+
 // One that asks for nothing but the stack, the tickets and what surrounds the run.
 fn go_other(alloc: Global, m: &mut State, costs: &Costs, instr: &Simple) -> Went
     requires in_step { in_step (straight instr.now) ≡ true }
@@ -219,6 +231,7 @@ pub(crate) fn go_straight(alloc: Global, m: &mut State, costs: &Costs, instr: &S
             }
             went(unpair(*count, &mut m.stack))
         }
+        Simple::Pairs(row) => go_pairs(alloc, m, costs, row),
         _ => go_other(alloc, m, costs, instr),
     }
 }

@@ -14,7 +14,7 @@ pub mod prices;
 mod tickets;
 mod unions;
 
-pub use burning::burn_all;
+pub use burning::{burn_all, pairs};
 pub use dispatching::step;
 pub use environment::{Env, environment_step};
 pub use logic::logic_step;

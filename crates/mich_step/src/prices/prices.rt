@@ -24,7 +24,8 @@ fn stack_price(row: &StackRow) -> Kind
     }
 }
 
-fn pair_price(row: &PairRow) -> Kind
+#[inline(always)]
+pub fn pair_price(row: &PairRow) -> Kind
     ensures { result ≡ pair_kind (pair_row row.now) }
 {
     match row {
