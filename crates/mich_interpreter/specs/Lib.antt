@@ -5,6 +5,7 @@ pub mod Parts
 pub mod View
 pub mod Sees
 pub mod Ends
+pub mod Went
 pub mod Runs
 pub mod Begins
 pub mod Callers

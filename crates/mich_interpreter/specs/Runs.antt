@@ -12,6 +12,12 @@ use Rattle.mich_instr.specs.declared.instr.Instr.TheVariants as instr
 use Rattle.mich_frames.specs.Frames as fr
 use Rattle.mich_frames.specs.Stands.{StandsAt}
 use Rattle.mich_frames.specs.Sizes.{frames_size}
+use Rattle.mich_base.specs.declared.ty.Ty.{Ty}
+use Rattle.mich_base.specs.declared.node.Node.{Node}
+use Rattle.mich_base.specs.declared.node.App.{App}
+use Rattle.mich_overload.specs.declared.simple.Simple.{Simple}
+use Rattle.mich_overload.specs.View.{straight}
+use Rattle.mich_overload.specs.Steps.{in_step}
 use Rattle.mich_interpreter.specs.declared.act.Act.{Act}
 use Rattle.mich_interpreter.specs.declared.act.Act.TheVariants as a
 use Rattle.mich_interpreter.specs.declared.frame.Frame.{Frame}
@@ -158,6 +164,12 @@ KeepsEnd (e.Failed m why) old = KeepsPast old m
 abbrev pub IsNoBlock : Frame → Type 0
 IsNoBlock (f.Rest block at) = ⊥
 IsNoBlock _ = Unit {0}
+
+-- the instruction has no way of its own in front of the general one
+pub record IsGeneral (i : Instr) : Type 0 where
+  pub no_if : (first second : List Instr) → i ≡ instr.If first second → ⊥
+  pub no_push : (ty : Ty) (written literal : Node) (lambdas : List Instr) → i ≡ instr.Push ty written literal lambdas → ⊥
+  pub no_step : (s : Simple) (app : App) → i ≡ instr.Straight s app → in_step (straight s) ≡ false
 
 -- the instruction isn't a sequence
 abbrev pub IsNoSequence : Instr → Type 0

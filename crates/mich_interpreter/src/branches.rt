@@ -6,37 +6,12 @@ ghost use Rattle.mich_interpreter.specs.Ends.{Comes, Carries, Spends};
 
 use crate::act::{Act, Failed};
 use crate::paying::pay;
-use crate::stack::{is_cons, is_left, is_none, open_list, open_option, open_union, pop_truth};
+use crate::stack::{is_cons, is_left, is_none, open_list, open_option, open_union};
 use crate::state::State;
 use mich_base::Memory;
 use mich_gas::{Costs, Kind};
 use mich_instr::Block;
 use std::alloc::Global;
-
-pub(crate) fn act_if(
-    m: &mut State,
-    costs: &Costs,
-    first: &Block,
-    second: &Block,
-) -> Result<Act, Memory>
-    requires { Comes (made.if_bool (codes first.now) (codes second.now)) costs.now m.old }
-    ensures acts { Carries (made.if_bool (codes first.now) (codes second.now)) costs.now m.old m.new result }
-    ensures less { IfOk result (λ a. Spends a m.old.meter m.new.meter) }
-    ensures ledger { m.new.ledger ≡ m.old.ledger }
-    ensures counts { m.new.counts ≡ m.old.counts }
-    ensures issued { m.new.issued ≡ m.old.issued }
-{
-    if !pay(&mut m.meter, costs, Kind::If, 0) {
-        return Ok(Act::Failed(Failed::OutOfGas));
-    }
-    if pop_truth(&mut m.stack) {
-        let body = first.share()?;
-        Ok(Act::Open(None, body))
-    } else {
-        let body = second.share()?;
-        Ok(Act::Open(None, body))
-    }
-}
 
 pub(crate) fn act_if_none(
     m: &mut State,

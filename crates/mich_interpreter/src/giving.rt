@@ -18,12 +18,17 @@ ghost use Rattle.mich_instr.specs.Body.{IsBody};
 ghost use Rattle.mich_instr.specs.Code as made;
 ghost use Rattle.mich_instr.specs.View.{codes};
 ghost use Rattle.mich_interpreter.specs.Literals.{HoldsLiteral, IsLiteralOf};
+ghost use Rattle.laws_code.specs.evaluation.Laws.{IsCharged};
+ghost use Rattle.mich_gas.specs.View.{listed};
+ghost use Rattle.mich_term.specs.Weights.{capped};
+ghost use Rattle.mich_interpreter.specs.Went.{Goes, CarriesWent, IsPushed};
 ghost use Rattle.mich_interpreter.specs.Ends.{Comes, ComesLambda, Carries, CarriesLambda, Spends};
 
 use crate::act::{Act, Failed};
 use crate::paying::{pay, pay_capped};
 use crate::stack::push;
 use crate::state::State;
+use crate::straights::Went;
 use mich_base::{Bytes, Memory, Node, Rows, Shared, Ty, copy_type};
 use mich_data::{ValueError, read_value_with, simple_value};
 use mich_forms::{Address, Entrypoint, Place};
@@ -143,27 +148,99 @@ fn literal_value(
     held_literal(alloc, ty, literal, lambdas)
 }
 
-pub(crate) fn act_push(
+// The number that a literal of a type of numbers is.
+fn number_literal(ty: &Ty, literal: &Node) -> Option<i128>
+    ensures { IfSome result (λ n. (at : ℕ) (v : Val) → value_of (read (kind ty.now) at (tree literal.now)) ≡ Some v → v ≡ number n) }
+{
+    match literal {
+        Node::Int(n) => match ty {
+            Ty::Int | Ty::Nat | Ty::Mutez | Ty::Timestamp => Some(*n),
+            _ => None,
+        },
+        _ => None,
+    }
+}
+
+// The truth value that a literal is, of which the longer name is that of the false one.
+fn truth_literal(ty: &Ty, literal: &Node) -> Option<bool>
+    ensures { IfSome result (λ b. (at : ℕ) (v : Val) → value_of (read (kind ty.now) at (tree literal.now)) ≡ Some v → v ≡ truth b) }
+{
+    match literal {
+        Node::Prim(app) => match ty {
+            Ty::Bool => Some(app.name.as_slice().len() == 4),
+            _ => None,
+        },
+        _ => None,
+    }
+}
+
+// Pays for a value that is pushed, and puts it on top.
+#[inline(always)]
+fn go_value(m: &mut State, costs: &Costs, value: Value, weighed: u64) -> Went
+    ensures pushed { (w : ℕ) → weighed ≡ capped w → IsCharged (listed costs.now) → IsPushed result value (listed costs.now) w m.old m.new }
+    ensures ledger { m.new.ledger ≡ m.old.ledger }
+    ensures counts { m.new.counts ≡ m.old.counts }
+    ensures issued { m.new.issued ≡ m.old.issued }
+    ensures env { m.new.env ≡ m.old.env }
+{
+    if !pay_capped(&mut m.meter, costs, Kind::Push, weighed) {
+        return Went::OutOfGas;
+    }
+    match push(&mut m.stack, value) {
+        Ok(()) => Went::On,
+        Err(_) => Went::Memory,
+    }
+}
+
+// PUSH of any value.
+fn go_literal(
     alloc: Global,
     m: &mut State,
     costs: &Costs,
     ty: &Ty,
     literal: &Node,
     lambdas: &Rows<Instr>,
-) -> Result<Act, Memory>
+) -> Went
     requires { (written : Tree) × Comes (made.push (kind ty.now) written (tree literal.now) (codes lambdas.now)) costs.now m.old }
-    ensures acts { (written : Tree) → Carries (made.push (kind ty.now) written (tree literal.now) (codes lambdas.now)) costs.now m.old m.new result }
-    ensures less { IfOk result (λ a. Spends a m.old.meter m.new.meter) }
+    ensures acts { (written : Tree) → CarriesWent (made.push (kind ty.now) written (tree literal.now) (codes lambdas.now)) costs.now m.old m.new result }
+    ensures less { Goes result (λ a. Spends a m.old.meter m.new.meter) }
     ensures ledger { m.new.ledger ≡ m.old.ledger }
     ensures counts { m.new.counts ≡ m.old.counts }
     ensures issued { m.new.issued ≡ m.old.issued }
 {
-    let value = literal_value(alloc, ty, literal, lambdas)?;
-    if !pay_capped(&mut m.meter, costs, Kind::Push, weight(&value)) {
-        return Ok(Act::Failed(Failed::OutOfGas));
+    match literal_value(alloc, ty, literal, lambdas) {
+        Ok(value) => {
+            let weighed = weight(&value);
+            go_value(m, costs, value, weighed)
+        }
+        Err(_) => Went::Memory,
     }
-    push(&mut m.stack, value)?;
-    Ok(Act::On)
+}
+
+// PUSH, where numbers and truth values are taken as they are written.
+#[inline(always)]
+pub(crate) fn go_push(
+    alloc: Global,
+    m: &mut State,
+    costs: &Costs,
+    ty: &Ty,
+    literal: &Node,
+    lambdas: &Rows<Instr>,
+) -> Went
+    requires { (written : Tree) × Comes (made.push (kind ty.now) written (tree literal.now) (codes lambdas.now)) costs.now m.old }
+    ensures acts { (written : Tree) → CarriesWent (made.push (kind ty.now) written (tree literal.now) (codes lambdas.now)) costs.now m.old m.new result }
+    ensures less { Goes result (λ a. Spends a m.old.meter m.new.meter) }
+    ensures ledger { m.new.ledger ≡ m.old.ledger }
+    ensures counts { m.new.counts ≡ m.old.counts }
+    ensures issued { m.new.issued ≡ m.old.issued }
+{
+    if let Some(n) = number_literal(ty, literal) {
+        return go_value(m, costs, Value::Number(n), 1);
+    }
+    if let Some(b) = truth_literal(ty, literal) {
+        return go_value(m, costs, Value::Bool(b), 1);
+    }
+    go_literal(alloc, m, costs, ty, literal, lambdas)
 }
 
 // The lambda of a body with its typed code, in constant time.

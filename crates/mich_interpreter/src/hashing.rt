@@ -16,7 +16,6 @@ use mich_base::Memory;
 use mich_check::cache::Bodies;
 use mich_gas::Costs;
 use mich_overload::HashRow;
-use mich_stack::StepError;
 use mich_step::prices::hash_price;
 use mich_store_steps::hashes::{hash_step, hash_weight};
 use std::alloc::Global;
@@ -35,8 +34,10 @@ fn act_hash(alloc: Global, m: &mut State, costs: &Costs, row: &HashRow) -> Resul
     }
     match hash_step(alloc, row, &mut m.stack) {
         Ok(()) => Ok(Act::On),
-        Err(StepError::Failed(why)) => Ok(Act::Failed(failed(why))),
-        Err(StepError::Memory) => Err(Memory),
+        Err(why) => {
+            let why = failed(why)?;
+            Ok(Act::Failed(why))
+        }
     }
 }
 

@@ -7,30 +7,34 @@ ghost use Rattle.mich_interpreter.specs.View.{Beyond};
 ghost use Rattle.mich_interpreter.specs.Ends.{ComesIn, CarriesIn, Waits, Resumes, Spends, Turns, KeepsAct};
 ghost use Rattle.mich_interpreter.specs.declared.state.State.{State as PlainState};
 ghost use Rattle.mich_interpreter.specs.Sees.{Sees};
+ghost use Rattle.mich_interpreter.specs.declared.act.Act.{Act};
+ghost use Rattle.mich_interpreter.specs.Went.{Goes, StepSays};
 ghost use Rattle.mich_interpreter.specs.Callers.{InCall, SomeStart};
-ghost use Rattle.mich_interpreter.specs.Runs.{StaysIn, StaysBehind, StaysBehindAct, StaysBehindTurn, IsBegun, IsSpent, IsPaidStep, IsSettled, HasLeft, with_below, with_rest, SomeRun, SomeEnd, IsEnd, KeepsStep, KeepsEnd, IsNoBlock, IsNoSequence};
+ghost use Rattle.mich_interpreter.specs.Runs.{StaysIn, StaysBehind, StaysBehindAct, StaysBehindTurn, IsBegun, IsSpent, IsPaidStep, IsSettled, HasLeft, with_below, with_rest, SomeRun, SomeEnd, IsEnd, KeepsStep, KeepsEnd, IsNoBlock, IsNoSequence, IsGeneral};
 
 use crate::act::{Act, Failed, View};
 use crate::applying::act_apply;
-use crate::branches::{act_if, act_if_cons, act_if_left, act_if_none};
+use crate::branches::{act_if_cons, act_if_left, act_if_none};
 use crate::callers::{enter, go_back, go_home};
 use crate::calls::{act_exec, act_failwith, act_never};
 use crate::creating::act_create;
 use crate::dipping::act_dip;
 use crate::frame::Frame;
-use crate::giving::{act_lambda, act_push, act_self};
+use crate::giving::{act_lambda, act_self, go_push};
+use crate::paying::pay;
 use crate::iterating::{act_iter, next_each};
 use crate::loops::{Turn, act_loop, act_loop_left, further_turn, next_left_turn, next_turn};
 use crate::mapping::{act_map, next_made};
-use crate::stack::{put_all, put_below};
+use crate::stack::{pop_truth, put_all, put_below};
 use crate::state::State;
-use crate::straights::act_straight;
+use crate::straights::{Went, act_straight, go_straight, stopped};
 use mich_base::{BLOCK_LIMIT, Boxed, Memory, Rows};
 use mich_check::cache::Bodies;
-use mich_gas::Costs;
+use mich_gas::{Costs, Kind};
 use mich_instr::{Block, Instr};
 use mich_world::World;
 use std::alloc::Global;
+use std::mem;
 
 // A run on its way: the block that runs with the place of its next instruction, and what is left to do behind it.
 #[derive(Drop)]
@@ -62,7 +66,7 @@ pub enum Ended {
     Failed(State, Failed),
 }
 
-// An instruction, which isn't a sequence.
+// An instruction that isn't a sequence, and has no way of its own.
 #[tactic(auto, using(crate::proofs::Keeping::acts_same, crate::proofs::Keeping::acts_group, crate::proofs::Keeping::same_keeps))]
 fn perform(
     alloc: Global,
@@ -73,13 +77,13 @@ fn perform(
     instr: &Instr,
 ) -> Result<Act, Memory>
     requires charged { IsNoSequence instr.now }
+    requires general { IsGeneral instr.now }
     requires comes { ComesIn world.now (code instr.now) costs.now m.old }
     ensures acts { CarriesIn world.now (code instr.now) costs.now m.old m.new result }
     ensures less { IfOk result (λ a. Spends a m.old.meter m.new.meter) }
     ensures keeps { IfOk result (λ a. KeepsAct a m.old m.new) }
 {
     match instr {
-        Instr::If(first, second) => Ok(act_if(m, costs, first, second)?),
         Instr::IfNone(first, second) => Ok(act_if_none(m, costs, first, second)?),
         Instr::IfLeft(first, second) => Ok(act_if_left(m, costs, first, second)?),
         Instr::IfCons(first, second) => Ok(act_if_cons(alloc, m, costs, first, second)?),
@@ -104,16 +108,10 @@ fn perform(
             ..
         } => Ok(act_lambda(alloc, m, costs, *recursive, arg, ret, body, code)?),
         Instr::Never => Ok(act_never(m, costs)?),
-        Instr::Push {
-            ty,
-            literal,
-            lambdas,
-            ..
-        } => Ok(act_push(alloc, m, costs, ty, literal, lambdas)?),
         Instr::SelfContract { entrypoint, .. } => Ok(act_self(alloc, m, costs, entrypoint)?),
         Instr::Straight(simple, _) => Ok(act_straight(alloc, m, costs, world, bodies, simple)?),
         Instr::CreateContract(script) => Ok(act_create(alloc, m, costs, script)?),
-        Instr::Seq(_) => unreachable!(),
+        Instr::Seq(_) | Instr::If(_, _) | Instr::Push { .. } => unreachable!(),
     }
 }
 
@@ -144,6 +142,7 @@ fn unwind(alloc: Global, m: &mut State, costs: &Costs, frame: Frame) -> Result<A
 }
 
 // Puts a frame, if there is one, behind the others.
+#[inline(always)]
 fn put_frame(frames: &mut Rows<Frame>, below: Option<Frame>) -> Result<(), Memory>
     ensures { IfOk result (λ _. frames.new ≡ with_below frames.old below) }
 {
@@ -154,6 +153,7 @@ fn put_frame(frames: &mut Rows<Frame>, below: Option<Frame>) -> Result<(), Memor
 }
 
 // Opens a block over a frame or none, where there aren't too many.
+#[inline(always)]
 fn begin(m: &mut Machine, below: Option<Frame>, body: Block) -> Result<bool, Memory>
     ensures begun { IfOk result (λ b. IsBegun b below body m.old.frames m.old m.new) }
     ensures state { m.new.state ≡ m.old.state }
@@ -169,14 +169,20 @@ fn begin(m: &mut Machine, below: Option<Frame>, body: Block) -> Result<bool, Mem
 }
 
 // The same, over the rest of the block that runs.
+#[inline(always)]
 fn begin_inside(m: &mut Machine, below: Option<Frame>, body: Block) -> Result<bool, Memory>
     ensures begun { IfOk result (λ b. IsBegun b below body (with_rest m.old) m.old m.new) }
     ensures state { m.new.state ≡ m.old.state }
 {
-    let outer = m.block.share()?;
+    if m.depth >= BLOCK_LIMIT {
+        return Ok(false);
+    }
+    let outer = mem::replace(&mut m.block, body);
     m.frames.push(Frame::Rest(outer, m.at))?;
-    let begun = begin(m, below, body)?;
-    Ok(begun)
+    put_frame(&mut m.frames, below)?;
+    m.at = 0;
+    m.depth += 1;
+    Ok(true)
 }
 
 // What has acted in the block that runs.
@@ -202,6 +208,7 @@ fn follow(m: &mut Machine, act: Act) -> Result<Step, Memory>
 }
 
 // The body of the LOOP whose frame is on top.
+#[inline(always)]
 fn turning(frames: &Rows<Frame>) -> Option<&Block>
     ensures { IfSome result (λ body. (below : List Frame) × (frames.now ≡ below ++ Frame.Turns body.now ∷ [])) }
 {
@@ -213,6 +220,7 @@ fn turning(frames: &Rows<Frame>) -> Option<&Block>
 
 // A further turn of the LOOP whose frame is on top, which stays there. Nothing is changed where there is none.
 #[tactic(auto, using(crate::proofs::Keeping::same_keeps, crate::proofs::Keeping::keeps_state))]
+#[inline(always)]
 fn turn_again(m: &mut Machine, costs: &Costs) -> Result<Option<Step>, Memory>
     requires { SomeEnd costs.now m.old }
     ensures stays { StaysBehindTurn costs.now m.old m.new result }
@@ -272,8 +280,23 @@ fn leave(alloc: Global, m: &mut Machine, costs: &Costs) -> Result<Step, Memory>
     }
 }
 
+// What an instruction that opens nothing comes to in the block that runs.
+#[inline(always)]
+fn ended(went: Went) -> Result<Step, Memory>
+    ensures { (P : Act → Type 0) → Goes went P → IfOk result (λ s. StepSays s P) }
+{
+    match went {
+        Went::On => Ok(Step::Paid),
+        other => {
+            let why = stopped(other)?;
+            Ok(Step::Failed(why))
+        }
+    }
+}
+
 // The next instruction of the block, at a place within it.
 #[tactic(auto, using(crate::proofs::Keeping::same_keeps, crate::proofs::Keeping::keeps_state, crate::proofs::Keeping::keeps_on))]
+#[inline(always)]
 fn advance_inside(
     alloc: Global,
     m: &mut Machine,
@@ -298,6 +321,38 @@ fn advance_inside(
         } else {
             Ok(Step::Failed(Failed::DepthLimit))
         }
+    } else if let Instr::Straight(simple, _) = instr
+        && simple.in_step()
+    {
+        let went = go_straight(alloc, &mut m.state, costs, simple);
+        m.at += 1;
+        ended(went)
+    } else if let Instr::Push {
+        ty,
+        literal,
+        lambdas,
+        ..
+    } = instr
+    {
+        let went = go_push(alloc, &mut m.state, costs, ty, literal, lambdas);
+        m.at += 1;
+        ended(went)
+    } else if let Instr::If(first, second) = instr {
+        if !pay(&mut m.state.meter, costs, Kind::If, 0) {
+            return Ok(Step::Failed(Failed::OutOfGas));
+        }
+        let body = if pop_truth(&mut m.state.stack) {
+            first.share()?
+        } else {
+            second.share()?
+        };
+        m.at += 1;
+        let begun = begin_inside(m, None, body)?;
+        if begun {
+            Ok(Step::Paid)
+        } else {
+            Ok(Step::Failed(Failed::DepthLimit))
+        }
     } else {
         let act = perform(alloc, &mut m.state, costs, world, bodies, instr)?;
         m.at += 1;
@@ -308,6 +363,7 @@ fn advance_inside(
 
 // The next step.
 #[tactic(auto, using(crate::proofs::Keeping::same_keeps, crate::proofs::Keeping::keeps_state, crate::proofs::Keeping::keeps_on))]
+#[inline(always)]
 fn advance(
     alloc: Global,
     m: &mut Machine,
@@ -337,6 +393,7 @@ fn advance(
 
 // Steps up to one that was paid for, or an end.
 #[tactic(auto, using(crate::proofs::Keeping::same_keeps, crate::proofs::Keeping::keeps_state, crate::proofs::Keeping::keeps_on))]
+#[inline(always)]
 fn settle(
     alloc: Global,
     m: &mut Machine,

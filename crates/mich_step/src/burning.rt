@@ -73,7 +73,7 @@ pub(crate) fn order(
 }
 
 #[tactic(auto, using(mich_base::proofs::undo_lemmas::ForCallers::keeps_same))]
-pub(crate) fn pairs(
+pub fn pairs(
     alloc: Global,
     row: &PairRow,
     stack: &mut Rows<Value>,

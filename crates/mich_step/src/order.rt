@@ -42,7 +42,7 @@ fn drop_values<B: Burner>(
     Ok(())
 }
 
-fn dup_value(alloc: Global, place: u32, stack: &mut Rows<Value>) -> Result<(), StepError>
+pub fn dup_value(alloc: Global, place: u32, stack: &mut Rows<Value>) -> Result<(), StepError>
     requires fits { Fits (stack_step (i.dup place)) stack.old }
     requires suits { SuitsStack (i.dup place) (plain stack.old) }
     ensures { Keeps (stack_step (i.dup place)) stack.old stack.new result }
@@ -50,12 +50,20 @@ fn dup_value(alloc: Global, place: u32, stack: &mut Rows<Value>) -> Result<(), S
     let Some(value) = read_at(stack, place.saturating_sub(1) as usize) else {
         unreachable!()
     };
-    let copy = dup(alloc, value)?;
-    push(stack, copy)?;
+    match value {
+        Value::Number(n) => {
+            let number = *n;
+            push(stack, Value::Number(number))?;
+        }
+        other => {
+            let copy = dup(alloc, other)?;
+            push(stack, copy)?;
+        }
+    }
     Ok(())
 }
 
-fn swap(stack: &mut Rows<Value>) -> Result<(), StepError>
+pub fn swap(stack: &mut Rows<Value>) -> Result<(), StepError>
     requires { Fits (stack_step i.swap) stack.old }
     ensures { Keeps (stack_step i.swap) stack.old stack.new result }
 {
@@ -70,7 +78,7 @@ fn swap(stack: &mut Rows<Value>) -> Result<(), StepError>
     Ok(())
 }
 
-fn dig(alloc: Global, depth: u32, stack: &mut Rows<Value>) -> Result<(), StepError>
+pub fn dig(alloc: Global, depth: u32, stack: &mut Rows<Value>) -> Result<(), StepError>
     requires { Fits (stack_step (i.dig depth)) stack.old }
     ensures { Keeps (stack_step (i.dig depth)) stack.old stack.new result }
 {
@@ -79,7 +87,7 @@ fn dig(alloc: Global, depth: u32, stack: &mut Rows<Value>) -> Result<(), StepErr
     Ok(())
 }
 
-fn dug(alloc: Global, depth: u32, stack: &mut Rows<Value>) -> Result<(), StepError>
+pub fn dug(alloc: Global, depth: u32, stack: &mut Rows<Value>) -> Result<(), StepError>
     requires { Fits (stack_step (i.dug depth)) stack.old }
     ensures { Keeps (stack_step (i.dug depth)) stack.old stack.new result }
 {
@@ -90,7 +98,7 @@ fn dug(alloc: Global, depth: u32, stack: &mut Rows<Value>) -> Result<(), StepErr
     Ok(())
 }
 
-fn unit(stack: &mut Rows<Value>) -> Result<(), StepError>
+pub fn unit(stack: &mut Rows<Value>) -> Result<(), StepError>
     ensures { Keeps (stack_step i.unit) stack.old stack.new result }
 {
     push(stack, Value::Unit)?;

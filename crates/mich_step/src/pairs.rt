@@ -9,6 +9,7 @@ ghost use Rattle.mich_stack.specs.Views.{Sight, seen, values, plain};
 ghost use Rattle.mich_stack.specs.Ends.{Fits, Keeps, Ends, gone};
 ghost use Rattle.mich_stack.specs.Given.{Gives};
 ghost use Rattle.mich_step.specs.Burners.{StaysReady};
+ghost use Rattle.std.specs.Prelude.{IsTrue};
 ghost use Rattle.mich_step.specs.Parts.{ArePartsOnTop, IsPair, IsPart, IsReplaced};
 
 use mich_base::{Link, Memory, Rows};
@@ -41,7 +42,7 @@ fn take_comb(
     Ok(Value::Pair(first, rest))
 }
 
-fn pair(alloc: Global, count: u32, stack: &mut Rows<Value>) -> Result<(), StepError>
+pub fn pair(alloc: Global, count: u32, stack: &mut Rows<Value>) -> Result<(), StepError>
     requires { Fits (pair_step (i.pair count)) stack.old }
     ensures { Keeps (pair_step (i.pair count)) stack.old stack.new result }
 {
@@ -61,12 +62,12 @@ fn put_parts(comb: Value, others: u32, stack: &mut Rows<Value>) -> Result<(), Me
     let Some(further) = others.checked_sub(1) else {
         return push(stack, comb);
     };
-    let (first, rest) = split_pair(comb)?;
-    put_parts(rest, further, stack)?;
-    push(stack, first)
+    let (first, rest) = held_parts(comb);
+    put_parts(taken(rest)?, further, stack)?;
+    push(stack, taken(first)?)
 }
 
-fn unpair(count: u32, stack: &mut Rows<Value>) -> Result<(), StepError>
+pub fn unpair(count: u32, stack: &mut Rows<Value>) -> Result<(), StepError>
     requires { Fits (pair_step (i.unpair count)) stack.old }
     ensures { Keeps (pair_step (i.unpair count)) stack.old stack.new result }
 {
@@ -75,6 +76,29 @@ fn unpair(count: u32, stack: &mut Rows<Value>) -> Result<(), StepError>
     };
     put_parts(whole, count.saturating_sub(1), stack)?;
     Ok(())
+}
+
+// The parts of a pair, as they are held.
+#[inline(always)]
+fn held_parts(pair: Value) -> (Link<Value>, Link<Value>)
+    requires { (big : Sight) × IsPair (seen big pair) }
+    ensures { (big : Sight) → seen big pair ≡ both (seen big result.0) (seen big result.1) }
+{
+    let Value::Pair(first, second) = pair else {
+        unreachable!()
+    };
+    (first, second)
+}
+
+// What a part holds, where a number is read in its place.
+#[inline(always)]
+fn taken(part: Link<Value>) -> Result<Value, Memory>
+    ensures { IfOk result (λ v. v ≡ part) }
+{
+    match part.get() {
+        Value::Number(n) => Ok(Value::Number(*n)),
+        _ => part.into_value(),
+    }
 }
 
 // The parts of a pair.
@@ -95,9 +119,9 @@ fn car(stack: &mut Rows<Value>) -> Result<Value, StepError>
     let Some(whole) = pop(stack) else {
         unreachable!()
     };
-    let (first, second) = split_pair(whole)?;
-    push(stack, first)?;
-    Ok(second)
+    let (first, second) = held_parts(whole);
+    push(stack, taken(first)?)?;
+    Ok(Value::Some(second))
 }
 
 fn cdr(stack: &mut Rows<Value>) -> Result<Value, StepError>
@@ -107,12 +131,20 @@ fn cdr(stack: &mut Rows<Value>) -> Result<Value, StepError>
     let Some(whole) = pop(stack) else {
         unreachable!()
     };
-    let (first, second) = split_pair(whole)?;
-    push(stack, second)?;
-    Ok(first)
+    let (first, second) = held_parts(whole);
+    push(stack, taken(second)?)?;
+    Ok(Value::Some(first))
 }
 
-// The part of a comb with a number, and what holds all that is passed and left.
+// Whether a value is a number, a truth value, text or bytes, in which there is no ticket.
+#[inline(always)]
+fn is_plain(value: &Value) -> bool
+    ensures { IsTrue result → (big : Sight) → tickets (seen big value.now) ≡ [] }
+{
+    matches!(value, Value::Unit | Value::Bool(_) | Value::Number(_) | Value::Text(_) | Value::Bytes(_))
+}
+
+// The part of a comb with a number, and what holds the tickets in all that is passed and left.
 #[tactic(auto, using(crate::proofs::Combs::part_there, crate::proofs::Combs::part_is, crate::proofs::Combs::part_first))]
 fn take_part(alloc: Global, comb: Value, place: u32) -> Result<(Value, Value), Memory>
     requires { (big : Sight) × (is_some (part_at place (seen big comb)) ≡ true) }
@@ -121,12 +153,14 @@ fn take_part(alloc: Global, comb: Value, place: u32) -> Result<(Value, Value), M
     if place == 0 {
         return Ok((comb, Value::Unit));
     }
-    let (first, second) = split_pair(comb)?;
+    let (first, second) = held_parts(comb);
     let Some(further) = place.checked_sub(2) else {
-        return Ok((first, second));
+        return Ok((taken(first)?, Value::Some(second)));
     };
-    let (found, left) = take_part(alloc, second, further)?;
-    let first = Link::new(alloc, first)?;
+    let (found, left) = take_part(alloc, second.into_value()?, further)?;
+    if is_plain(first.get()) {
+        return Ok((found, left));
+    }
     let left = Link::new(alloc, left)?;
     Ok((found, Value::Pair(first, left)))
 }

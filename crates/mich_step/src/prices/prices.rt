@@ -24,7 +24,8 @@ fn stack_price(row: &StackRow) -> Kind
     }
 }
 
-fn pair_price(row: &PairRow) -> Kind
+#[inline(always)]
+pub fn pair_price(row: &PairRow) -> Kind
     ensures { result ≡ pair_kind (pair_row row.now) }
 {
     match row {
@@ -37,7 +38,8 @@ fn pair_price(row: &PairRow) -> Kind
     }
 }
 
-fn union_price(row: &UnionRow) -> Kind
+#[inline(always)]
+pub fn union_price(row: &UnionRow) -> Kind
     ensures { result ≡ union_kind (union_row row.now) }
 {
     match row {
@@ -67,7 +69,8 @@ pub fn collection_price(row: &CollectionRow) -> Kind
     }
 }
 
-fn number_price(row: &NumberRow) -> Kind
+#[inline(always)]
+pub fn number_price(row: &NumberRow) -> Kind
     ensures { result ≡ number_kind (number_row row.now) }
 {
     match row {
@@ -87,7 +90,8 @@ fn number_price(row: &NumberRow) -> Kind
     }
 }
 
-fn logic_price(row: &LogicRow) -> Kind
+#[inline(always)]
+pub fn logic_price(row: &LogicRow) -> Kind
     ensures { result ≡ logic_kind (logic_row row.now) }
 {
     match row {
