@@ -49,6 +49,7 @@ fn is_literal(alloc: Global, ty: &Ty, node: &Node) -> Result<bool, Memory>
     }
 }
 
+/// Whether a number is a value of a type. Memory where there is no room to tell.
 #[tactic(auto, using(crate::proofs::Leaves::number_leaf))]
 pub fn number_fits(alloc: Global, ty: &Ty, number: i128) -> Result<bool, Memory>
     ensures { IfOk result (λ b. b ≡ is_stored (kind ty.now) (number_val number)) }
@@ -56,6 +57,7 @@ pub fn number_fits(alloc: Global, ty: &Ty, number: i128) -> Result<bool, Memory>
     is_literal(alloc, ty, &Node::Int(number))
 }
 
+/// So of a text.
 #[tactic(auto, using(crate::proofs::Leaves::text_leaf))]
 pub fn text_fits(alloc: Global, ty: &Ty, text: &Text) -> Result<bool, Memory>
     ensures { IfOk result (λ b. b ≡ is_stored (kind ty.now) (text_val text.now)) }
@@ -70,6 +72,7 @@ fn bytes_node(alloc: Global, bytes: &Bytes) -> Result<Node, Memory>
     Ok(Node::Bytes(bytes.copy(alloc)?))
 }
 
+/// So of bytes.
 pub fn bytes_fit(alloc: Global, ty: &Ty, bytes: &Bytes) -> Result<bool, Memory>
     ensures { IfOk result (λ b. b ≡ is_stored (kind ty.now) (bytes_val bytes.now)) }
 {

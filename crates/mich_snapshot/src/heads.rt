@@ -124,7 +124,7 @@ fn sums_hold(read: &ReadState) -> bool
     all_mutez(read) <= MOST_MUTEZ && (read.head.pays || read.storage_burn == 0)
 }
 
-// Tries the rules of the head, of the costs and of the sums.
+/// Tries the rules of the head, of the costs and of the sums. Unsound at the first byte of the first of them whose rules fail (this host's own).
 pub fn try_heads(read: &ReadState) -> Result<(), LoadError>
     ensures { (s : State) → IsSpelt s → IsKeptState s (state read.now) → Tries 0 (front_parts s) result }
 {

@@ -169,6 +169,8 @@ fn sound_account(
     })
 }
 
+/// The accounts that were read, where the rules of each hold, with what they hold of tickets added to the sums. Unsound at the first byte of the
+/// first account whose rules fail (this host's own). Memory where there is no room.
 pub fn sound_accounts(
     alloc: Global,
     sums: &mut Sums,
@@ -359,6 +361,8 @@ fn sound_contract(
     Ok(saved)
 }
 
+/// The contracts that were read with their typed scripts, where the rules of each hold, with the tickets that they store added to the sums. Unsound at
+/// the first byte of the first contract whose rules fail (this host's own). Memory where there is no room.
 pub fn sound_contracts(
     alloc: Global,
     head: &Head,
@@ -515,6 +519,8 @@ fn tried_totals(
     Ok(sound)
 }
 
+/// The totals of tickets that were read, where the rules of each hold: the sums are then of all that is held and stored. Unsound at the first byte of
+/// the first ticket whose rules fail (this host's own). Memory where there is no room.
 pub fn sound_totals(
     alloc: Global,
     sums: &Sums,

@@ -12,14 +12,14 @@ use mich_term::{Ticket, TicketId, copy_id};
 use std::alloc::Global;
 use std::collections::BTreeMap;
 
-// Of each ticket that has a total, how much was found, counted up to 2^128-1.
+/// Of each ticket that has a total, how much was found, counted up to 2^128-1.
 #[derive(Drop)]
 pub struct Sums {
     found: BTreeMap<TicketId, u128>,
 }
 
 impl Sums {
-    // Nothing was found yet of the tickets that have these totals.
+    /// Nothing was found yet of the tickets that have these totals. Memory where there is no room.
     pub fn of_totals(alloc: Global, totals: &Rows<ReadTotal>) -> Result<Sums, Memory>
         ensures { (s : State) → map (λ t. (total t).1) totals.now ≡ s.tickets → IfOk result (λ sums. AreFound s nothing sums.found.entries) }
     {
@@ -31,7 +31,7 @@ impl Sums {
         Ok(Sums { found })
     }
 
-    // More of a ticket is found. False where it has no total.
+    /// More of a ticket is found. False where it has no total; the sums are given up then.
     pub fn add(&mut self, id: &TicketId, amount: i128) -> bool
         ensures { FindsTicket self.old.found.entries self.new.found.entries (identity id.now) amount result }
     {
@@ -44,7 +44,7 @@ impl Sums {
         }
     }
 
-    // More is found of each. False where one has no total.
+    /// More is found of each of these tickets. False where one has no total; the sums are given up then.
     pub fn add_all(&mut self, tickets: &Rows<Ticket>) -> bool
         ensures { FindsTickets self.old.found.entries self.new.found.entries (map held tickets.now) result }
     {
@@ -56,7 +56,7 @@ impl Sums {
         true
     }
 
-    // Whether so much was found of a ticket.
+    /// Whether so much was found of a ticket that has a total.
     pub fn is(&self, id: &TicketId, amount: i128) -> bool
         ensures { (s : State) (found : Identity → ℕ) → AreFound s found self.now.found.entries → result ≡ is_found s found (identity id.now) amount }
     {
