@@ -11,7 +11,7 @@ use Rattle.rules_world.specs.world.Receipts.{Receipt}
 use Rattle.rules_world.specs.world.World.{World, account_at}
 use Rattle.rules_world.specs.world.Balances.{Granted, Repeated, TooMuch, endowed}
 use Rattle.rules_world.specs.world.Groups.{Settled, group}
-use Rattle.rules_files.specs.course.Course.{Course, Step, goes_on, stops, stuck_step, with_rate, with_prices, costs_step, granting, is_later, timed, block_step, numbered, step_behind, first_step}
+use Rattle.rules_files.specs.course.Course.{Course, Step, goes_on, stops, stuck_step, with_rate, with_prices, costs_step, granting, is_later, timed, numbered, step_behind, first_step}
 use Rattle.rules_files.specs.commands.Replay.{step, Replay, IsReplay, State}
 use Rattle.laws_commands.specs.audits.Changes.{BurnsAtRate, KeepsBurn, receipt_changes}
 use Rattle.laws_commands.specs.audits.FileLogs.{receipts_changes, FilesBurnAtRate, FilesTellChanges}

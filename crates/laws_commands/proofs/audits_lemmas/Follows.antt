@@ -13,7 +13,7 @@ use Rattle.std.proofs.lemmas.List.{reverse-append}
 use Rattle.rules_data.specs.values.Val.{is_comparable}
 use Rattle.rules_data.specs.values.Tickets.{Identity}
 use Rattle.rules_code.specs.evaluation.Surroundings.{Contract}
-use Rattle.rules_code.specs.steps.Changes.{Change, minted, burnt, is_alike}
+use Rattle.rules_code.specs.steps.Changes.{Change, minted, burnt}
 use Rattle.rules_code.specs.steps.Changes as changes
 use Rattle.rules_world.specs.world.Balances.{supply}
 use Rattle.rules_world.specs.world.Receipts.{Receipt}

@@ -7,7 +7,6 @@ use Rattle.rules_text.specs.nodes.Tree.{Tree}
 use Rattle.rules_data.specs.forms.Spelling.{is_implicit, contract_place, implicit_place, default_name}
 use Rattle.rules_data.specs.gas.Prices.{Listed, cost}
 use Rattle.rules_data.specs.declared.gas.Kind.TheVariants as price
-use Rattle.rules_data.specs.types.Kind.{Kind}
 use Rattle.rules_data.specs.types.Kind as k
 use Rattle.rules_data.specs.values.Val.{Val}
 use Rattle.rules_data.specs.values.Tickets.{Held}
@@ -28,7 +27,7 @@ use Rattle.rules_world.specs.world.Balances.{with_balance, with_contract_balance
 use Rattle.rules_world.specs.world.Growth.{Burn, burn_by, burn_for, burning, burnt_from, growing, size_of, unless_short, with_paid}
 use Rattle.rules_world.specs.world.Outcomes.{Setting, Counts, no_counts, Waiting, ordered, issued, Outcome, applied, failed, stuck, charged_by}
 use Rattle.rules_world.specs.world.Targets.{Target, Search, met, on_met, search}
-use Rattle.rules_world.specs.world.Runs.{Returned, Ended, finished, run_failed, run_stuck, Finished, finished_with, unless_twice, with_returned, behind_code, run_of, run_in, with_effect, run, environment_of, has_twice, discarded, issued_with, returned, outcome_of, tally_of}
+use Rattle.rules_world.specs.world.Runs.{Returned, Ended, finished, run_failed, run_stuck, finished_with, unless_twice, with_returned, behind_code, run_of, run_in, with_effect, run, environment_of, has_twice, discarded, issued_with, returned, outcome_of, tally_of}
 use Rattle.rules_world.specs.world.Transfers.{Transaction, transfer_effect, as_ticket, with_ticket, account_failure, account_outcome, taken_by_account, with_taken, called, if_covered, with_argument, delivered, transferred}
 use Rattle.rules_world.specs.world.Runs as runs
 use Rattle.rules_world.specs.world.Arguments.{argument_in, literal_in}

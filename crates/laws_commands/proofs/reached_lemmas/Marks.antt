@@ -14,7 +14,7 @@ use Rattle.rules_world.specs.world.Balances.{Granted, Repeated, TooMuch, endowed
 use Rattle.rules_world.specs.world.Groups.{Settled, group}
 use Rattle.rules_world.specs.world.Receipts.{Receipt}
 use Rattle.rules_world.specs.world.World.{World, account_at}
-use Rattle.rules_files.specs.statements.Statements.{Statement, Chain, Profile, Costs, Account, Block, Group, ◌>>=◌, only_if, integer_of, within, number_of, moment_of, bytes_of, nodes_of, named, contents_of, chain_of, profile_of, costs_of, account_of, block_of, group_of, statement_by, form}
+use Rattle.rules_files.specs.statements.Statements.{Statement, Chain, Profile, Costs, Account, Block, Group, within, number_of, moment_of, bytes_of, nodes_of, named, contents_of, chain_of, profile_of, costs_of, account_of, block_of, group_of, statement_by, form}
 use Rattle.rules_files.specs.statements.Statements as statements
 use Rattle.rules_files.specs.course.Course.{Course, Step, goes_on, stops, stuck_step, with_rate, with_prices, costs_step, granting, is_later, timed, numbered, step_behind, first_step, BadOrder}
 use Rattle.rules_files.specs.commands.Places.{Placed}

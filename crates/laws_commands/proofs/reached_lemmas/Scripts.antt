@@ -4,7 +4,7 @@ use Rattle.rules_text.specs.nodes.Tree.{Tree, int, str, bytes, prim, seq, Trees,
 use Rattle.rules_text.specs.nodes.Primitives.{primitive_of_name}
 use Rattle.rules_text.specs.declared.nodes.Primitive.{Primitive}
 use Rattle.rules_text.specs.declared.nodes.Primitive.TheVariants as p
-use Rattle.rules_data.specs.types.Kind.{Kind, nodes}
+use Rattle.rules_data.specs.types.Kind.{Kind}
 use Rattle.rules_data.specs.types.Kind as k
 use Rattle.rules_data.specs.types.Attributes.{storable}
 use Rattle.rules_data.specs.types.Reading.{Former, simple_type, operation_type, one_argument, two_arguments, pair_type, former_of_name, asked_of_argument, of_argument, asked_of_first, asked_of_second, of_arguments, any_kind, Read, good, bad, Part, part, with_part, on_good, paired, applied, typed, parts, Reading, a_type, bad_type, too_large, limited, type_at}
