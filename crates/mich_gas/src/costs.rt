@@ -64,6 +64,7 @@ impl Costs {
     }
 
     /// The price of a kind.
+    #[inline(always)]
     pub fn price(&self, kind: Kind) -> Price
         ensures { seen_price result ≡ price_of (listed self.now) kind }
     {
@@ -114,6 +115,7 @@ impl Costs {
 }
 
 // The place of a kind among all kinds.
+#[inline(always)]
 fn place_of(kind: Kind) -> usize
     ensures value { result ≡ place kind }
     ensures within { result < 98 }

@@ -42,6 +42,7 @@ impl Meter {
     }
 
     /// The gas left.
+    #[inline(always)]
     pub fn left(&self) -> u64
         ensures { result ≡ self.now }
     {
@@ -51,6 +52,7 @@ impl Meter {
     /// Takes the cost of a kind at a weight.
     ///
     /// `OutOfGas` exactly where the cost is over the gas left; the meter is then as it was.
+    #[inline(always)]
     pub fn charge(&mut self, costs: &Costs, kind: Kind, weight: u64) -> Result<(), OutOfGas>
         ensures taken { OnOk result (cost (listed costs.now) kind weight + self.new ≡ self.old) }
 

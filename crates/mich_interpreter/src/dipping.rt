@@ -18,6 +18,7 @@ use std::alloc::Global;
 use std::mem;
 
 // Takes so many values from the top.
+#[inline(always)]
 fn take_above(alloc: Global, stack: &mut Rows<Value>, count: usize) -> Result<Rows<Value>, Memory>
     requires { count ≤ length stack.old }
     ensures { IfOk result (λ above. AreTaken count stack.old above stack.new) }

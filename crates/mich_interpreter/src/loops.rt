@@ -26,6 +26,7 @@ pub(crate) enum Turn {
 }
 
 // Takes the truth value on top and pays for a further turn, where it says that there is one. Else nothing is changed.
+#[inline(always)]
 pub(crate) fn further_turn(m: &mut State, costs: &Costs) -> Turn
     requires { (body : List Instr) × Waits (Frame.Turns body) costs.now m.old }
     ensures turned { TurnsSo result costs.now m.old m.new }

@@ -144,6 +144,7 @@ fn unwind(alloc: Global, m: &mut State, costs: &Costs, frame: Frame) -> Result<A
 }
 
 // Puts a frame, if there is one, behind the others.
+#[inline(always)]
 fn put_frame(frames: &mut Rows<Frame>, below: Option<Frame>) -> Result<(), Memory>
     ensures { IfOk result (λ _. frames.new ≡ with_below frames.old below) }
 {
@@ -154,6 +155,7 @@ fn put_frame(frames: &mut Rows<Frame>, below: Option<Frame>) -> Result<(), Memor
 }
 
 // Opens a block over a frame or none, where there aren't too many.
+#[inline(always)]
 fn begin(m: &mut Machine, below: Option<Frame>, body: Block) -> Result<bool, Memory>
     ensures begun { IfOk result (λ b. IsBegun b below body m.old.frames m.old m.new) }
     ensures state { m.new.state ≡ m.old.state }
@@ -169,6 +171,7 @@ fn begin(m: &mut Machine, below: Option<Frame>, body: Block) -> Result<bool, Mem
 }
 
 // The same, over the rest of the block that runs.
+#[inline(always)]
 fn begin_inside(m: &mut Machine, below: Option<Frame>, body: Block) -> Result<bool, Memory>
     ensures begun { IfOk result (λ b. IsBegun b below body (with_rest m.old) m.old m.new) }
     ensures state { m.new.state ≡ m.old.state }
@@ -202,6 +205,7 @@ fn follow(m: &mut Machine, act: Act) -> Result<Step, Memory>
 }
 
 // The body of the LOOP whose frame is on top.
+#[inline(always)]
 fn turning(frames: &Rows<Frame>) -> Option<&Block>
     ensures { IfSome result (λ body. (below : List Frame) × (frames.now ≡ below ++ Frame.Turns body.now ∷ [])) }
 {
@@ -213,6 +217,7 @@ fn turning(frames: &Rows<Frame>) -> Option<&Block>
 
 // A further turn of the LOOP whose frame is on top, which stays there. Nothing is changed where there is none.
 #[tactic(auto, using(crate::proofs::Keeping::same_keeps, crate::proofs::Keeping::keeps_state))]
+#[inline(always)]
 fn turn_again(m: &mut Machine, costs: &Costs) -> Result<Option<Step>, Memory>
     requires { SomeEnd costs.now m.old }
     ensures stays { StaysBehindTurn costs.now m.old m.new result }
@@ -274,6 +279,7 @@ fn leave(alloc: Global, m: &mut Machine, costs: &Costs) -> Result<Step, Memory>
 
 // The next instruction of the block, at a place within it.
 #[tactic(auto, using(crate::proofs::Keeping::same_keeps, crate::proofs::Keeping::keeps_state, crate::proofs::Keeping::keeps_on))]
+#[inline(always)]
 fn advance_inside(
     alloc: Global,
     m: &mut Machine,
@@ -308,6 +314,7 @@ fn advance_inside(
 
 // The next step.
 #[tactic(auto, using(crate::proofs::Keeping::same_keeps, crate::proofs::Keeping::keeps_state, crate::proofs::Keeping::keeps_on))]
+#[inline(always)]
 fn advance(
     alloc: Global,
     m: &mut Machine,
@@ -337,6 +344,7 @@ fn advance(
 
 // Steps up to one that was paid for, or an end.
 #[tactic(auto, using(crate::proofs::Keeping::same_keeps, crate::proofs::Keeping::keeps_state, crate::proofs::Keeping::keeps_on))]
+#[inline(always)]
 fn settle(
     alloc: Global,
     m: &mut Machine,

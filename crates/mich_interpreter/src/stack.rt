@@ -15,6 +15,7 @@ use std::alloc::Global;
 use std::mem;
 
 // Puts a value on top. Memory where there is no room for it.
+#[inline(always)]
 pub(crate) fn push(stack: &mut Rows<Value>, value: Value) -> Result<(), Memory>
     ensures { IfOk result (λ _. (big : Sight) → tops big stack.new ≡ seen big value ∷ tops big stack.old) }
 {
@@ -33,6 +34,7 @@ pub(crate) fn pop(stack: &mut Rows<Value>) -> Value
 }
 
 // Takes the truth value on top.
+#[inline(always)]
 pub(crate) fn pop_truth(stack: &mut Rows<Value>) -> bool
     requires { (big : Sight) × HasTruth (tops big stack.old) }
     ensures { (big : Sight) → tops big stack.old ≡ truth result ∷ tops big stack.new }
@@ -44,6 +46,7 @@ pub(crate) fn pop_truth(stack: &mut Rows<Value>) -> bool
 }
 
 // The truth value on top.
+#[inline(always)]
 pub(crate) fn is_true(stack: &Rows<Value>) -> bool
     requires { (big : Sight) × HasTruth (tops big stack.now) }
     ensures { (big : Sight) → is_true_top (tops big stack.now) ≡ result }

@@ -182,6 +182,7 @@ pub enum TicketRow {
 impl Simple {
     /// Whether it asks for nothing but the stack, the tickets and what surrounds the run. The others pack, hash, look up or issue, or
     /// work on big maps.
+    #[inline(always)]
     pub fn in_step(&self) -> bool
         ensures { result ≡ in_step (straight self.now) }
     {
@@ -199,6 +200,7 @@ impl Simple {
 
 impl CollectionRow {
     // Whether it makes a big map or works on one.
+    #[inline(always)]
     fn is_on_big_map(&self) -> bool
         ensures { result ≡ is_on_big_map (collection_row self.now) }
     {

@@ -9,6 +9,7 @@ use std::alloc::Global;
 use std::mem;
 
 /// The value on top, and those below it. None where there is none.
+#[inline(always)]
 pub fn split_top(stack: &[Value]) -> Option<(&Value, &[Value])>
     ensures { (big : Sight) → MatchOption result (values big stack.now ≡ []) (λ p. values big stack.now ≡ seen big p.0.now ∷ values big p.1.now) }
 {
@@ -19,6 +20,7 @@ pub fn split_top(stack: &[Value]) -> Option<(&Value, &[Value])>
 }
 
 /// The two values on top, the first of which is on top, and those below them. None where there are fewer.
+#[inline(always)]
 pub fn two_on_top(stack: &[Value]) -> Option<(&Value, &Value, &[Value])>
     ensures { (big : Sight) → MatchOption result (IsBelowTwo (values big stack.now)) (λ p. values big stack.now ≡ seen big p.0.now ∷ seen big p.1.now ∷ values big p.2.now) }
 {
@@ -29,6 +31,7 @@ pub fn two_on_top(stack: &[Value]) -> Option<(&Value, &Value, &[Value])>
 
 /// Takes so many values from the top, in which there is no ticket.
 #[tactic(auto, using(crate::proofs::Tops::values_below))]
+#[inline(always)]
 pub fn take_off(stack: &mut Rows<Value>, count: usize)
     ensures { (big : Sight) → values big stack.new ≡ drop count (values big stack.old) }
 {
@@ -36,6 +39,7 @@ pub fn take_off(stack: &mut Rows<Value>, count: usize)
 }
 
 /// Puts a value on top. Memory where there is no room for it.
+#[inline(always)]
 pub fn push(stack: &mut Rows<Value>, value: Value) -> Result<(), Memory>
     ensures { IfOk result (λ _. (big : Sight) → values big stack.new ≡ seen big value ∷ values big stack.old) }
 {
@@ -43,6 +47,7 @@ pub fn push(stack: &mut Rows<Value>, value: Value) -> Result<(), Memory>
 }
 
 /// Takes the value on top. None where there is none.
+#[inline(always)]
 pub fn pop(stack: &mut Rows<Value>) -> Option<Value>
     ensures { (big : Sight) → MatchOption result (values big stack.old ≡ []) (λ v. values big stack.old ≡ seen big v ∷ values big stack.new) }
 {
@@ -50,6 +55,7 @@ pub fn pop(stack: &mut Rows<Value>) -> Option<Value>
 }
 
 /// Puts a value in place of so many on top, in which there is no ticket. Memory where there is no room for it.
+#[inline(always)]
 pub fn put(stack: &mut Rows<Value>, taken: usize, value: Value) -> Result<(), Memory>
     ensures { IfOk result (λ _. (big : Sight) → values big stack.new ≡ seen big value ∷ drop taken (values big stack.old)) }
 {
@@ -60,6 +66,7 @@ pub fn put(stack: &mut Rows<Value>, taken: usize, value: Value) -> Result<(), Me
 
 /// The value at a depth. None where there is none.
 #[tactic(auto, using(crate::proofs::Depths::get_is))]
+#[inline(always)]
 pub fn read_at(stack: &Rows<Value>, depth: usize) -> Option<&Value>
     ensures { (big : Sight) → option_map (λ v. seen big v.now) result ≡ slice_get (values big stack.now) depth }
 {

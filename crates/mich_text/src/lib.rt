@@ -14,9 +14,6 @@ mod token;
 
 pub use fault::TextError;
 pub use laws::{a_line_is_read_again, one_reading};
-pub use line::print;
+pub use line::{print, put_node};
 pub use reader::{Placed, read_alone, read_part, read_statement};
 pub use rules_text::text::TextKind;
-
-#[cfg(test)]
-mod limit_tests;

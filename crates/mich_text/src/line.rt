@@ -85,8 +85,9 @@ fn is_wrapped(node: &Node) -> bool
     }
 }
 
+/// Puts the node behind a line, as `print` writes it. Memory where there is no room for it.
 #[cycle(print)]
-fn put_node(alloc: Global, line: &mut Vec<u8>, node: &Node) -> Result<(), Memory>
+pub fn put_node(alloc: Global, line: &mut Vec<u8>, node: &Node) -> Result<(), Memory>
     ensures { OnOk result (line.new.items ≡ line.old.items ++ printed (tree node.now)) }
 {
     match node {

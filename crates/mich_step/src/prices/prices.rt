@@ -24,6 +24,7 @@ fn stack_price(row: &StackRow) -> Kind
     }
 }
 
+#[inline(always)]
 fn pair_price(row: &PairRow) -> Kind
     ensures { result ≡ pair_kind (pair_row row.now) }
 {
@@ -37,6 +38,7 @@ fn pair_price(row: &PairRow) -> Kind
     }
 }
 
+#[inline(always)]
 fn union_price(row: &UnionRow) -> Kind
     ensures { result ≡ union_kind (union_row row.now) }
 {
@@ -67,6 +69,7 @@ pub fn collection_price(row: &CollectionRow) -> Kind
     }
 }
 
+#[inline(always)]
 fn number_price(row: &NumberRow) -> Kind
     ensures { result ≡ number_kind (number_row row.now) }
 {
@@ -87,6 +90,7 @@ fn number_price(row: &NumberRow) -> Kind
     }
 }
 
+#[inline(always)]
 fn logic_price(row: &LogicRow) -> Kind
     ensures { result ≡ logic_kind (logic_row row.now) }
 {
