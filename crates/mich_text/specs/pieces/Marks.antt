@@ -1,5 +1,5 @@
 -- Bytes of a text as they are told apart before they are read: where strings, comments and brackets begin and end.
-use Rattle.std.specs.Prelude.{ℕ, suc, ◌+◌, ◌-◌, List, [], ◌∷◌, length, Bool, false, ◌&&◌, ◌||◌, ◌==◌, if◌then◌else◌}
+use Rattle.std.specs.Prelude.{◌≡◌, ℕ, suc, ◌+◌, ◌-◌, List, [], ◌∷◌, length, Bool, false, ◌&&◌, ◌||◌, ◌==◌, if◌then◌else◌}
 use Rattle.rules_text.specs.text.Lexical.{is_white, opens, closes}
 use Rattle.mich_text.specs.declared.pieces.scan.Mode.{Mode}
 use Rattle.mich_text.specs.declared.pieces.scan.Mode.TheVariants.{Outside, Slash, Line, Block, Text, Escape}
@@ -32,6 +32,12 @@ is_sign Line depth c = false
 is_sign (Block levels previous) depth c = false
 is_sign Text depth c = false
 is_sign Escape depth c = false
+
+-- outside of strings and comments this byte changes neither, and is no such `;`
+pub record IsPlain (c : ℕ) : Type 0 where
+  pub mode : mode_after Outside c ≡ Outside
+  pub depth : (d : ℕ) → depth_after Outside d c ≡ d
+  pub sign : (d : ℕ) → is_sign Outside d c ≡ false
 
 -- how many bytes of a statement there are, where with this one its first byte is known, else 0
 abbrev pub started : Mode → ℕ → ℕ

@@ -1,6 +1,7 @@
 //! Looking for the `;` that may end a statement, before the statement is read.
-ghost use Rattle.std.specs.Prelude.{◌≡◌, ◌+◌, ◌∷◌, ◌^◌, ◌<◌, ◌≤◌, List, ℕ, length, true, false};
-ghost use Rattle.mich_text.specs.pieces.Marks.{mode_after, depth_after, is_sign, started, since_after, levels_of};
+ghost use Rattle.std.specs.Prelude.{◌≡◌, ◌+◌, ◌∷◌, ◌^◌, ◌<◌, ◌≤◌, List, ℕ, length, true, false, IsTrue};
+ghost use Rattle.mich_text.specs.declared.pieces.scan.Mode.TheVariants as Mode;
+ghost use Rattle.mich_text.specs.pieces.Marks.{IsPlain, mode_after, depth_after, is_sign, started, since_after, levels_of};
 ghost use Rattle.mich_text.specs.pieces.Scans.{ahead, begun, IsBounded, IsScanned};
 
 /// Where in a text a byte stands.
@@ -96,6 +97,13 @@ fn is_sign(mode: Mode, depth: usize, byte: u8) -> bool
     }
 }
 
+// Whether outside of strings and comments a byte changes neither where the next one stands nor how many brackets are open, and is no `;`.
+fn is_plain(byte: u8) -> bool
+    ensures { IsTrue result → IsPlain byte }
+{
+    !matches!(byte, b'"' | b'#' | b'/' | b'{' | b'(' | b'}' | b')' | b';')
+}
+
 /// How many bytes of the statement were seen, where with this one its first byte is known.
 fn started(mode: Mode, byte: u8) -> usize
     ensures { result ≡ started mode byte }
@@ -138,6 +146,25 @@ impl Scan {
         }
     }
 
+    // With one more byte, which is plain, behind the statement's first one.
+    fn counted(self) -> Scan
+        requires outside { self.mode ≡ Mode.Outside }
+        requires begun { 0 < self.since }
+        requires found { self.found ≡ false }
+        requires bounded { IsBounded self }
+        requires room { self.seen + 2 < 2 ^ 64 }
+        ensures ahead { (byte : ℕ) (rest : List ℕ) → IsPlain byte → ahead self (byte ∷ rest) ≡ ahead result rest }
+        ensures begun { (byte : ℕ) (rest : List ℕ) → begun self (byte ∷ rest) ≡ begun result rest }
+        ensures bounded { IsBounded result }
+        ensures seen { result.seen ≡ self.seen + 1 }
+    {
+        Scan {
+            since: self.since + 1,
+            seen: self.seen + 1,
+            ..self
+        }
+    }
+
     fn after(self, byte: u8) -> Scan
         requires found { self.found ≡ false }
         requires bounded { IsBounded self }
@@ -147,6 +174,9 @@ impl Scan {
         ensures bounded { IsBounded result }
         ensures seen { result.seen ≡ self.seen + 1 }
     {
+        if self.since > 0 && matches!(self.mode, Mode::Outside) && is_plain(byte) {
+            return self.counted();
+        }
         Scan {
             mode: mode_after(self.mode, byte),
             depth: depth_after(self.mode, self.depth, byte),
