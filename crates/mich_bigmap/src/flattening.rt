@@ -25,17 +25,16 @@ fn copy_change(alloc: Global, change: &Option<Value>) -> Result<Option<Value>, M
 }
 
 // Equal changes. Memory where there is no room for them.
-#[tactic(auto, using(mich_term::proofs::ForCallers::table_step))]
 pub(crate) fn copy_changes(alloc: Global, changes: &Changes) -> Result<Changes, Memory>
     ensures { IfOk result (λ cs. cs ≡ changes.now) }
 {
-    let mut copies = Table::new(alloc);
+    let mut copies = Vec::with_capacity(alloc, changes.len())?;
     for (key, change) in changes.iter() {
         let new_key = copy_datum(alloc, key)?;
         let new_change = copy_change(alloc, change)?;
-        copies.insert(new_key, new_change)?;
+        copies.push((new_key, new_change))?;
     }
-    Ok(copies)
+    Table::of_entries(alloc, copies)
 }
 
 // Writes a change over entries. Memory where there is no room for it.
@@ -91,15 +90,14 @@ pub(crate) fn collect(
 }
 
 // The changes that put these entries. Memory where there is no room for them.
-#[tactic(auto, using(crate::proofs::Putting::puts_step))]
+#[tactic(auto, using(crate::proofs::Putting::puts_end))]
 pub(crate) fn puts_of(alloc: Global, entries: Table<Value>) -> Result<Changes, Memory>
     ensures changes { IfOk result (λ cs. cs ≡ puts_for entries) }
     ensures increasing { IsIncreasing (keys_of entries) }
 {
-    let _count = entries.len();
-    let mut changes = Table::new(alloc);
+    let mut changes = Vec::with_capacity(alloc, entries.len())?;
     for (key, value) in entries.into_entries() {
-        changes.insert(key, Some(value))?;
+        changes.push((key, Some(value)))?;
     }
-    Ok(changes)
+    Table::of_entries(alloc, changes)
 }

@@ -1,3 +1,4 @@
+pub mod Built
 pub mod Comparable
 pub mod Each
 pub mod Ends

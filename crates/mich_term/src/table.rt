@@ -39,6 +39,17 @@ impl<V> Table<V> {
         }
     }
 
+    /// The table of these entries, whose keys strictly increase: no place is looked for. Memory where there is no room for it.
+    pub fn of_entries(alloc: Global, entries: Vec<(Datum, V)>) -> Result<Table<V>, Memory>
+    where
+        V: Drop,
+        requires { IsIncreasing (keys_of entries.items) }
+        ensures { IfOk result (λ t. t ≡ entries.items) }
+    {
+        let map: BTreeMap<Datum, V> = entries.into_iter().collect(alloc)?;
+        Ok(Table { map })
+    }
+
     /// How many entries it has.
     pub fn len(&self) -> usize
         ensures value { result ≡ length self.now }

@@ -107,17 +107,16 @@ fn shadow_all(alloc: Global, values: &Chain<Value>) -> Result<Chain<Value>, Memo
     Ok(copies)
 }
 
-#[tactic(auto, using(crate::proofs::Ends::table_step))]
 fn shadow_table(alloc: Global, table: &Table<Value>) -> Result<Table<Value>, Memory>
     ensures { IfOk result (λ t. t ≡ table.now) }
 {
-    let mut copies = Table::new(alloc);
+    let mut copies = Vec::with_capacity(alloc, table.len())?;
     for (key, value) in table.iter() {
         let new_key = copy_datum(alloc, key)?;
         let new_value = shadow(alloc, value)?;
-        copies.insert(new_key, new_value)?;
+        copies.push((new_key, new_value))?;
     }
-    Ok(copies)
+    Table::of_entries(alloc, copies)
 }
 
 // An equal change.
@@ -130,20 +129,19 @@ fn shadow_change(alloc: Global, change: &Option<Value>) -> Result<Option<Value>,
     }
 }
 
-#[tactic(auto, using(crate::proofs::Ends::table_step))]
 fn shadow_changes(
     alloc: Global,
     changes: &Table<Option<Value>>,
 ) -> Result<Table<Option<Value>>, Memory>
     ensures { IfOk result (λ t. t ≡ changes.now) }
 {
-    let mut copies = Table::new(alloc);
+    let mut copies = Vec::with_capacity(alloc, changes.len())?;
     for (key, change) in changes.iter() {
         let new_key = copy_datum(alloc, key)?;
         let new_change = shadow_change(alloc, change)?;
-        copies.insert(new_key, new_change)?;
+        copies.push((new_key, new_change))?;
     }
-    Ok(copies)
+    Table::of_entries(alloc, copies)
 }
 
 fn shadow_big(alloc: Global, big: &BigMap) -> Result<BigMap, Memory>
