@@ -4,6 +4,7 @@
 pub mod answers;
 pub mod audit;
 pub mod binary;
+pub mod limits;
 pub mod reader;
 pub mod report;
 pub mod scenario;
