@@ -10,6 +10,7 @@ mod changes;
 mod entry;
 mod errors;
 mod holdings;
+mod known;
 mod ledger;
 mod line;
 mod lines;
