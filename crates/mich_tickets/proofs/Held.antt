@@ -33,6 +33,13 @@ own_written h v es fs e is i = by_test (is_own h) i.lent
     by_test true f = refl
     by_test false f = absurd (some fs (sym is ∙ f refl))
 
+-- what is kept for views
+pub seen_some : (v : Option Known) (k : Known) (b : Books) → v ≡ Some k → IsSeen v b → known_books k ≡ viewed_books b
+seen_some v k b e s = subst (λ x. IsSeen x b) e s
+
+pub seen_held : (h : Held) (v : Option Known) (k : Known) (es : List Entry) → IsHeld h v es → known_books k ≡ viewed_books (seen_known h) → IsHeld h (Some k) es
+seen_held h v k es i e = record { lent = i.lent; seen = e }
+
 -- a view of a view sees the same
 viewed_twice : (ls : Lines) → viewed_lines (viewed_lines ls) ≡ viewed_lines ls
 viewed_twice [] = refl

@@ -1,12 +1,11 @@
 // What a ledger knows, which views may hold too.
-ghost use Rattle.std.specs.Prelude.{◌≡◌, ◌<◌, true, IfOk, OnErr, IfSome, None, Option, is_some, vec_len, vec_capacity};
+ghost use Rattle.std.specs.Prelude.{◌≡◌, ◌<◌, true, IfOk, OnErr, IfSome, None, is_some, vec_len, vec_capacity};
 ghost use Rattle.std.specs.BTreeMap.{insert_entry};
 ghost use Rattle.mich_term.specs.TicketView.{identity};
 ghost use Rattle.mich_tickets.specs.Lines.{by_identity, line_of, with_totals, with_holding, with_old_holding};
 ghost use Rattle.mich_tickets.specs.Books.{no_books, opened, changed, minted_first, before};
 ghost use Rattle.mich_tickets.specs.declared.entry.Entry.TheVariants as entry;
-ghost use Rattle.mich_tickets.specs.declared.known.Known.{Known};
-ghost use Rattle.mich_tickets.specs.Known.{known_books, seen_known, is_own, IsHeld};
+ghost use Rattle.mich_tickets.specs.Known.{known_books, seen_known, is_own};
 
 use crate::entry::Entry;
 use crate::holdings::Holdings;
@@ -222,7 +221,11 @@ fn make_own(alloc: Global, held: &mut Held) -> Result<(), Memory>
 }
 
 // The same, with room for one more entry in the ledger's journal.
-pub(crate) fn make_ready(alloc: Global, held: &mut Held, journal: &mut Vec<Entry>) -> Result<(), Memory>
+pub(crate) fn make_ready(
+    alloc: Global,
+    held: &mut Held,
+    journal: &mut Vec<Entry>,
+) -> Result<(), Memory>
     ensures own { IfOk result (λ _. is_own held.new ≡ true) }
     ensures room { IfOk result (λ _. vec_len journal.new < vec_capacity journal.new) }
     ensures unchanged { OnErr result (held.new ≡ held.old) }
