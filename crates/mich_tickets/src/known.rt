@@ -1,8 +1,11 @@
 // What a ledger knows, which views may hold too.
-ghost use Rattle.std.specs.Prelude.{◌≡◌, ◌<◌, true, IfOk, OnErr, IfSome, None, is_some, vec_len, vec_capacity};
-ghost use Rattle.std.specs.BTreeMap.{insert_entry};
+ghost use Rattle.std.specs.Prelude.{◌≡◌, ◌<◌, pos, ◌+ℤ◌, ◌≤ℤ◌, true, IfOk, OnErr, IfSome, None, is_some, vec_len, vec_capacity};
+ghost use Rattle.std.specs.BTreeMap.{IsFromIterResult};
+ghost use Rattle.std.specs.Map.{keys_of};
+ghost use Rattle.std.specs.List.Sorted.{IsStrictlySortedBy};
 ghost use Rattle.mich_term.specs.TicketView.{identity};
-ghost use Rattle.mich_tickets.specs.Lines.{by_identity, line_of, with_totals, with_holding, with_old_holding};
+ghost use Rattle.mich_tickets.specs.Lines.{by_identity, line_of, with_totals, with_burn, with_holding, with_old_holding};
+ghost use Rattle.mich_tickets.specs.Sums.{minted_of, burnt_of};
 ghost use Rattle.mich_tickets.specs.Books.{no_books, opened, changed, minted_first, before};
 ghost use Rattle.mich_tickets.specs.declared.entry.Entry.TheVariants as entry;
 ghost use Rattle.mich_tickets.specs.Known.{known_books, seen_known, is_own};
@@ -107,6 +110,22 @@ impl Held {
         }
     }
 
+    // Adds to what was burnt of an identity that has a line, and gives the totals that stood there; takes no memory.
+    pub(crate) fn add_burnt(&mut self, id: &TicketId, n: i128) -> Option<Totals>
+        requires own { is_own self.old ≡ true }
+        requires positive { pos 0 ≤ℤ n }
+        requires within { (burnt_of (seen_known self.old) (identity id.now) +ℤ n) ≤ℤ minted_of (seen_known self.old) (identity id.now) }
+        ensures own { is_own self.new ≡ true }
+        ensures new { seen_known self.new ≡ changed (with_burn n) id.now (seen_known self.old) }
+        ensures back { IfSome result (λ old. before (entry.Totals id.now old) (seen_known self.new) ≡ seen_known self.old) }
+        ensures there { is_some result ≡ is_some (line_of (identity id.now) (seen_known self.old).lines) }
+    {
+        match self {
+            Held::Own(known) => lines::add_burnt(&mut known.lines, id, n),
+            Held::Lent(_) => unreachable!(),
+        }
+    }
+
     // Writes how much an owner holds of an identity that has a line, and gives what stood there. Memory where there is no room for
     // it; all is then unchanged.
     pub(crate) fn set_held(
@@ -176,25 +195,41 @@ fn copy_line(alloc: Global, line: &Line) -> Result<Line, Memory>
     })
 }
 
-// Puts a line in. Memory where there is no room for it.
-pub(crate) fn put_line(lines: &mut Lines, id: TicketId, line: Line) -> Result<(), Memory>
-    ensures { IfOk result (λ _. lines.new.entries ≡ insert_entry by_identity lines.old.entries id line) }
+// The lines that these pairs tell. Memory where there is no room for them.
+fn collected(alloc: Global, pairs: Vec<(TicketId, Line)>) -> Result<Lines, Memory>
+    ensures { IfOk result (λ lines. IsFromIterResult by_identity pairs.items lines) }
 {
-    lines.insert(id, line)?;
-    Ok(())
+    Ok(BTreeMap::from_iter(alloc, pairs)?)
+}
+
+// The lines with these entries, whose identities increase. Memory where there is no room for them.
+pub(crate) fn from_pairs(alloc: Global, pairs: Vec<(TicketId, Line)>) -> Result<Lines, Memory>
+    requires { IsStrictlySortedBy by_identity (keys_of pairs.items) }
+    ensures { IfOk result (λ lines. lines.entries ≡ pairs.items) }
+{
+    collected(alloc, pairs)
+}
+
+// Equal entries. Memory where there is no room for them.
+fn copy_pairs(alloc: Global, lines: &Lines) -> Result<Vec<(TicketId, Line)>, Memory>
+    ensures equal { IfOk result (λ pairs. pairs.items ≡ lines.now.entries) }
+    ensures ordered { IsStrictlySortedBy by_identity (keys_of lines.now.entries) }
+{
+    let mut pairs = Vec::with_capacity(alloc, lines.len())?;
+    for (id, line) in lines.iter() {
+        let key = copy_id(alloc, id)?;
+        let copy = copy_line(alloc, line)?;
+        pairs.push((key, copy))?;
+    }
+    Ok(pairs)
 }
 
 // Equal lines. Memory where there is no room for them.
 fn copy_lines(alloc: Global, lines: &Lines) -> Result<Lines, Memory>
     ensures { IfOk result (λ copies. copies.entries ≡ lines.now.entries) }
 {
-    let mut copies = BTreeMap::new(alloc);
-    for (id, line) in lines.iter() {
-        let key = copy_id(alloc, id)?;
-        let copy = copy_line(alloc, line)?;
-        put_line(&mut copies, key, copy)?;
-    }
-    Ok(copies)
+    let pairs = copy_pairs(alloc, lines)?;
+    from_pairs(alloc, pairs)
 }
 
 // The same, known again. Memory where there is no room for it.
