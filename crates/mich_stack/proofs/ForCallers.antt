@@ -1,5 +1,5 @@
 -- What the proofs of the crates above may cite of this crate.
-pub use Rattle.mich_stack.proofs.Burnt.{burnt_among_burns, given_ends, given_failed, given_gone}
+pub use Rattle.mich_stack.proofs.Burnt.{burnt_among_burns, given_ends, given_gone}
 pub use Rattle.mich_stack.proofs.Comparable.{comparable_seen}
 pub use Rattle.mich_stack.proofs.Compared.{order_seen}
 pub use Rattle.mich_stack.proofs.Pairs.{pair_of}

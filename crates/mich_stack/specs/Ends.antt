@@ -6,8 +6,7 @@ use Rattle.rules_code.specs.steps.Changes.{Change, minted, burnt, burns}
 use Rattle.rules_code.specs.steps.Step.{Step, done, fails, wrong, kept}
 use Rattle.mich_term.specs.declared.value.Value.{Value}
 use Rattle.mich_stack.specs.declared.error.StepError.{StepError}
-use Rattle.mich_stack.specs.declared.error.StepError.TheVariants.{Failed, Memory}
-use Rattle.mich_stack.specs.Views.{Sight, values, failure}
+use Rattle.mich_stack.specs.Views.{Sight, values, HasFailed}
 
 -- the values fit the instruction
 abbrev pub IsFitting : Step → Type 0
@@ -22,8 +21,7 @@ Fits step vs = (big : Sight) × IsFitting (step (values big vs))
 -- An instruction that discards nothing ends with these values, or with its failure. After want of memory nothing is said.
 abbrev pub IsKept : Step → List Val → Result (Unit {0}) StepError → Type 0
 IsKept s V (Ok _) = s ≡ kept V
-IsKept s V (Err (Failed f)) = s ≡ fails (failure f)
-IsKept s V (Err Memory) = Unit {0}
+IsKept s V (Err e) = HasFailed s e
 
 -- it ends so, however big maps are seen
 abbrev pub Keeps : (List Val → Step) → List Value → List Value → Result (Unit {0}) StepError → Type 0
@@ -43,8 +41,7 @@ gone wrong = []
 -- An instruction that burns tickets and mints none ends with these values, or with its failure.
 abbrev pub IsEnd : Step → List Val → Result (Unit {0}) StepError → Type 0
 IsEnd s V (Ok _) = s ≡ done V (burns (gone s))
-IsEnd s V (Err (Failed f)) = s ≡ fails (failure f)
-IsEnd s V (Err Memory) = Unit {0}
+IsEnd s V (Err e) = HasFailed s e
 
 abbrev pub Ends : (List Val → Step) → List Value → List Value → Result (Unit {0}) StepError → Type 0
 Ends step old new r = (big : Sight) → IsEnd (step (values big old)) (values big new) r

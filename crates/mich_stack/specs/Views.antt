@@ -1,13 +1,13 @@
 -- The stacks and failures that those of the code stand for.
 use Rattle.std.specs.Prelude.{◌≡◌, List, [], ◌∷◌, map, reverse}
 use Rattle.rules_data.specs.values.Val.{Val, Pairs}
-use Rattle.rules_code.specs.steps.Failure.{Failure}
 use Rattle.rules_code.specs.steps.Failure as f
 use Rattle.mich_term.specs.declared.value.Value.{Value, fold-Value}
 use Rattle.mich_term.specs.declared.value.Value.TheOpen.{BigMap-F}
 use Rattle.mich_term.specs.ValueView.{val, value_step}
-use Rattle.mich_stack.specs.declared.error.StepFailure.{StepFailure}
-use Rattle.mich_stack.specs.declared.error.StepFailure.TheVariants.{IntegerLimit, MutezOverflow, ShiftLimit, SizeLimit}
+use Rattle.rules_code.specs.steps.Step.{Step, fails}
+use Rattle.mich_stack.specs.declared.error.StepError.{StepError}
+use Rattle.mich_stack.specs.declared.error.StepError.TheVariants.{IntegerLimit, MutezOverflow, ShiftLimit, SizeLimit, Memory}
 
 -- how a big map is seen, with the values that lie in it already seen: by its overlay alone, or over the bases of a store
 abbrev pub Sight : Type 0
@@ -25,11 +25,13 @@ values big vs = map (seen big) (reverse vs)
 abbrev pub plain : List Value → List Val
 plain vs = map val (reverse vs)
 
-abbrev pub failure : StepFailure → Failure
-failure IntegerLimit = f.integer_limit
-failure MutezOverflow = f.mutez_overflow
-failure ShiftLimit = f.shift_limit
-failure SizeLimit = f.size_limit
+-- An instruction ends with the failure that one of the code stands for. After want of memory nothing is said.
+abbrev pub HasFailed : Step → StepError → Type 0
+HasFailed s IntegerLimit = s ≡ fails f.integer_limit
+HasFailed s MutezOverflow = s ≡ fails f.mutez_overflow
+HasFailed s ShiftLimit = s ≡ fails f.shift_limit
+HasFailed s SizeLimit = s ≡ fails f.size_limit
+HasFailed s Memory = Unit {0}
 
 -- three values are on top, the first of them above the others, and these are those below
 abbrev pub AreThreeOnTop : Sight → List Value → Value → Value → Value → List Value → Type 0

@@ -1,16 +1,16 @@
 // Why an instruction doesn't end on a stack.
 ghost use Rattle.std.specs.Prelude.{◌≡◌};
 ghost use Rattle.mich_num.specs.View.{limit};
-ghost use Rattle.rules_code.specs.steps.Step.{past_limit};
-ghost use Rattle.mich_stack.specs.Views.{failure};
+ghost use Rattle.rules_code.specs.steps.Step.{Step, fails, past_limit};
+ghost use Rattle.mich_stack.specs.Views.{HasFailed};
 
 use mich_base::Memory;
 use mich_num::NumFault;
 use thiserror::Error;
 
-/// Why an instruction without bodies fails.
+/// Why an instruction doesn't end on a stack. It holds nothing, so that it is handed on in a register.
 #[derive(Clone, Copy, Debug, PartialEq, Eq, Error)]
-pub enum StepFailure {
+pub enum StepError {
     /// A number is outside -2^127 to 2^127 - 1.
     #[error("a number is outside -2^127 to 2^127 - 1")]
     IntegerLimit,
@@ -23,14 +23,6 @@ pub enum StepFailure {
     /// A string or bytes are over the limit.
     #[error("a string or bytes are over the limit")]
     SizeLimit,
-}
-
-/// Why an instruction doesn't end on a stack.
-#[derive(Debug, Drop, Error)]
-pub enum StepError {
-    /// The instruction fails.
-    #[error("{0}")]
-    Failed(StepFailure),
     /// There was no room in memory.
     #[error("out of memory")]
     Memory,
@@ -48,12 +40,12 @@ impl From<Memory> for StepError {
 }
 
 /// The failure of a number past its limit.
-pub fn past(fault: NumFault) -> StepFailure
-    ensures { failure result ≡ past_limit (limit fault) }
+pub fn past(fault: NumFault) -> StepError
+    ensures { (s : Step) → s ≡ fails (past_limit (limit fault)) → HasFailed s result }
 {
     match fault {
-        NumFault::IntegerLimit => StepFailure::IntegerLimit,
-        NumFault::MutezOverflow => StepFailure::MutezOverflow,
-        NumFault::ShiftLimit => StepFailure::ShiftLimit,
+        NumFault::IntegerLimit => StepError::IntegerLimit,
+        NumFault::MutezOverflow => StepError::MutezOverflow,
+        NumFault::ShiftLimit => StepError::ShiftLimit,
     }
 }

@@ -9,7 +9,7 @@ mod given;
 mod keys;
 mod stack;
 
-pub use error::{StepError, StepFailure, past};
+pub use error::{StepError, past};
 pub use given::nothing;
 pub use keys::{content_value, take_key};
 pub use stack::{

@@ -55,12 +55,19 @@ pub fn pop(stack: &mut Rows<Value>) -> Option<Value>
 }
 
 /// Puts a value in place of so many on top, in which there is no ticket. Memory where there is no room for it.
+#[tactic(auto, using(crate::proofs::Tops::set_is))]
 #[inline(always)]
 pub fn put(stack: &mut Rows<Value>, taken: usize, value: Value) -> Result<(), Memory>
     ensures { IfOk result (λ _. (big : Sight) → values big stack.new ≡ seen big value ∷ drop taken (values big stack.old)) }
 {
-    take_off(stack, taken);
-    push(stack, value)?;
+    let len = stack.len();
+    if taken == 0 || len < taken {
+        take_off(stack, taken);
+        push(stack, value)?;
+        return Ok(());
+    }
+    stack.truncate(len - (taken - 1));
+    stack.set(len - taken, value);
     Ok(())
 }
 
