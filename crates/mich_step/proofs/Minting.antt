@@ -21,8 +21,7 @@ use Rattle.mich_term.specs.View.{datum}
 use Rattle.mich_term.specs.declared.ticket.Ticket.{Ticket}
 use Rattle.mich_term.specs.declared.ticket.TicketId.{TicketId}
 use Rattle.mich_stack.specs.Ends.{IsFitting}
-use Rattle.mich_stack.specs.declared.error.StepError.TheVariants.{Failed}
-use Rattle.mich_stack.specs.declared.error.StepFailure.TheVariants.{IntegerLimit}
+use Rattle.mich_stack.specs.declared.error.StepError.TheVariants.{IntegerLimit}
 use Rattle.mich_tickets.specs.Answers.{IsMint}
 use Rattle.mich_tickets.specs.Books.{State}
 use Rattle.mich_tickets.specs.Effects.{Tells}
@@ -87,7 +86,7 @@ above : (n : ℤ) → (n ≡ pos 0 → ⊥) → pos 0 ≤ℤ n → pos 0 <ℤ n
 above n z p = omega (arith, ints)
 
 pub minted_failed : (id : TicketId) (n : ℤ) (V : List Val) (old new : State) → (n ≡ pos 0 → ⊥) → pos 0 ≤ℤ n →
-    IsMint id n old new (Err mint.IntegerLimit) → IsMinted (rule_of id n old V) V old new (Err (Failed IntegerLimit))
+    IsMint id n old new (Err mint.IntegerLimit) → IsMinted (rule_of id n old V) V old new (Err IntegerLimit)
 minted_failed id n V old new z p h = minted_over (place_bytes id.issuer) (minted_of old.books.present) (kind id.ty) (datum id.content) n V (above n z p) h.0
 
 -- ---- a step by what it is

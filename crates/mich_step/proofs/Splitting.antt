@@ -17,10 +17,9 @@ use Rattle.mich_tickets.specs.Limits.{IsReady}
 use Rattle.mich_step.specs.Parts.{IsTicketsOnTop}
 use Rattle.mich_step.specs.Rule.{tickets_on_top}
 use Rattle.mich_step.specs.Tells.{IsDone, IsMinted, changes_of, split_changes, join_changes}
-use Rattle.mich_stack.specs.Ends.{IsKept, IsEnd, IsFitting}
-use Rattle.mich_stack.specs.Views.{Sight}
+use Rattle.mich_stack.specs.Ends.{IsKept, IsFitting}
+use Rattle.mich_stack.specs.Views.{Sight, HasFailed}
 use Rattle.mich_stack.specs.declared.error.StepError.{StepError}
-use Rattle.mich_stack.specs.declared.error.StepError.TheVariants.{Failed, Memory}
 use Rattle.mich_step.proofs.Ledgers.{tells_equal, tells_same}
 
 pub ends_with : (s : Step) (V : List Val) (cs : List Change) → s ≡ done V cs → s ≡ done V (changes_of s)
@@ -29,14 +28,9 @@ ends_with s V cs e = e ∙ ap (done V) (sym (ap changes_of e))
 pub tells_with : (s : Step) (V : List Val) (cs : List Change) (old new : State) → s ≡ done V cs → Tells cs old new → Tells (changes_of s) old new
 tells_with s V cs old new e t = subst (λ l. Tells l old new) (sym (ap changes_of e)) t
 
-pub end_failed : (s : Step) (V W : List Val) (e : StepError) → IsEnd s V (Err e) → IsDone s W (Err e)
-end_failed s V W (Failed f) h = h
-end_failed s V W Memory h = h
-
 pub kept_done : (s : Step) (V : List Val) (r : Result (Unit {0}) StepError) → IsKept s V r → IsDone s V r
 kept_done s V (Ok x) h = ends_with s V [] h
-kept_done s V (Err (Failed f)) h = h
-kept_done s V (Err Memory) h = h
+kept_done s V (Err e) h = h
 
 -- after what is kept a ledger tells nothing more
 pub kept_tells : (s : Step) (V : List Val) (x : Unit {0}) (l : State) → IsKept s V (Ok x) → Tells (changes_of s) l l
@@ -116,8 +110,7 @@ split_ready b V t W e r = subst (λ X. IsReady b (tickets_on_top X)) e r
 
 -- a failure of a mint
 pub minted_error : (s t : Step) (V W : List Val) (old new : State) (e : StepError) → s ≡ t → IsMinted t V old new (Err e) → IsDone s W (Err e)
-minted_error s t V W old new (Failed f) h m = h ∙ m
-minted_error s t V W old new Memory h m = tt
+minted_error s t V W old new e h m = subst (λ x. HasFailed x e) (sym h) m
 
 -- a split by amounts that are these
 pub split_by : (e : Environment) (total : Identity → ℤ) (W V : List Val) (t : Ticket) (a b c d : ℤ) (o : Option (Ticket × Ticket)) (old new : State) → c ≡ a → d ≡ b →

@@ -20,8 +20,7 @@ use Rattle.mich_tickets.specs.Effects.{Tells}
 use Rattle.mich_tickets.specs.Sums.{minted_of}
 use Rattle.mich_term.specs.declared.value.Value.{Value}
 use Rattle.mich_stack.specs.declared.error.StepError.{StepError}
-use Rattle.mich_stack.specs.declared.error.StepError.TheVariants.{Failed, Memory}
-use Rattle.mich_stack.specs.Views.{Sight, values, failure}
+use Rattle.mich_stack.specs.Views.{Sight, values, HasFailed}
 use Rattle.mich_step.specs.Rule.{rule}
 use Rattle.mich_step.specs.Shown.{ShowsTickets}
 use Rattle.mich_step.specs.Views.{environment}
@@ -36,8 +35,7 @@ changes_of wrong = []
 -- It ends with these values, or with its failure. After want of memory nothing is said.
 abbrev pub IsDone : Step → List Val → Result (Unit {0}) StepError → Type 0
 IsDone s V (Ok _) = s ≡ done V (changes_of s)
-IsDone s V (Err (Failed f)) = s ≡ fails (failure f)
-IsDone s V (Err Memory) = Unit {0}
+IsDone s V (Err e) = HasFailed s e
 
 -- it ends so, however big maps are seen
 abbrev pub Steps : (List Val → Step) → List Value → List Value → Result (Unit {0}) StepError → Type 0
@@ -78,8 +76,7 @@ mint_rule id n b V = ticket_step_of (place_bytes id.issuer) (minted_of b) (kind 
 -- tickets are minted, or none; or too many would be
 abbrev pub IsMinted : Step → List Val → State → State → Result (Option Ticket) StepError → Type 0
 IsMinted s V old new (Ok o) = (s ≡ done (optional (option_map (λ t. as_value (held t)) o) ∷ V) (changes_of s)) × Tells (changes_of s) old new
-IsMinted s V old new (Err (Failed f)) = s ≡ fails (failure f)
-IsMinted s V old new (Err Memory) = Unit {0}
+IsMinted s V old new (Err e) = HasFailed s e
 
 -- what splitting, and joining, burns
 abbrev pub split_changes : Ticket → Option (Ticket × Ticket) → List Change

@@ -126,7 +126,10 @@ fn comparison(order: Ordering) -> i128
 fn compared(a: &Value, b: &Value) -> i128
     ensures { (big : Sight) → result ≡ comparison (order (seen big a.now) (seen big b.now)) }
 {
-    comparison(compare_values(a, b))
+    match (a, b) {
+        (Value::Number(x), Value::Number(y)) => comparison(x.cmp(y)),
+        _ => comparison(compare_values(a, b)),
+    }
 }
 
 fn compare(stack: &mut Rows<Value>) -> Result<(), StepError>

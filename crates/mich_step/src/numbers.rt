@@ -31,7 +31,7 @@ fn add_numbers(stack: &mut Rows<Value>) -> Result<(), StepError>
             put(stack, 2, Value::Number(z))?;
             Ok(())
         }
-        Err(fault) => Err(StepError::Failed(past(fault))),
+        Err(fault) => Err(past(fault)),
     }
 }
 
@@ -47,7 +47,7 @@ fn sub_numbers(stack: &mut Rows<Value>) -> Result<(), StepError>
             put(stack, 2, Value::Number(z))?;
             Ok(())
         }
-        Err(fault) => Err(StepError::Failed(past(fault))),
+        Err(fault) => Err(past(fault)),
     }
 }
 
@@ -63,7 +63,7 @@ fn mul_numbers(stack: &mut Rows<Value>) -> Result<(), StepError>
             put(stack, 2, Value::Number(z))?;
             Ok(())
         }
-        Err(fault) => Err(StepError::Failed(past(fault))),
+        Err(fault) => Err(past(fault)),
     }
 }
 
@@ -79,7 +79,7 @@ fn abs_number(stack: &mut Rows<Value>) -> Result<(), StepError>
             put(stack, 1, Value::Number(z))?;
             Ok(())
         }
-        Err(fault) => Err(StepError::Failed(past(fault))),
+        Err(fault) => Err(past(fault)),
     }
 }
 
@@ -95,7 +95,7 @@ fn neg_number(stack: &mut Rows<Value>) -> Result<(), StepError>
             put(stack, 1, Value::Number(z))?;
             Ok(())
         }
-        Err(fault) => Err(StepError::Failed(past(fault))),
+        Err(fault) => Err(past(fault)),
     }
 }
 
@@ -143,7 +143,7 @@ fn add_amounts(stack: &mut Rows<Value>) -> Result<(), StepError>
             put(stack, 2, Value::Number(i128::from(n)))?;
             Ok(())
         }
-        Err(fault) => Err(StepError::Failed(past(fault))),
+        Err(fault) => Err(past(fault)),
     }
 }
 
@@ -159,7 +159,7 @@ fn mul_amounts(stack: &mut Rows<Value>) -> Result<(), StepError>
             put(stack, 2, Value::Number(i128::from(n)))?;
             Ok(())
         }
-        Err(fault) => Err(StepError::Failed(past(fault))),
+        Err(fault) => Err(past(fault)),
     }
 }
 
@@ -205,7 +205,7 @@ fn divide(alloc: Global, stack: &mut Rows<Value>) -> Result<(), StepError>
             put(stack, 2, value)?;
             Ok(())
         }
-        Err(fault) => Err(StepError::Failed(past(fault))),
+        Err(fault) => Err(past(fault)),
     }
 }
 
@@ -250,7 +250,7 @@ fn shift_left(stack: &mut Rows<Value>) -> Result<(), StepError>
             put(stack, 2, Value::Number(z))?;
             Ok(())
         }
-        Err(fault) => Err(StepError::Failed(past(fault))),
+        Err(fault) => Err(past(fault)),
     }
 }
 
@@ -267,7 +267,7 @@ fn shift_right(stack: &mut Rows<Value>) -> Result<(), StepError>
             put(stack, 2, Value::Number(z))?;
             Ok(())
         }
-        Err(fault) => Err(StepError::Failed(past(fault))),
+        Err(fault) => Err(past(fault)),
     }
 }
 
@@ -324,7 +324,7 @@ fn bytes_to_nat(stack: &mut Rows<Value>) -> Result<(), StepError>
             put(stack, 1, Value::Number(z))?;
             Ok(())
         }
-        Err(fault) => Err(StepError::Failed(past(fault))),
+        Err(fault) => Err(past(fault)),
     }
 }
 
@@ -340,7 +340,7 @@ fn bytes_to_int(stack: &mut Rows<Value>) -> Result<(), StepError>
             put(stack, 1, Value::Number(z))?;
             Ok(())
         }
-        Err(fault) => Err(StepError::Failed(past(fault))),
+        Err(fault) => Err(past(fault)),
     }
 }
 

@@ -42,7 +42,8 @@ fn drop_values<B: Burner>(
     Ok(())
 }
 
-fn dup_value(alloc: Global, place: u32, stack: &mut Rows<Value>) -> Result<(), StepError>
+/// Copies the value in a place, counted from 1, to the top (Michelson reference: DUP).
+pub fn dup_value(alloc: Global, place: u32, stack: &mut Rows<Value>) -> Result<(), StepError>
     requires fits { Fits (stack_step (i.dup place)) stack.old }
     requires suits { SuitsStack (i.dup place) (plain stack.old) }
     ensures { Keeps (stack_step (i.dup place)) stack.old stack.new result }
@@ -50,12 +51,22 @@ fn dup_value(alloc: Global, place: u32, stack: &mut Rows<Value>) -> Result<(), S
     let Some(value) = read_at(stack, place.saturating_sub(1) as usize) else {
         unreachable!()
     };
-    let copy = dup(alloc, value)?;
-    push(stack, copy)?;
-    Ok(())
+    match value {
+        Value::Number(n) => {
+            let number = *n;
+            push(stack, Value::Number(number))?;
+            Ok(())
+        }
+        other => {
+            let copy = dup(alloc, other)?;
+            push(stack, copy)?;
+            Ok(())
+        }
+    }
 }
 
-fn swap(stack: &mut Rows<Value>) -> Result<(), StepError>
+/// Swaps the two values on top (Michelson reference: SWAP).
+pub fn swap(stack: &mut Rows<Value>) -> Result<(), StepError>
     requires { Fits (stack_step i.swap) stack.old }
     ensures { Keeps (stack_step i.swap) stack.old stack.new result }
 {
@@ -70,7 +81,8 @@ fn swap(stack: &mut Rows<Value>) -> Result<(), StepError>
     Ok(())
 }
 
-fn dig(alloc: Global, depth: u32, stack: &mut Rows<Value>) -> Result<(), StepError>
+/// Brings the value at a depth to the top (Michelson reference: DIG).
+pub fn dig(alloc: Global, depth: u32, stack: &mut Rows<Value>) -> Result<(), StepError>
     requires { Fits (stack_step (i.dig depth)) stack.old }
     ensures { Keeps (stack_step (i.dig depth)) stack.old stack.new result }
 {
@@ -79,7 +91,8 @@ fn dig(alloc: Global, depth: u32, stack: &mut Rows<Value>) -> Result<(), StepErr
     Ok(())
 }
 
-fn dug(alloc: Global, depth: u32, stack: &mut Rows<Value>) -> Result<(), StepError>
+/// Puts the value on top in at a depth (Michelson reference: DUG).
+pub fn dug(alloc: Global, depth: u32, stack: &mut Rows<Value>) -> Result<(), StepError>
     requires { Fits (stack_step (i.dug depth)) stack.old }
     ensures { Keeps (stack_step (i.dug depth)) stack.old stack.new result }
 {
@@ -90,7 +103,8 @@ fn dug(alloc: Global, depth: u32, stack: &mut Rows<Value>) -> Result<(), StepErr
     Ok(())
 }
 
-fn unit(stack: &mut Rows<Value>) -> Result<(), StepError>
+/// Puts the unit value on top (Michelson reference: UNIT).
+pub fn unit(stack: &mut Rows<Value>) -> Result<(), StepError>
     ensures { Keeps (stack_step i.unit) stack.old stack.new result }
 {
     push(stack, Value::Unit)?;

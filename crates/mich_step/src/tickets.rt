@@ -22,9 +22,7 @@ use crate::pairs::split_pair;
 use mich_base::{Link, Memory, Rows, Ty, copy_type};
 use mich_forms::Place;
 use mich_overload::TicketRow;
-use mich_stack::{
-    StepError, StepFailure, content_value, optional_value, pop, push, split_top, take_key,
-};
+use mich_stack::{StepError, content_value, optional_value, pop, push, split_top, take_key};
 use mich_term::{Ticket, TicketId, Value};
 use mich_tickets::{Ledger, MintError};
 use std::alloc::Global;
@@ -59,7 +57,7 @@ fn mint_tickets(
     match ledger.mint(alloc, id, n) {
         Ok(Some(ticket)) => Ok(Some(ticket)),
         Ok(None) => unreachable!(),
-        Err(MintError::IntegerLimit) => Err(StepError::Failed(StepFailure::IntegerLimit)),
+        Err(MintError::IntegerLimit) => Err(StepError::IntegerLimit),
         Err(MintError::Memory) => Err(StepError::Memory),
     }
 }

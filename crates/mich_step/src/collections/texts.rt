@@ -13,9 +13,7 @@ use crate::collections::counting::count;
 use crate::collections::taking::take_list;
 use mich_base::{Bytes, Memory, Rows, Text};
 use mich_overload::TextRow;
-use mich_stack::{
-    StepError, StepFailure, optional_value, push, put, split_top, three_on_top, two_on_top,
-};
+use mich_stack::{StepError, optional_value, push, put, split_top, three_on_top, two_on_top};
 use mich_term::Value;
 use std::alloc::Global;
 
@@ -32,7 +30,7 @@ fn concat_strings(alloc: Global, stack: &mut Rows<Value>) -> Result<(), StepErro
             put(stack, 2, Value::Text(Text::from_vec(bytes)?))?;
             Ok(())
         }
-        None => Err(StepError::Failed(StepFailure::SizeLimit)),
+        None => Err(StepError::SizeLimit),
     }
 }
 
@@ -49,7 +47,7 @@ fn concat_bytes(alloc: Global, stack: &mut Rows<Value>) -> Result<(), StepError>
             put(stack, 2, Value::Bytes(Bytes::from_vec(bytes)?))?;
             Ok(())
         }
-        None => Err(StepError::Failed(StepFailure::SizeLimit)),
+        None => Err(StepError::SizeLimit),
     }
 }
 
@@ -65,7 +63,7 @@ fn concat_string_list(alloc: Global, stack: &mut Rows<Value>) -> Result<(), Step
             push(stack, text_value(bytes)?)?;
             Ok(())
         }
-        None => Err(StepError::Failed(StepFailure::SizeLimit)),
+        None => Err(StepError::SizeLimit),
     }
 }
 
@@ -81,7 +79,7 @@ fn concat_bytes_list(alloc: Global, stack: &mut Rows<Value>) -> Result<(), StepE
             push(stack, bytes_value(bytes)?)?;
             Ok(())
         }
-        None => Err(StepError::Failed(StepFailure::SizeLimit)),
+        None => Err(StepError::SizeLimit),
     }
 }
 

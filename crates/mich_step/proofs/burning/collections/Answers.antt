@@ -9,7 +9,7 @@ use Rattle.mich_tickets.specs.Limits.{IsReady}
 use Rattle.mich_stack.specs.Ends.{gone}
 use Rattle.mich_stack.specs.Views.{plain, values}
 use Rattle.mich_step.proofs.Showing.{collection_same}
-use Rattle.mich_step.proofs.Splitting.{ends_with, tells_with, end_failed}
+use Rattle.mich_step.proofs.Splitting.{ends_with, tells_with}
 use Rattle.mich_step.proofs.burning.collections.Goals as goal
 
 pub burn_all-requires : goal.burn_all-requires
@@ -28,4 +28,4 @@ returns-in_ok-burn_all-in-Ok-clause-tells c = λ big shows.
     subst (λ cs. Tells cs c.args.ledger.now c.burn_all.new.ledger) (sym (collection_same (values big c.args.stack.now) old shows row c.requires.no_big_map)) told
 
 pub returns-in-Err-clause-ends : goal.returns-in-Err-clause-ends
-returns-in-Err-clause-ends c = λ big. end_failed (collection_step (collection_row c.args.row.now) (values big c.args.stack.now)) (values big c.collection_step.new.stack) (values big c.collection_step.new.stack) c.in-Err.error (c.in-Err.ensures.ends big)
+returns-in-Err-clause-ends c = λ big. c.in-Err.ensures.ends big
