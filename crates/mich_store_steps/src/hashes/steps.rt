@@ -11,7 +11,7 @@ use crate::hashes::digests::{blake2b_digest, key_digest, sha256_digest, sha512_d
 use mich_base::Rows;
 use mich_overload::HashRow;
 use mich_pack::{PackError, pack};
-use mich_stack::{StepError, StepFailure, put, split_top};
+use mich_stack::{StepError, put, split_top};
 use mich_term::Value;
 use std::alloc::Global;
 
@@ -27,7 +27,7 @@ fn pack_step(alloc: Global, stack: &mut Rows<Value>) -> Result<(), StepError>
             put(stack, 1, Value::Bytes(packed))?;
             Ok(())
         }
-        Err(PackError::SizeLimit) => Err(StepError::Failed(StepFailure::SizeLimit)),
+        Err(PackError::SizeLimit) => Err(StepError::SizeLimit),
         Err(PackError::Memory) => Err(StepError::Memory),
     }
 }
