@@ -20,5 +20,5 @@ pub use environment::{Env, environment_step};
 pub use logic::logic_step;
 pub use numbers::number_step;
 pub use order::{dig, dug, dup_value, stack_step, swap, unit};
-pub use pairs::pair_step;
+pub use pairs::{pair, pair_step, unpair};
 pub use unions::union_step;
