@@ -13,27 +13,12 @@ use std::alloc::Global;
 
 /// Discards a value: each ticket in it is burnt, parts from left to right and entries by key. After Memory the burner is given
 /// up and what is left of the value is abandoned (Octez "Tickets").
-#[cycle(discard)]
 pub fn discard<B: Burner>(alloc: Global, value: Value, burner: &mut B) -> Result<(), Memory>
     requires { B.ready burner.old (tickets (val value)) }
     ensures tells { IfOk result (λ _. B.told burner.new ≡ B.told burner.old ++ tickets (val value)) }
     ensures stays_ready { IfOk result (λ _. (l : List Held) → B.ready burner.old (tickets (val value) ++ l) → B.ready burner.new l) }
 {
-    match value {
-        Value::Pair(x, y) => {
-            discard(alloc, x.into_value()?, burner)?;
-            discard(alloc, y.into_value()?, burner)
-        }
-        other => discard_part(alloc, other, burner),
-    }
-}
-
-// A value that is no pair; where it carries no ticket it is only looked at.
-fn discard_part<B: Burner>(alloc: Global, value: Value, burner: &mut B) -> Result<(), Memory>
-    requires { B.ready burner.old (tickets (val value)) }
-    ensures tells { IfOk result (λ _. B.told burner.new ≡ B.told burner.old ++ tickets (val value)) }
-    ensures stays_ready { IfOk result (λ _. (l : List Held) → B.ready burner.old (tickets (val value) ++ l) → B.ready burner.new l) }
-{
+    // Where it carries no ticket it is only looked at.
     if carries(&value) {
         discard_parts(alloc, value, burner)
     } else {

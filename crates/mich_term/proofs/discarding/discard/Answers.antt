@@ -3,7 +3,7 @@ use Rattle.std.proofs.lemmas.List.{append-nil}
 use Rattle.rules_data.specs.values.Tickets.{Held, tickets}
 use Rattle.mich_term.specs.ValueView.{val}
 use Rattle.mich_term.proofs.Held.{carries_none}
-use Rattle.mich_term.proofs.discarding.discard_part.Goals as goal
+use Rattle.mich_term.proofs.discarding.discard.Goals as goal
 
 pub returns-else-carries-clause-tells : goal.returns-else-carries-clause-tells
 returns-else-carries-clause-tells g c =
