@@ -5,10 +5,27 @@ use Rattle.std.specs.Prelude.{◌++◌, ◌∷◌, [], List}
 use Rattle.rules_code.specs.instructions.Straight as i
 use Rattle.rules_code.specs.steps.Changes.{burns}
 use Rattle.rules_code.specs.steps.Step.{done, discarding, on_some}
-use Rattle.rules_data.specs.values.Val.{Val, both}
+use Rattle.rules_data.specs.values.Val.{Val, Pairs, some, both}
 use Rattle.rules_data.specs.values.Tickets.{Held, tickets}
 use Rattle.rules_code.specs.steps.Stack.{Part, Replaced, behind, comb, pair_step, parts, passing, part_at, replaced}
+use Rattle.mich_term.specs.ValueView.{value_step}
+use Rattle.mich_term.specs.declared.value.Value.{Value, fold-roll-Value}
+use Rattle.mich_term.specs.declared.value.Value.TheOpen.{Value-F}
+use Rattle.mich_term.specs.declared.value.Value.TheVariants as value
+use Rattle.mich_term.specs.declared.value.Value.TheVariants.{rolls-Some}
+use Rattle.mich_stack.specs.Views.{Sight, seen}
 use Rattle.mich_step.specs.Parts.{IsPart, IsReplaced}
+
+-- a value that is held as an option has the tickets of that value
+pub some_seen : (big : Sight) (v : Value) → seen big (value.Some v) ≡ some (seen big v)
+some_seen big v = ap (seen big) (sym (rolls-Some v)) ∙ fold-roll-Value Val Pairs value_step big (Value-F.Some v)
+
+pub some_tickets : (big : Sight) (v : Value) → tickets (seen big (value.Some v)) ≡ tickets (seen big v)
+some_tickets big v = ap tickets (some_seen big v)
+
+-- a pair of values that are equal to its parts
+pub parts_as : (big : Sight) (c : Val) (v w x y : Value) → c ≡ both (seen big v) (seen big w) → x ≡ v → y ≡ w → c ≡ both (seen big x) (seen big y)
+parts_as big c v w x y e f g = e ∙ (λ j. both (seen big (sym f j)) (seen big (sym g j)))
 
 some_there : {A B : Type 0} (f : A → B) (o : Option A) → is_some (option_map f o) ≡ true → is_some o ≡ true
 some_there f (Some r) h = refl
@@ -53,9 +70,25 @@ part_in v None x ts h = h
 pub part_is : (n m : ℕ) (c v w x : Val) (ts : List Held) → n ≡ m + 1 + 1 → c ≡ both v w → IsPart (part_at m w) x ts → IsPart (part_at n c) x (tickets v ++ ts)
 part_is n m c v w x ts e f h = subst (λ o. IsPart o x (tickets v ++ ts)) (sym (part_behind n m c v w e f)) (part_in v (part_at m w) x ts h)
 
--- the first part, and the whole
-pub part_first : (n : ℕ) (c v w : Val) → n ≡ 1 → c ≡ both v w → IsPart (part_at n c) v (tickets w)
-part_first n c v w e f = subst (λ k. IsPart (part_at k c) v (tickets w)) (sym e) (subst (λ d. IsPart (part_at 1 d) v (tickets w)) (sym f) (refl, append-nil (tickets w)))
+-- a part that is passed has no ticket
+pub part_passed : (n m : ℕ) (c v w x : Val) (ts : List Held) → n ≡ m + 1 + 1 → c ≡ both v w → tickets v ≡ [] → IsPart (part_at m w) x ts → IsPart (part_at n c) x ts
+part_passed n m c v w x ts e f none h = subst (λ l. IsPart (part_at n c) x (l ++ ts)) none (part_is n m c v w x ts e f h)
+
+-- the first part
+pub part_first : (n : ℕ) (c v w x : Val) (ts : List Held) → n ≡ 1 → c ≡ both v w → v ≡ x → tickets w ≡ ts → IsPart (part_at n c) x ts
+part_first n c v w x ts e f g h = subst (λ k. IsPart (part_at k c) x ts) (sym e) (subst (λ d. IsPart (part_at 1 d) x ts) (sym f) (g, append-nil (tickets w) ∙ h))
+
+-- ---- CAR and CDR
+
+pub car_is : (V : List Val) (c v w : Val) (W new : List Val) (x : Val) (ts : List Held) → V ≡ c ∷ W → c ≡ both v w → new ≡ x ∷ W → x ≡ v → ts ≡ tickets w →
+    pair_step i.car V ≡ done new (burns ts)
+car_is V c v w W new x ts e f g h k = ap (pair_step i.car) (e ∙ ap (λ d. d ∷ W) f) ∙ (λ j. done (sym h j ∷ W) (burns ((append-nil (tickets w) ∙ sym k) j)))
+    ∙ ap (λ X. done X (burns ts)) (sym g)
+
+pub cdr_is : (V : List Val) (c v w : Val) (W new : List Val) (x : Val) (ts : List Held) → V ≡ c ∷ W → c ≡ both v w → new ≡ x ∷ W → x ≡ w → ts ≡ tickets v →
+    pair_step i.cdr V ≡ done new (burns ts)
+cdr_is V c v w W new x ts e f g h k = ap (pair_step i.cdr) (e ∙ ap (λ d. d ∷ W) f) ∙ (λ j. done (sym h j ∷ W) (burns ((append-nil (tickets v) ∙ sym k) j)))
+    ∙ ap (λ X. done X (burns ts)) (sym g)
 
 -- ---- UPDATE
 
@@ -85,3 +118,15 @@ pub parts_there : (n m : ℕ) (c v w : Val) → n ≡ m + 1 → c ≡ both v w �
 parts_there n m c v w e f h =
     let next : n ≡ suc m = omega (arith, e) in
     some_there (λ (vs : List Val). v ∷ vs) (parts m w) (subst (λ o. is_some o ≡ true) (ap (λ k. parts k c) next ∙ ap (parts (suc m)) f) h)
+
+before_others : (v : Val) (V : List Val) (o : Option (List Val)) →
+    option_map (λ (vs : List Val). vs ++ V) (option_map (λ (vs : List Val). v ∷ vs) o) ≡ option_map (λ (vs : List Val). v ∷ vs) (option_map (λ (vs : List Val). vs ++ V) o)
+before_others v V (Some vs) = refl
+before_others v V None = refl
+
+pub parts_are : (n m : ℕ) (c v w : Val) (V W new : List Val) → n ≡ m + 1 → c ≡ both v w → option_map (λ (vs : List Val). vs ++ V) (parts m w) ≡ Some W → new ≡ v ∷ W →
+    option_map (λ (vs : List Val). vs ++ V) (parts n c) ≡ Some new
+parts_are n m c v w V W new e f h g =
+    let next : n ≡ suc m = omega (arith, e) in
+    ap (option_map (λ (vs : List Val). vs ++ V)) (ap (λ k. parts k c) next ∙ ap (parts (suc m)) f) ∙ before_others v V (parts m w)
+    ∙ ap (option_map (λ (vs : List Val). v ∷ vs)) h ∙ ap Some (sym g)

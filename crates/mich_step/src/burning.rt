@@ -1,4 +1,4 @@
-// Groups of instructions that burn tickets, over the ledger.
+//! Groups of instructions that burn tickets, over the ledger.
 ghost use Rattle.std.specs.Prelude.{◌≡◌, [], false, IfOk, map};
 ghost use Rattle.mich_base.specs.undo.History.{Keeps as KeepsBooks};
 ghost use Rattle.rules_code.specs.steps.Changes.{burns};
@@ -72,8 +72,9 @@ pub(crate) fn order(
     }
 }
 
+/// What making and taking apart pairs makes of a stack, and of the ledger by what it discards (Michelson reference, "Operations on pairs").
 #[tactic(auto, using(mich_base::proofs::undo_lemmas::ForCallers::keeps_same))]
-pub(crate) fn pairs(
+pub fn pairs(
     alloc: Global,
     row: &PairRow,
     stack: &mut Rows<Value>,

@@ -1,7 +1,7 @@
 //! What instructions without bodies do to the values of the stack.
 #![tactic(auto)]
 
-mod burning;
+pub mod burning;
 pub mod collections;
 mod dispatching;
 mod environment;

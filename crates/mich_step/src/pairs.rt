@@ -1,5 +1,5 @@
 // Pairs, and combs of pairs.
-ghost use Rattle.std.specs.Prelude.{◌≡◌, ◌∷◌, ◌++◌, drop, IfOk, Some, is_some, true};
+ghost use Rattle.std.specs.Prelude.{◌≡◌, [], ◌∷◌, ◌++◌, drop, IfOk, IsTrue, Some, is_some, true};
 ghost use Rattle.rules_code.specs.instructions.Straight as i;
 ghost use Rattle.rules_data.specs.values.Tickets.{tickets};
 ghost use Rattle.rules_data.specs.values.Val.{both};
@@ -60,9 +60,12 @@ fn put_parts(comb: Value, others: u32, stack: &mut Rows<Value>) -> Result<(), Me
     let Some(further) = others.checked_sub(1) else {
         return push(stack, comb);
     };
-    let (first, rest) = split_pair(comb)?;
+    let (first, rest) = held_parts(comb);
+    let rest = taken(rest)?;
     put_parts(rest, further, stack)?;
-    push(stack, first)
+    let first = taken(first)?;
+    push(stack, first)?;
+    Ok(())
 }
 
 fn unpair(count: u32, stack: &mut Rows<Value>) -> Result<(), StepError>
@@ -74,6 +77,29 @@ fn unpair(count: u32, stack: &mut Rows<Value>) -> Result<(), StepError>
     };
     put_parts(whole, count.saturating_sub(1), stack)?;
     Ok(())
+}
+
+// The parts of a pair, as they are held.
+#[inline(always)]
+fn held_parts(pair: Value) -> (Link<Value>, Link<Value>)
+    requires { (big : Sight) × IsPair (seen big pair) }
+    ensures { (big : Sight) → seen big pair ≡ both (seen big result.0) (seen big result.1) }
+{
+    let Value::Pair(first, second) = pair else {
+        unreachable!()
+    };
+    (first, second)
+}
+
+// What a part holds; a number is read in its place.
+#[inline(always)]
+fn taken(part: Link<Value>) -> Result<Value, Memory>
+    ensures { IfOk result (λ v. v ≡ part) }
+{
+    if let Value::Number(n) = part.get() {
+        return Ok(Value::Number(*n));
+    }
+    part.into_value()
 }
 
 // The parts of a pair.
@@ -94,9 +120,10 @@ fn car(stack: &mut Rows<Value>) -> Result<Value, StepError>
     let Some(whole) = pop(stack) else {
         unreachable!()
     };
-    let (first, second) = split_pair(whole)?;
+    let (first, second) = held_parts(whole);
+    let first = taken(first)?;
     push(stack, first)?;
-    Ok(second)
+    Ok(Value::Some(second))
 }
 
 fn cdr(stack: &mut Rows<Value>) -> Result<Value, StepError>
@@ -106,13 +133,24 @@ fn cdr(stack: &mut Rows<Value>) -> Result<Value, StepError>
     let Some(whole) = pop(stack) else {
         unreachable!()
     };
-    let (first, second) = split_pair(whole)?;
+    let (first, second) = held_parts(whole);
+    let second = taken(second)?;
     push(stack, second)?;
-    Ok(first)
+    Ok(Value::Some(first))
 }
 
-// The part of a comb with a number, and what holds all that is passed and left.
-#[tactic(auto, using(crate::proofs::Combs::part_there, crate::proofs::Combs::part_is, crate::proofs::Combs::part_first))]
+// Whether a value is the unit, a truth value, a number, text or bytes, in which there is no ticket.
+#[inline(always)]
+fn is_plain(value: &Value) -> bool
+    ensures { IsTrue result → (big : Sight) → tickets (seen big value.now) ≡ [] }
+{
+    matches!(
+        value,
+        Value::Unit | Value::Bool(_) | Value::Number(_) | Value::Text(_) | Value::Bytes(_)
+    )
+}
+
+// The part of a comb with a number, and what holds the tickets in all that is passed and left.
 fn take_part(alloc: Global, comb: Value, place: u32) -> Result<(Value, Value), Memory>
     requires { (big : Sight) × (is_some (part_at place (seen big comb)) ≡ true) }
     ensures { IfOk result (λ p. (big : Sight) → IsPart (part_at place (seen big comb)) (seen big p.0) (tickets (seen big p.1))) }
@@ -120,12 +158,16 @@ fn take_part(alloc: Global, comb: Value, place: u32) -> Result<(Value, Value), M
     if place == 0 {
         return Ok((comb, Value::Unit));
     }
-    let (first, second) = split_pair(comb)?;
+    let (first, second) = held_parts(comb);
     let Some(further) = place.checked_sub(2) else {
-        return Ok((first, second));
+        let part = taken(first)?;
+        return Ok((part, Value::Some(second)));
     };
+    let second = second.into_value()?;
     let (found, left) = take_part(alloc, second, further)?;
-    let first = Link::new(alloc, first)?;
+    if is_plain(first.get()) {
+        return Ok((found, left));
+    }
     let left = Link::new(alloc, left)?;
     Ok((found, Value::Pair(first, left)))
 }
@@ -149,21 +191,21 @@ fn replace_part(
     comb: Value,
     place: u32,
     new: Value,
-) -> Result<(Value, Value), Memory>
+) -> Result<(Value, Link<Value>), Memory>
     requires { (big : Sight) × (is_some (replaced place (seen big new) (seen big comb)) ≡ true) }
     ensures { IfOk result (λ p. (big : Sight) → IsReplaced (replaced place (seen big new) (seen big comb)) (seen big p.0) (seen big p.1)) }
 {
     if place == 0 {
-        return Ok((new, comb));
+        let old = Link::new(alloc, comb)?;
+        return Ok((new, old));
     }
-    let (first, second) = split_pair(comb)?;
+    let (first, second) = held_parts(comb);
     let Some(further) = place.checked_sub(2) else {
         let new = Link::new(alloc, new)?;
-        let second = Link::new(alloc, second)?;
         return Ok((Value::Pair(new, second), first));
     };
+    let second = second.into_value()?;
     let (rest, old) = replace_part(alloc, second, further, new)?;
-    let first = Link::new(alloc, first)?;
     let rest = Link::new(alloc, rest)?;
     Ok((Value::Pair(first, rest), old))
 }
@@ -180,7 +222,7 @@ fn update_part(alloc: Global, place: u32, stack: &mut Rows<Value>) -> Result<Val
     };
     let (comb, old) = replace_part(alloc, whole, place, new)?;
     push(stack, comb)?;
-    Ok(old)
+    Ok(Value::Some(old))
 }
 
 // What making and taking apart pairs makes of a stack, and what it discards.
