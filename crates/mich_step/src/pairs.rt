@@ -184,33 +184,27 @@ fn get_part(alloc: Global, place: u32, stack: &mut Rows<Value>) -> Result<Value,
     Ok(left)
 }
 
-// A comb with another part in a place, and the part that stood there.
+// A comb with another part in a place, and the part that stood there; what no other holder shares is changed where it is.
 #[tactic(auto, using(crate::proofs::Combs::replaced_there, crate::proofs::Combs::replaced_is))]
-fn replace_part(
-    alloc: Global,
-    comb: Value,
-    place: u32,
-    new: Value,
-) -> Result<(Value, Link<Value>), Memory>
+fn replace_part(comb: Value, place: u32, new: Value) -> Result<(Value, Value), Memory>
     requires { (big : Sight) × (is_some (replaced place (seen big new) (seen big comb)) ≡ true) }
     ensures { IfOk result (λ p. (big : Sight) → IsReplaced (replaced place (seen big new) (seen big comb)) (seen big p.0) (seen big p.1)) }
 {
     if place == 0 {
-        let old = Link::new(alloc, comb)?;
-        return Ok((new, old));
+        return Ok((new, comb));
     }
-    let (first, second) = held_parts(comb);
+    let (mut first, mut second) = held_parts(comb);
     let Some(further) = place.checked_sub(2) else {
-        let new = Link::new(alloc, new)?;
-        return Ok((Value::Pair(new, second), first));
+        let old = first.replace(new)?;
+        return Ok((Value::Pair(first, second), old));
     };
-    let second = second.into_value()?;
-    let (rest, old) = replace_part(alloc, second, further, new)?;
-    let rest = Link::new(alloc, rest)?;
-    Ok((Value::Pair(first, rest), old))
+    let inner = second.replace(Value::Unit)?;
+    let (rest, old) = replace_part(inner, further, new)?;
+    second.replace(rest)?;
+    Ok((Value::Pair(first, second), old))
 }
 
-fn update_part(alloc: Global, place: u32, stack: &mut Rows<Value>) -> Result<Value, StepError>
+fn update_part(place: u32, stack: &mut Rows<Value>) -> Result<Value, StepError>
     requires { Fits (pair_step (i.update_part place)) stack.old }
     ensures { Gives (pair_step (i.update_part place)) stack.old stack.new result }
 {
@@ -220,9 +214,9 @@ fn update_part(alloc: Global, place: u32, stack: &mut Rows<Value>) -> Result<Val
     let Some(whole) = pop(stack) else {
         unreachable!()
     };
-    let (comb, old) = replace_part(alloc, whole, place, new)?;
+    let (comb, old) = replace_part(whole, place, new)?;
     push(stack, comb)?;
-    Ok(Value::Some(old))
+    Ok(old)
 }
 
 // What making and taking apart pairs makes of a stack, and what it discards.
@@ -236,7 +230,7 @@ fn give_pairs(alloc: Global, row: &PairRow, stack: &mut Rows<Value>) -> Result<V
         PairRow::Car => car(stack),
         PairRow::Cdr => cdr(stack),
         PairRow::GetPart(place) => get_part(alloc, *place, stack),
-        PairRow::UpdatePart(place) => update_part(alloc, *place, stack),
+        PairRow::UpdatePart(place) => update_part(*place, stack),
     }
 }
 
