@@ -19,7 +19,7 @@ ghost use Rattle.mich_operations.specs.Transfers.{CallsAccount, IsSent, PaysAcco
 
 use crate::applied::{Applied, ApplyError};
 use crate::crediting::credit;
-use crate::printing::{is_unit, printed};
+use crate::printing::{is_unit, told};
 use mich_base::{Memory, Node, Rows};
 use mich_forms::{Address, Entrypoint, KeyHash, Place};
 use mich_ops::{Effect, Failure};
@@ -54,7 +54,7 @@ pub(crate) fn pay_account(
         Err(MoveError::NoContract) => unreachable!(),
         Err(MoveError::Memory) => return Err(ApplyError::Memory),
     }
-    let argument = printed(alloc, world.store(), value)?;
+    let argument = told(alloc, world.store(), value)?;
     Ok(moved(alloc, from, to, entry, amount, argument))
 }
 
@@ -65,7 +65,7 @@ fn moved(
     to: &KeyHash,
     entry: &Entrypoint,
     amount: u64,
-    argument: Node,
+    argument: Value,
 ) -> Applied
     ensures effect { result.effect ≡ effect.Transfer from.now (record { place = place.Implicit to.now; entrypoint = entry.now }) amount argument [] }
     ensures growth { result.growth ≡ None }
@@ -139,12 +139,12 @@ fn send_ticket(
     to: &KeyHash,
     entry: &Entrypoint,
     amount: u64,
-    argument: Node,
+    argument: Value,
     ticket: Ticket,
 ) -> Result<Applied, ApplyError>
     requires there { may_receive world.old.funds.present from.now ≡ true }
     requires sent { (w : PlainWorld) × IsSent world.old w from.now to.now (as_value (held ticket)) }
-    requires printed { tree argument ≡ canonical (as_value (held ticket)) }
+    requires told { val argument ≡ as_value (held ticket) }
     ensures ends { SendsWith world.old from.now to.now entry.now amount (as_value (held ticket)) world.new result }
     ensures hosting { IsHosting world.old → IfOk result (λ _. IsHosting world.new) }
     ensures contracts { KeepsContracts world.old world.new }
@@ -184,7 +184,7 @@ pub(crate) fn send_account(
         return Err(ApplyError::Failed(Failure::NoEntrypoint));
     }
     if is_ticket(&value) {
-        let argument = printed(alloc, world.store(), &value)?;
+        let argument = told(alloc, world.store(), &value)?;
         let ticket = ticket_of(value)?;
         return send_ticket(alloc, world, from, to, entry, amount, argument, ticket);
     }

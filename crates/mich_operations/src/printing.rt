@@ -2,26 +2,23 @@
 ghost use Rattle.std.specs.Prelude.{◌≡◌, ◌<◌, ◌^◌, IfOk, MatchBool, Some, None};
 ghost use Rattle.rules_text.specs.nodes.Tree.{size};
 ghost use Rattle.rules_data.specs.declared.types.Simple.TheVariants as simple;
-ghost use Rattle.rules_data.specs.values.Canonical.{canonical};
 ghost use Rattle.rules_data.specs.values.Literals.{simple_value};
 ghost use Rattle.rules_data.specs.values.Val.{unit};
 ghost use Rattle.mich_base.specs.View.{tree};
+ghost use Rattle.mich_term.specs.ValueView.{val};
 ghost use Rattle.mich_bigmap.specs.Standing.{val_in};
 
 use mich_base::{Memory, Node, Ty};
 use mich_bigmap::{Store, flat};
-use mich_data::{ValueError, read_value, value_node};
-use mich_term::{Value, abandon};
+use mich_data::{ValueError, read_value};
+use mich_term::Value;
 use std::alloc::Global;
 
-// The canonical literal of a value, with all entries of its big maps.
-pub(crate) fn printed(alloc: Global, store: &Store, value: &Value) -> Result<Node, Memory>
-    ensures { IfOk result (λ n. tree n ≡ canonical (val_in store.now.bases.present value.now)) }
+// A value to be told, with all entries of its big maps.
+pub(crate) fn told(alloc: Global, store: &Store, value: &Value) -> Result<Value, Memory>
+    ensures { IfOk result (λ v. val v ≡ val_in store.now.bases.present value.now) }
 {
-    let whole = flat(alloc, store, value)?;
-    let node = value_node(alloc, &whole)?;
-    abandon(whole);
-    Ok(node)
+    flat(alloc, store, value)
 }
 
 // Whether a node is the literal `Unit`.

@@ -11,7 +11,7 @@ ghost use Rattle.mich_operations.specs.Going.{KeepsContracts, WithMemory};
 
 use crate::applied::{Applied, ApplyError};
 use crate::growing::with_growth;
-use crate::printing::printed;
+use crate::printing::told;
 use mich_forms::{Address, Entrypoint, KeyHash, Place};
 use mich_gas::{Costs, Meter};
 use mich_machine::{Bodies, Counts, RunError, run};
@@ -73,7 +73,7 @@ fn run_contract(
     ensures contracts { IfOk result (λ _. KeepsContracts world.old world.new) }
     ensures keeps { WithMemory result (KeepsWorld world.old world.new) }
 {
-    let literal = printed(alloc, world.store(), &argument)?;
+    let literal = told(alloc, world.store(), &argument)?;
     let env = surroundings(world, source, from, *to, amount);
     match run(
         alloc, world, costs, meter, counts, bodies, to, name, argument, &env,

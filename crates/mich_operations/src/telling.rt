@@ -5,7 +5,7 @@ ghost use Rattle.mich_bigmap.specs.Standing.{val_in};
 ghost use Rattle.mich_operations.specs.Going.{TellsEvent};
 
 use crate::applied::{Applied, ApplyError};
-use crate::printing::printed;
+use crate::printing::told;
 use mich_base::{Rows, Text, Ty};
 use mich_forms::Place;
 use mich_ops::Effect;
@@ -26,7 +26,7 @@ pub(crate) fn tell(
     ensures { TellsEvent world.now by tag (kind ty.now) (val_in world.now.store.bases.present value.now) result }
 {
     let node = type_node(alloc, ty)?;
-    let literal = printed(alloc, world.store(), value)?;
+    let literal = told(alloc, world.store(), value)?;
     Ok(Applied {
         effect: Effect::Event(Place::Contract(by), tag, node, literal),
         growth: None,

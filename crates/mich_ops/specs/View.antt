@@ -3,6 +3,8 @@ use Rattle.std.specs.Prelude.{List, map}
 use Rattle.mich_base.specs.View.{tree}
 use Rattle.mich_forms.specs.Spelled.{place_bytes, address_bytes}
 use Rattle.mich_term.specs.TicketView.{held}
+use Rattle.mich_term.specs.ValueView.{val}
+use Rattle.rules_data.specs.values.Canonical.{canonical}
 use Rattle.mich_term.specs.declared.ticket.Change.{Change}
 use Rattle.mich_term.specs.declared.ticket.Change.TheVariants as made
 use Rattle.rules_code.specs.steps.Changes as rules
@@ -48,11 +50,11 @@ change (made.Burnt id n) = rules.burnt (held (record { id = id; amount = n }))
 
 abbrev pub effect : Effect → r.Effect
 effect (effects.Transfer sender to amount argument changes) =
-    r.Transfer (place_bytes sender) (address_bytes to) amount (tree argument) (map change changes)
+    r.Transfer (place_bytes sender) (address_bytes to) amount (canonical (val argument)) (map change changes)
 effect (effects.Give sender to issuer ty content amount changes) =
     r.Give (place_bytes sender) (address_bytes to) (place_bytes issuer) (tree ty) (tree content) amount (map change changes)
 effect (effects.Origination sender address amount) = r.Origination (place_bytes sender) (place_bytes address) amount
-effect (effects.Event sender tag ty value) = r.Event (place_bytes sender) tag (tree ty) (tree value)
+effect (effects.Event sender tag ty value) = r.Event (place_bytes sender) tag (tree ty) (canonical (val value))
 effect (effects.Storage address bytes burn) = r.Storage (place_bytes address) bytes burn
 
 abbrev pub failure : Failure → Told

@@ -2,7 +2,7 @@
 use crate::failure::Failure;
 use mich_base::{Node, Rows, Text};
 use mich_forms::{Address, Place};
-use mich_term::Change;
+use mich_term::{Change, Value};
 
 /// What becomes of a group: it is refused, or each content has a status (Octez "Operations", receipts).
 #[derive(Debug, Drop)]
@@ -35,17 +35,18 @@ pub enum Status {
     Skipped,
 }
 
-/// What an operation did. Types and literals are the nodes that are written; amounts are in mutez, or so many tickets.
+/// What an operation did. Types, and the content of tickets, are the nodes that are written; an argument, or what is told, is a value
+/// whose literal is written. Amounts are in mutez, or so many tickets.
 #[derive(Debug, Drop)]
 pub enum Effect {
     /// From a sender to an address: the amount, the argument, and the changes of tickets in the run.
-    Transfer(Place, Address, u64, Node, Rows<Change>),
+    Transfer(Place, Address, u64, Value, Rows<Change>),
     /// From a sender to an address: the tickets' issuer, type, content and amount, and the changes of tickets in the run.
     Give(Place, Address, Place, Node, Node, i128, Rows<Change>),
     /// A sender made a contract with this balance.
     Origination(Place, Place, u64),
     /// A sender told a value of a type under a tag.
-    Event(Place, Text, Node, Node),
+    Event(Place, Text, Node, Value),
     /// A contract grew by so many bytes, for which so much was burnt.
     Storage(Place, u64, u64),
 }

@@ -1,13 +1,17 @@
 // What operations did.
-ghost use Rattle.std.specs.Prelude.{◌≡◌, IfOk, map};
+ghost use Rattle.std.specs.Prelude.{◌≡◌, ◌++◌, IfOk, OnOk, map};
+ghost use Rattle.rules_text.specs.text.Printed.{printed};
 ghost use Rattle.rules_world.specs.lines.Nodes.{effect_node, sequence};
 ghost use Rattle.mich_base.specs.View.{tree};
 ghost use Rattle.mich_ops.specs.View.{effect};
 
 use crate::changes::changes_node;
-use crate::parts::{address_node, number_node, place_node, sequence_node};
+use crate::parts::{address_node, number_node, place_node};
+use crate::line::put;
 use mich_base::{Memory, Node, Nodes, Rows, copy_node};
+use mich_data::value_node;
 use mich_ops::Effect;
+use mich_text::put_node;
 use mich_types::application;
 use std::alloc::Global;
 
@@ -21,7 +25,7 @@ pub(crate) fn effect_node(alloc: Global, done: &Effect) -> Result<Node, Memory>
             fields.push(place_node(alloc, sender)?)?;
             fields.push(address_node(alloc, to)?)?;
             fields.push(number_node(*amount))?;
-            fields.push(copy_node(alloc, argument)?)?;
+            fields.push(value_node(alloc, argument)?)?;
             fields.push(changes_node(alloc, changes)?)?;
             application(alloc, b"Transfer", fields)
         }
@@ -45,7 +49,7 @@ pub(crate) fn effect_node(alloc: Global, done: &Effect) -> Result<Node, Memory>
             fields.push(place_node(alloc, sender)?)?;
             fields.push(Node::Str(tag.copy(alloc)?))?;
             fields.push(copy_node(alloc, ty)?)?;
-            fields.push(copy_node(alloc, value)?)?;
+            fields.push(value_node(alloc, value)?)?;
             application(alloc, b"Event", fields)
         }
         Effect::Storage(address, bytes, burn) => {
@@ -57,13 +61,24 @@ pub(crate) fn effect_node(alloc: Global, done: &Effect) -> Result<Node, Memory>
     }
 }
 
-/// Effects in their order.
-pub(crate) fn effects_node(alloc: Global, effects: &Rows<Effect>) -> Result<Node, Memory>
-    ensures { IfOk result (λ n. tree n ≡ sequence (map effect_node (map effect effects.now))) }
+/// Puts effects behind a line, in their order; of each the nodes are made when its turn comes.
+pub(crate) fn put_effects(
+    alloc: Global,
+    line: &mut Vec<u8>,
+    effects: &Rows<Effect>,
+) -> Result<(), Memory>
+    ensures { OnOk result (line.new.items ≡ line.old.items ++ printed (sequence (map effect_node (map effect effects.now)))) }
 {
-    let mut nodes = Nodes::new(alloc);
-    for done in effects.as_slice() {
-        nodes.push(effect_node(alloc, done)?)?;
+    if effects.is_empty() {
+        return put(line, b"{}");
     }
-    Ok(sequence_node(nodes))
+    put(line, b"{")?;
+    let mut separator = b" ".as_slice();
+    'effects: for done in effects.as_slice() {
+        put(line, separator)?;
+        let node = effect_node(alloc, done)?;
+        put_node(alloc, line, &node)?;
+        separator = b" ; ".as_slice();
+    }
+    put(line, b" }")
 }

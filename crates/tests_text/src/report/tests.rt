@@ -3,7 +3,7 @@ use mich_base::{Memory, Node, Rows, Text, Ty};
 use mich_forms::{Address, Entrypoint, KeyHash, Place};
 use mich_ops::{Effect, Failure, GroupFault, GroupReceipt, Status};
 use mich_report::receipt_text;
-use mich_term::{Change, Datum, TicketId};
+use mich_term::{Change, Datum, TicketId, Value};
 use mich_types::bare;
 use std::alloc::Global;
 use std::test::Fail;
@@ -102,7 +102,7 @@ fn changes(alloc: Global) -> Result<Rows<Change>, Memory> {
 
 fn minting(alloc: Global) -> Result<Effect, Fail> {
     let to = address(contract(), b"mint")?;
-    let argument = unit(alloc)?;
+    let argument = Value::Unit;
     let changes = changes(alloc)?;
     Ok(Effect::Transfer(account(), to, 0, argument, changes))
 }
@@ -155,7 +155,7 @@ fn growth_that_is_charged(rt: HostRuntime) -> Result<(), Fail> {
 fn telling(alloc: Global) -> Result<Effect, Memory> {
     let ty = bare(alloc, b"unit")?;
     let tag = Text::from_slice(alloc, b"c")?;
-    Ok(Effect::Event(contract(), tag, ty, unit(alloc)?))
+    Ok(Effect::Event(contract(), tag, ty, Value::Unit))
 }
 
 #[test]
@@ -191,7 +191,7 @@ fn is_failure(alloc: Global, behind: u64, why: Failure, line: &str) -> Result<bo
 
 fn failing(alloc: Global) -> Result<Failure, Memory> {
     let ty = bare(alloc, b"unit")?;
-    Ok(Failure::FailedWith(ty, unit(alloc)?))
+    Ok(Failure::FailedWith(ty, Value::Unit))
 }
 
 #[test]
