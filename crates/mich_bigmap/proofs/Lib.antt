@@ -20,5 +20,6 @@ pub mod Sharing
 pub mod Standing
 pub mod Staying
 pub mod Weaving
+pub mod Whole
 pub mod Written
 pub mod ForCallers

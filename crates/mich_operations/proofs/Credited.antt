@@ -27,8 +27,6 @@ use Rattle.laws_world.proofs.accounts.ForCallers.{ticket_positive}
 use Rattle.laws_code.proofs.stacks.ForCallers.{tickets_good}
 use Rattle.laws_world.proofs.runs.ForCallers.{moved_moves, orderly_of, at_itself}
 use Rattle.mich_base.specs.Counted.{IsNotEmpty}
-use Rattle.mich_base.specs.View.{tree}
-use Rattle.mich_base.specs.declared.node.Node.{Node}
 use Rattle.mich_bigmap.specs.Bases.{Bases}
 use Rattle.mich_bigmap.specs.Extended.{Extends}
 use Rattle.mich_bigmap.specs.Standing.{val_in, big_step_in}
@@ -44,9 +42,9 @@ use Rattle.mich_ops.specs.declared.failure.Failure.{Failure as Why}
 use Rattle.mich_ops.specs.declared.receipt.Effect.TheVariants as effect
 use Rattle.mich_world.proofs.simulation_lemmas.ForCallers.{credits_agree}
 use Rattle.mich_term.specs.TicketView.{held, identity}
-use Rattle.mich_term.specs.ValueView.{value_step}
+use Rattle.mich_term.specs.ValueView.{val, value_step}
 use Rattle.mich_term.specs.declared.ticket.Ticket.{Ticket}
-use Rattle.mich_term.specs.declared.value.Value.{fold-roll-Value}
+use Rattle.mich_term.specs.declared.value.Value.{Value, fold-roll-Value}
 use Rattle.mich_term.specs.declared.value.Value.TheOpen.{Value-F}
 use Rattle.mich_term.specs.declared.value.Value.TheVariants as values
 use Rattle.mich_term.specs.declared.value.Value.TheVariants.{rolls-Ticket}
@@ -144,11 +142,11 @@ module _ (v : World) (w : PlainWorld) (from : Place) (to : List ℕ) (amount : �
     next_stands : StandsFor y next
     next_stands = moves_agree v y w from (place.Implicit to) amount sent.between.stands sent.between.form sent.between.sender sent.between.receiver payer refl same moves
 
-    pub sends_ticket : (z : World) (entry : List ℕ) (argument : Argument) (gas : ℕ) (counts : Counts) (literal : Node) (a : Applied) → z ≡ with_ledger y z.ledger →
-        Moves (implicit_place to) (λ j. amount_of j (held t)) y.ledger.books.present z.ledger.books.present → tree literal ≡ canonical x →
-        a.effect ≡ effect.Transfer from (record { place = place.Implicit to; entrypoint = entry }) amount literal [] → a.emitted ≡ [] → a.growth ≡ None →
+    pub sends_ticket : (z : World) (entry : List ℕ) (argument : Argument) (gas : ℕ) (counts : Counts) (sent_value : Value) (a : Applied) → z ≡ with_ledger y z.ledger →
+        Moves (implicit_place to) (λ j. amount_of j (held t)) y.ledger.books.present z.ledger.books.present → val sent_value ≡ x →
+        a.effect ≡ effect.Transfer from (record { place = place.Implicit to; entrypoint = entry }) amount sent_value [] → a.emitted ≡ [] → a.growth ≡ None →
         EndsAs (with_taken (Some x) w (transaction from (place.Implicit to) entry amount argument) gas (counts_of counts)) z gas counts counts (Ok a)
-    sends_ticket z entry argument gas counts literal a e m printed done nothing alone = record {
+    sends_ticket z entry argument gas counts sent_value a e m shown done nothing alone = record {
       world = received w (T entry argument) x;
       stands = subst (λ (u : World). StandsFor u (with_ticket next to (Some (held t)))) (sym e) (credits_agree y next z.ledger to (held t) next_stands next_form key there_now ticket_amount m);
       same = ap (λ o. account_outcome o w (T entry argument) x gas (counts_of counts))
@@ -156,7 +154,7 @@ module _ (v : World) (w : PlainWorld) (from : Place) (to : List ℕ) (amount : �
           ∙ (λ i. applied (record {
             world = received w (T entry argument) x;
             emitted = map (issued_by z.store.bases.present a.by) (sym nothing i);
-            effects = (ap (λ n. Transfer (place_bytes from) (spelled_address (implicit_place to) entry) amount n []) (sym printed) ∙ ap effect_of (sym done)) i ∷ grown (sym alone i);
+            effects = (ap (λ (y : Val). Transfer (place_bytes from) (spelled_address (implicit_place to) entry) amount (canonical y) []) (sym shown) ∙ ap effect_of (sym done)) i ∷ grown (sym alone i);
             gas = gas;
             counts = counts_of counts;
           }));

@@ -21,8 +21,8 @@ use Rattle.rules_world.specs.world.Good.{IsGoodWaiting}
 use Rattle.std.proofs.lemmas.List.Elements.{All-head}
 use Rattle.mich_bigmap.specs.Bases.{Bases}
 use Rattle.mich_bigmap.specs.Standing.{val_in, big_step_in}
-use Rattle.mich_term.specs.ValueView.{value_step}
-use Rattle.mich_term.specs.declared.value.Value.{fold-roll-Value}
+use Rattle.mich_term.specs.ValueView.{val, value_step}
+use Rattle.mich_term.specs.declared.value.Value.{Value, fold-roll-Value}
 use Rattle.mich_term.specs.declared.value.Value.TheOpen.{Value-F}
 use Rattle.mich_term.specs.declared.value.Value.TheVariants as value
 use Rattle.mich_term.specs.declared.value.Value.TheVariants.{rolls-Unit}
@@ -34,8 +34,6 @@ use Rattle.rules_world.specs.world.Transfers.{Transaction, as_ticket, account_fa
 use Rattle.rules_world.specs.world.World.{World as PlainWorld, key_hash_in}
 use Rattle.mich_forms.specs.Spelled.{place_bytes}
 use Rattle.mich_base.specs.Counted.{IsNotEmpty}
-use Rattle.mich_base.specs.View.{tree}
-use Rattle.mich_base.specs.declared.node.Node.{Node}
 use Rattle.mich_forms.specs.declared.places.Place.{Place}
 use Rattle.mich_forms.specs.declared.places.Place.TheVariants as place
 use Rattle.mich_machine.specs.Calls.{counts_of, IsHanded}
@@ -106,11 +104,11 @@ module _ (u : World) (w : PlainWorld) (from : Place) (to entry : List ℕ) (amou
       ends_failed _ v gas counts counts f balance_too_low
       (ap (λ o. account_outcome o w t x gas (counts_of counts)) (low_fails w t x some (subst (λ n. n < amount) balance_here low))) h
 
-  pub pays : (v : World) (literal : Node) (a : Applied) → a.effect ≡ effect.Transfer from (record { place = place.Implicit to; entrypoint = entry }) amount literal [] → a.emitted ≡ [] → a.growth ≡ None → amount ≢ 0 → as_ticket x ≡ None → may_receive u.funds.present from ≡ true → amount ≤ balance_in u.funds.present from →
-      v ≡ with_funds u v.funds → v.funds.present ≡ moved u.funds.present from (place.Implicit to) amount → tree literal ≡ canonical x →
+  pub pays : (v : World) (argument : Value) (a : Applied) → a.effect ≡ effect.Transfer from (record { place = place.Implicit to; entrypoint = entry }) amount argument [] → a.emitted ≡ [] → a.growth ≡ None → amount ≢ 0 → as_ticket x ≡ None → may_receive u.funds.present from ≡ true → amount ≤ balance_in u.funds.present from →
+      v ≡ with_funds u v.funds → v.funds.present ≡ moved u.funds.present from (place.Implicit to) amount → val argument ≡ x →
       EndsAs (with_taken (Some x) w t gas (counts_of counts)) v gas counts counts
       (Ok a)
-  pays v literal a done nothing alone some plain there enough e m printed = record {
+  pays v argument a done nothing alone some plain there enough e m shown = record {
     world = received w t x;
     stands = subst (λ o. StandsFor v (with_ticket (rules.moved w t.sender t.destination amount) (key_hash_in t.destination) o)) (sym plain)
         (moves_agree u v w from (place.Implicit to) amount b.stands b.form b.sender b.receiver there refl e m);
@@ -118,7 +116,7 @@ module _ (u : World) (w : PlainWorld) (from : Place) (to entry : List ℕ) (amou
         ∙ (λ i. applied (record {
           world = received w t x;
           emitted = map (issued_by v.store.bases.present a.by) (sym nothing i);
-          effects = (ap (λ n. Transfer t.sender (spelled_address t.destination entry) amount n []) (sym printed) ∙ ap effect_of (sym done)) i ∷ grown (sym alone i);
+          effects = (ap (λ (y : Val). Transfer t.sender (spelled_address t.destination entry) amount (canonical y) []) (sym shown) ∙ ap effect_of (sym done)) i ∷ grown (sym alone i);
           gas = gas;
           counts = counts_of counts;
         }));

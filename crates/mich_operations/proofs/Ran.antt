@@ -29,8 +29,6 @@ use Rattle.rules_world.specs.world.World.{World as PlainWorld, contract_at as pl
 use Rattle.laws_world.proofs.accounts.ForCallers.{Extends}
 use Rattle.laws_world.specs.runs.RunEnds.{IsFinished as IsFinishedRun, EndsWell}
 use Rattle.laws_world.proofs.runs.ForCallers.{contract_length, contract_stores, extends_replaced, is_met, orderly, orderly_contract, orderly_log, runs_end_well}
-use Rattle.mich_base.specs.View.{tree}
-use Rattle.mich_base.specs.declared.node.Node.{Node}
 use Rattle.mich_bigmap.specs.Bases.{Bases}
 use Rattle.mich_bigmap.specs.Standing.{val_in}
 use Rattle.mich_forms.specs.Spelled.{place_bytes}
@@ -54,6 +52,7 @@ use Rattle.mich_step.specs.Views.{environment}
 use Rattle.mich_step.specs.declared.environment.Env.{Env}
 use Rattle.mich_term.specs.declared.ticket.Change.{Change}
 use Rattle.mich_term.specs.declared.ticket.Change.TheVariants as made
+use Rattle.mich_term.specs.ValueView.{val}
 use Rattle.mich_term.specs.declared.value.Value.{Value}
 use Rattle.mich_tickets.specs.Effects.{change}
 use Rattle.mich_world.specs.Holders.{contract_at, may_receive, balance_or_none as balance_in, moved as moved_in}
@@ -254,11 +253,11 @@ module _ (v : World) (w : PlainWorld) (s : Setting) (counts : PlainCounts) (from
   runs_not effect gas left y old new e h = growing_stops s t.hash (before_growth s w go gas counts effect) y left old new e h
 
 -- what a transfer to a contract did
-pub transfer_told : (from : Place) (to name : List ℕ) (amount : ℕ) (x : Val) (literal : Node) (changes : List Change) → tree literal ≡ canonical x →
-    effect_of (effects.Transfer from (record { place = place.Contract to; entrypoint = name }) amount literal changes)
+pub transfer_told : (from : Place) (to name : List ℕ) (amount : ℕ) (x : Val) (argument : Value) (changes : List Change) → val argument ≡ x →
+    effect_of (effects.Transfer from (record { place = place.Contract to; entrypoint = name }) amount argument changes)
     ≡ transfer_effect (transaction from (place.Contract to) name amount (value x)) x (map change_of changes)
-transfer_told from to name amount x literal changes printed =
-    ap (λ n. Transfer (place_bytes from) (spelled_address (contract_place to) name) amount n (map change_of changes)) printed
+transfer_told from to name amount x argument changes shown =
+    ap (λ (y : Val). Transfer (place_bytes from) (spelled_address (contract_place to) name) amount (canonical y) (map change_of changes)) shown
 
 pub ends_memory : (o : Outcome) (v : World) (gas : ℕ) (old new : Counts) → EndsAs o v gas old new (Err Memory)
 ends_memory (applied a) v gas old new = tt

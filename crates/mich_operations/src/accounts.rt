@@ -1,7 +1,6 @@
 // Transfers to accounts.
 ghost use Rattle.std.specs.Prelude.{◌≡◌, ◌<◌, ◌^◌, [], true, is_some, None, IfOk};
 ghost use Rattle.rules_text.specs.nodes.Tree.{size};
-ghost use Rattle.rules_data.specs.values.Canonical.{canonical};
 ghost use Rattle.rules_world.specs.world.Gives.{as_value};
 ghost use Rattle.rules_world.specs.world.Transfers.{as_ticket};
 ghost use Rattle.rules_world.specs.world.World.{World as PlainWorld};
@@ -12,6 +11,7 @@ ghost use Rattle.mich_forms.specs.declared.places.Place.TheVariants as place;
 ghost use Rattle.mich_machine.specs.Calls.{IsHosting};
 ghost use Rattle.mich_ops.specs.declared.receipt.Effect.TheVariants as effect;
 ghost use Rattle.mich_term.specs.TicketView.{held};
+ghost use Rattle.mich_term.specs.ValueView.{val};
 ghost use Rattle.mich_world.specs.Holders.{may_receive};
 ghost use Rattle.mich_world.specs.Marks.{KeepsWorld};
 ghost use Rattle.mich_operations.specs.Going.{KeepsContracts};

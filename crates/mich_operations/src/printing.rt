@@ -1,4 +1,4 @@
-// Values as the nodes that are told.
+// Values that are told.
 ghost use Rattle.std.specs.Prelude.{◌≡◌, ◌<◌, ◌^◌, IfOk, MatchBool, Some, None};
 ghost use Rattle.rules_text.specs.nodes.Tree.{size};
 ghost use Rattle.rules_data.specs.declared.types.Simple.TheVariants as simple;

@@ -73,7 +73,7 @@ fn run_contract(
     ensures contracts { IfOk result (λ _. KeepsContracts world.old world.new) }
     ensures keeps { WithMemory result (KeepsWorld world.old world.new) }
 {
-    let literal = told(alloc, world.store(), &argument)?;
+    let shown = told(alloc, world.store(), &argument)?;
     let env = surroundings(world, source, from, *to, amount);
     match run(
         alloc, world, costs, meter, counts, bodies, to, name, argument, &env,
@@ -84,7 +84,7 @@ fn run_contract(
                 entrypoint: *name,
             };
             Ok(Applied {
-                effect: Effect::Transfer(*from, address, amount, literal, done.changes),
+                effect: Effect::Transfer(*from, address, amount, shown, done.changes),
                 growth: None,
                 by: *to,
                 emitted: done.returned,

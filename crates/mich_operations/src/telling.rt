@@ -26,9 +26,9 @@ pub(crate) fn tell(
     ensures { TellsEvent world.now by tag (kind ty.now) (val_in world.now.store.bases.present value.now) result }
 {
     let node = type_node(alloc, ty)?;
-    let literal = told(alloc, world.store(), value)?;
+    let shown = told(alloc, world.store(), value)?;
     Ok(Applied {
-        effect: Effect::Event(Place::Contract(by), tag, node, literal),
+        effect: Effect::Event(Place::Contract(by), tag, node, shown),
         growth: None,
         by,
         emitted: Rows::new(alloc),

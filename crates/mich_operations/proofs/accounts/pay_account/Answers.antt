@@ -1,5 +1,4 @@
 use Rattle.std.proofs.Common.{refl, ap, ◌∙◌}
-use Rattle.rules_data.specs.values.Canonical.{canonical}
 use Rattle.mich_bigmap.specs.Standing.{val_in}
 use Rattle.mich_bigmap.specs.Stored.{Stored}
 use Rattle.mich_forms.specs.declared.places.Place.TheVariants as place
@@ -31,7 +30,7 @@ returns-clause-ends c = λ w argument gas counts b.
     (val_in c.args.world.now.store.bases.present c.args.value.now) gas counts b c.move_mutez.new.self c.in_ok-argument.argument c.moved.result
     c.moved.ensures.effect c.moved.ensures.emitted c.moved.ensures.growth c.if-amount-eq0.false c.requires.plain c.requires.there c.in-Ok.ensures.answer.1
     c.in-Ok.ensures.others c.in-Ok.ensures.answer.2
-    (c.in_ok-argument.ensures ∙ ap (λ (s : Stored). canonical (val_in s.bases.present c.args.value.now)) stored)
+    (c.in_ok-argument.ensures ∙ ap (λ (s : Stored). val_in s.bases.present c.args.value.now) stored)
 
 pub returns-clause-hosting : goal.returns-clause-hosting
 returns-clause-hosting c = λ h.

@@ -1,6 +1,5 @@
 use Rattle.std.proofs.Common.{◌≡◌, rules, ap, subst, ◌∙◌}
 use Rattle.rules_data.specs.forms.Spelling.{default_name}
-use Rattle.rules_data.specs.values.Canonical.{canonical}
 use Rattle.rules_data.specs.values.Val.{Val}
 use Rattle.rules_world.specs.world.Arguments.{value}
 use Rattle.mich_bigmap.specs.Standing.{val_in}
@@ -26,10 +25,10 @@ send_ticket-requires-clause-sent c =
       subst (λ (x : Val). IsSent c.args.world.now g.0 c.args.from.now c.args.to.now x) (c.in_ok-ticket.ensures c.args.world.now.store.bases.present) g.1,
     )
 
-pub send_ticket-requires-clause-printed : goal.send_ticket-requires-clause-printed
-send_ticket-requires-clause-printed c =
-    c.in_ok-argument.ensures ∙ ap (λ (s : Stored). canonical (val_in s.bases.present c.args.value)) c.store.ensures
-    ∙ ap canonical (c.in_ok-ticket.ensures c.args.world.now.store.bases.present)
+pub send_ticket-requires-clause-told : goal.send_ticket-requires-clause-told
+send_ticket-requires-clause-told c =
+    c.in_ok-argument.ensures ∙ ap (λ (s : Stored). val_in s.bases.present c.args.value) c.store.ensures
+    ∙ c.in_ok-ticket.ensures c.args.world.now.store.bases.present
 
 pub returns-then-is_ticket-clause-ends : goal.returns-then-is_ticket-clause-ends
 returns-then-is_ticket-clause-ends c = λ w gas counts sent.

@@ -36,7 +36,7 @@ returns-clause-ends c = λ w a gas counts sent.
     sends_ticket c.args.world.now w c.args.from.now c.args.to.now c.args.amount c.args.ticket sent
     c.requires.there c.in-Ok.ensures.answer.1 c.move_mutez.new.self c.in-Ok.ensures.others c.in-Ok.ensures.answer.2
     c.credit.new.world c.args.entry.now a gas counts c.args.argument c.moved.result
-    c.in_ok-credit.ensures.world c.in_ok-credit.ensures.moves c.requires.printed c.moved.ensures.effect c.moved.ensures.emitted c.moved.ensures.growth
+    c.in_ok-credit.ensures.world c.in_ok-credit.ensures.moves c.requires.told c.moved.ensures.effect c.moved.ensures.emitted c.moved.ensures.growth
 
 pub returns-clause-hosting : goal.returns-clause-hosting
 returns-clause-hosting c = λ h.

@@ -1,5 +1,4 @@
 use Rattle.std.proofs.Common.{Err, refl, ap, ◌∙◌, subst}
-use Rattle.rules_data.specs.values.Canonical.{canonical}
 use Rattle.rules_world.specs.world.Arguments.{value}
 use Rattle.rules_world.specs.world.Transfers.{transfer_effect}
 use Rattle.mich_bigmap.specs.Standing.{val_in}
@@ -31,8 +30,8 @@ returns-in-Ok-clause-ends c = λ w t ready.
     ran v w c.args.costs.now c.args.counts.now c.args.source.now c.args.from.now c.args.to.now c.args.name.now c.args.amount c.args.argument t env ready around src
     (transfer_effect (transaction c.args.from.now (place.Contract c.args.to.now) c.args.name.now c.args.amount (value x)) x)
     c.args.meter.now c.run.new.meter c.run.new.world c.run.new.counts c.in-Ok.done _
-    (transfer_told c.args.from.now c.args.to.now c.args.name.now c.args.amount x c.in_ok-literal.literal c.in-Ok.done.changes
-    (c.in_ok-literal.ensures ∙ ap (λ (s : Stored). canonical (val_in s.bases.present c.args.argument)) c.store.ensures))
+    (transfer_told c.args.from.now c.args.to.now c.args.name.now c.args.amount x c.in_ok-shown.shown c.in-Ok.done.changes
+    (c.in_ok-shown.ensures ∙ ap (λ (s : Stored). val_in s.bases.present c.args.argument) c.store.ensures))
     refl refl refl c.requires.there (c.in-Ok.ensures.ends w t calls)
 
 pub returns-in-Ok-clause-contracts : goal.returns-in-Ok-clause-contracts
