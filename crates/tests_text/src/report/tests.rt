@@ -191,7 +191,7 @@ fn is_failure(alloc: Global, behind: u64, why: Failure, line: &str) -> Result<bo
 
 fn failing(alloc: Global) -> Result<Failure, Memory> {
     let ty = bare(alloc, b"unit")?;
-    Ok(Failure::FailedWith(ty, Value::Unit))
+    Ok(Failure::FailedWith(ty, unit(alloc)?))
 }
 
 #[test]
