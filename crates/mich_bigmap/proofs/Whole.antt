@@ -1,9 +1,9 @@
 -- Values that stand for the same in every store, part by part.
-use Rattle.std.proofs.Common.{◌≡◌, ℕ, true, false, Bool, List, ◌∷◌, ◌++◌, map, Some, None, refl, sym, ap, ◌∙◌, subst}
+use Rattle.std.proofs.Common.{◌≡◌, true, List, ◌∷◌, map, Some, None, sym, ap, ◌∙◌, subst}
 use Rattle.std.specs.declared.option.Option.{Option}
 use Rattle.std.specs.Map.{keys_of}
 use Rattle.std.proofs.lemmas.Bool.{and_from}
-use Rattle.rules_data.specs.values.Val.{Val, Pairs, table}
+use Rattle.rules_data.specs.values.Val.{Val, table}
 use Rattle.rules_data.specs.big_maps.Changes.{changed}
 use Rattle.mich_term.specs.Keyed.{IsIncreasing}
 use Rattle.mich_term.specs.View.{datum, pairs_of}

@@ -70,15 +70,14 @@ pub overlay_lies_whole-loop-key-preserved : goal.overlay_lies_whole-loop-key-pre
 overlay_lies_whole-loop-key-preserved t c =
     let k = c.in-Some.key.now in
     let o = c.in-Some.change.now in
-    let v = c.in-Some-change.value.now in
     let rest = c.next.new.self in
     let iter = c.loop-key.key-iterator in
     let all = (out-BigMap c.args.big.now).overlay in
     let first : iter ≡ (k, o) ∷ rest = search rules in
     let whole = c.if-not-lies_whole.false in
     record {
-      puts = puts_more iter rest all k o v first c.in-Some-change.is c.loop-key.invariant.puts;
-      stand = λ bs. changes_same iter rest all k o v first c.in-Some-change.is bs (c.lies_whole.ensures.stands bs whole) (c.loop-key.invariant.stand bs);
+      puts = puts_more iter rest all k o _ first c.in-Some-change.is c.loop-key.invariant.puts;
+      stand = λ bs. changes_same iter rest all k o _ first c.in-Some-change.is bs (c.lies_whole.ensures.stands bs whole) (c.loop-key.invariant.stand bs);
       place = moved deref_pair c.loop-key.yielded (c.in-Some.key, c.in-Some.change) iter rest all first c.loop-key.invariant.place;
     }
 
@@ -91,6 +90,6 @@ overlay_lies_whole-returns t c =
       stands = λ bs w. c.loop-key.invariant.stand bs (subst (λ (cs : Changes). changes_in bs cs ≡ seen cs) (sym last) refl);
     }
 
-pub big_lies_whole-returns-clause-stands : goal.big_lies_whole-returns-clause-stands
-big_lies_whole-returns-clause-stands t c = λ bs w.
-    big_same bs c.args.big.now (search rules) (c.overlay_lies_whole.ensures.puts w) c.overlay_lies_whole.ensures.increasing (c.overlay_lies_whole.ensures.stands bs w)
+pub big_lies_whole-returns-in-None-clause-stands : goal.big_lies_whole-returns-in-None-clause-stands
+big_lies_whole-returns-in-None-clause-stands t c = λ bs w.
+    big_same bs c.args.big.now c.in-None.is (c.overlay_lies_whole.ensures.puts w) c.overlay_lies_whole.ensures.increasing (c.overlay_lies_whole.ensures.stands bs w)
