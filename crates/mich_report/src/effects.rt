@@ -1,18 +1,23 @@
 // What operations did.
-ghost use Rattle.std.specs.Prelude.{◌≡◌, IfOk, map};
+ghost use Rattle.std.specs.Prelude.{◌≡◌, ◌++◌, ◌∷◌, [], IfOk, OnOk, map};
+ghost use Rattle.rules_text.specs.nodes.Tree.{trees_of};
+ghost use Rattle.rules_text.specs.text.Printed.{printed};
 ghost use Rattle.rules_world.specs.lines.Nodes.{effect_node, sequence};
 ghost use Rattle.mich_base.specs.View.{tree};
+ghost use Rattle.mich_text.specs.Line.{joined};
 ghost use Rattle.mich_ops.specs.View.{effect};
 
 use crate::changes::changes_node;
-use crate::parts::{address_node, number_node, place_node, sequence_node};
+use crate::line::put;
+use crate::parts::{address_node, number_node, place_node};
 use mich_base::{Memory, Node, Nodes, Rows, copy_node};
 use mich_ops::Effect;
+use mich_text::put_node;
 use mich_types::application;
 use std::alloc::Global;
 
-/// An effect with its fields.
-pub(crate) fn effect_node(alloc: Global, done: &Effect) -> Result<Node, Memory>
+// An effect with its fields.
+fn effect_node(alloc: Global, done: &Effect) -> Result<Node, Memory>
     ensures { IfOk result (λ n. tree n ≡ effect_node (effect done.now)) }
 {
     let mut fields = Nodes::new(alloc);
@@ -57,13 +62,39 @@ pub(crate) fn effect_node(alloc: Global, done: &Effect) -> Result<Node, Memory>
     }
 }
 
-/// Effects in their order.
-pub(crate) fn effects_node(alloc: Global, effects: &Rows<Effect>) -> Result<Node, Memory>
-    ensures { IfOk result (λ n. tree n ≡ sequence (map effect_node (map effect effects.now))) }
+// An effect behind a line; its nodes are let go when it is written.
+fn put_effect(alloc: Global, line: &mut Vec<u8>, done: &Effect) -> Result<(), Memory>
+    ensures { OnOk result (line.new.items ≡ line.old.items ++ printed (effect_node (effect done.now))) }
 {
-    let mut nodes = Nodes::new(alloc);
-    for done in effects.as_slice() {
-        nodes.push(effect_node(alloc, done)?)?;
+    let node = effect_node(alloc, done)?;
+    put_node(alloc, line, &node)
+}
+
+// Effects, the first behind a space and each other behind its sign.
+fn put_each(alloc: Global, line: &mut Vec<u8>, effects: &Rows<Effect>) -> Result<(), Memory>
+    ensures { OnOk result (line.new.items ≡ line.old.items ++ joined (32 ∷ []) (trees_of (map effect_node (map effect effects.now)))) }
+{
+    let mut separator = b" ".as_slice();
+    'effects: for done in effects.as_slice() {
+        put(line, separator)?;
+        put_effect(alloc, line, done)?;
+        separator = b" ; ".as_slice();
     }
-    Ok(sequence_node(nodes))
+    Ok(())
+}
+
+/// Puts effects behind a line, in their order. Memory where there is no room for them.
+pub(crate) fn put_effects(
+    alloc: Global,
+    line: &mut Vec<u8>,
+    effects: &Rows<Effect>,
+) -> Result<(), Memory>
+    ensures { OnOk result (line.new.items ≡ line.old.items ++ printed (sequence (map effect_node (map effect effects.now)))) }
+{
+    if effects.is_empty() {
+        return put(line, b"{}");
+    }
+    put(line, b"{")?;
+    put_each(alloc, line, effects)?;
+    put(line, b" }")
 }
