@@ -8,7 +8,7 @@ ghost use Rattle.mich_text.specs.Line.{joined};
 ghost use Rattle.mich_ops.specs.View.{effect};
 
 use crate::changes::changes_node;
-use crate::line::put;
+use crate::line::{put, put_separator};
 use crate::parts::{address_node, number_node, place_node};
 use mich_base::{Memory, Node, Nodes, Rows, copy_node};
 use mich_ops::Effect;
@@ -74,11 +74,11 @@ fn put_effect(alloc: Global, line: &mut Vec<u8>, done: &Effect) -> Result<(), Me
 fn put_each(alloc: Global, line: &mut Vec<u8>, effects: &Rows<Effect>) -> Result<(), Memory>
     ensures { OnOk result (line.new.items ≡ line.old.items ++ joined (32 ∷ []) (trees_of (map effect_node (map effect effects.now)))) }
 {
-    let mut separator = b" ".as_slice();
+    let mut begun = false;
     'effects: for done in effects.as_slice() {
-        put(line, separator)?;
+        put_separator(line, begun)?;
         put_effect(alloc, line, done)?;
-        separator = b" ; ".as_slice();
+        begun = true;
     }
     Ok(())
 }

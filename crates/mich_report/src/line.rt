@@ -2,6 +2,7 @@
 ghost use Rattle.std.specs.Prelude.{◌≡◌, ◌++◌, ◌∷◌, [], IfOk, OnOk, codes};
 ghost use Rattle.rules_world.specs.lines.Nodes.{line};
 ghost use Rattle.mich_base.specs.View.{tree};
+ghost use Rattle.mich_report.specs.Pieces.{separator};
 
 use mich_base::{Memory, Node, Text};
 use mich_text::print;
@@ -13,6 +14,16 @@ pub(crate) fn put(line: &mut Vec<u8>, bytes: &[u8]) -> Result<(), Memory>
 {
     line.extend_from_slice(bytes)?;
     Ok(())
+}
+
+/// Puts what stands before an element, where others are before it or it is the first.
+pub(crate) fn put_separator(line: &mut Vec<u8>, begun: bool) -> Result<(), Memory>
+    ensures { OnOk result (line.new.items ≡ line.old.items ++ separator begun) }
+{
+    if begun {
+        return put(line, b" ; ");
+    }
+    put(line, b" ")
 }
 
 /// The line of a node.

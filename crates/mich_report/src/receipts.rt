@@ -12,7 +12,7 @@ ghost use Rattle.mich_report.specs.Told.{told_group_node, told_receipt_node, tol
 
 use crate::effects::put_effects;
 use crate::failures::failure_node;
-use crate::line::put;
+use crate::line::{put, put_separator};
 use crate::parts::number_node;
 use mich_base::{Memory, Node, Rows, Text};
 use mich_ops::{Effect, Failure, GroupFault, GroupReceipt, Status};
@@ -82,11 +82,11 @@ fn put_status(alloc: Global, line: &mut Vec<u8>, found: &Status) -> Result<(), M
 fn put_each(alloc: Global, line: &mut Vec<u8>, statuses: &Rows<Status>) -> Result<(), Memory>
     ensures { OnOk result (line.new.items ≡ line.old.items ++ joined (32 ∷ []) (trees_of (map told_status_node (map status statuses.now)))) }
 {
-    let mut separator = b" ".as_slice();
+    let mut begun = false;
     'statuses: for found in statuses.as_slice() {
-        put(line, separator)?;
+        put_separator(line, begun)?;
         put_status(alloc, line, found)?;
-        separator = b" ; ".as_slice();
+        begun = true;
     }
     Ok(())
 }
