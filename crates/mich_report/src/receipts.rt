@@ -54,12 +54,7 @@ fn put_applied(
 }
 
 // Why an operation failed, behind a line.
-fn put_failed(
-    alloc: Global,
-    line: &mut Vec<u8>,
-    count: u64,
-    why: &Failure,
-) -> Result<(), Memory>
+fn put_failed(alloc: Global, line: &mut Vec<u8>, count: u64, why: &Failure) -> Result<(), Memory>
     ensures { OnOk result (line.new.items ≡ line.old.items ++ printed (told_status_node (Failed count (failure why.now)))) }
 {
     let reason = failure_node(alloc, why)?;
@@ -91,11 +86,7 @@ fn put_each(alloc: Global, line: &mut Vec<u8>, statuses: &Rows<Status>) -> Resul
     Ok(())
 }
 
-fn put_statuses(
-    alloc: Global,
-    line: &mut Vec<u8>,
-    statuses: &Rows<Status>,
-) -> Result<(), Memory>
+fn put_statuses(alloc: Global, line: &mut Vec<u8>, statuses: &Rows<Status>) -> Result<(), Memory>
     ensures { OnOk result (line.new.items ≡ line.old.items ++ printed (sequence (map told_status_node (map status statuses.now)))) }
 {
     if statuses.is_empty() {
