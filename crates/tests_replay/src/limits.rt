@@ -102,7 +102,7 @@ const LETTERS: &str =
 // stand before those of a string that is packed: the byte 5, the tag of a string, and its length in four bytes.
 type Longest = (&'static str, &'static str, &'static str, u64, u64);
 
-const LONGEST: [Longest; 3] = [
+static LONGEST: [Longest; 3] = [
     ("PACK", "1048570", "1048571", 4_194_579, 4_194_577),
     (
         "PUSH string \"a\" ; CONCAT",
@@ -150,12 +150,12 @@ fn bytes_at_their_limit(rt: HostRuntime) -> Result<(), Fail> {
 // A lambda, its body, and the empty sequences behind it with which what APPLY makes of it and of the empty list has 100,000
 // nodes. Beside these there are eight nodes, and one for each unit of the list: the sequence, PUSH, the two of its type, the
 // list, PAIR, and the two of the old body. Of the lambda that gets itself there are 19.
-const CAPTURING: [(&str, &str, u32); 2] = [
+static CAPTURING: [(&str, &str, u32); 2] = [
     ("LAMBDA", "CDR", 99_992),
     ("LAMBDA_REC", "CDR ; DIP { DROP }", 99_981),
 ];
 
-const CAPTURES: [Call<'static>; 4] = [
+static CAPTURES: [Call<'static>; 4] = [
     ("{}", 12, None),
     ("{}", 11, Some("OutOfGas")),
     ("{ Unit }", 7, Some("SizeLimit")),
@@ -259,7 +259,7 @@ fn one_block_more(rt: HostRuntime) -> Result<(), Fail> {
 // as the 100,000th.
 type Opening = (&'static str, u64, u64);
 
-const OPENING: [Opening; 11] = [
+static OPENING: [Opening; 11] = [
     ("{ PUSH int 7 }", 6_998, 7_002),
     (
         "PUSH bool True ; IF { PUSH int 7 } { PUSH int 8 }",
@@ -334,7 +334,7 @@ fn each_block_at_the_limit(rt: HostRuntime) -> Result<(), Fail> {
     are_limited(rt.alloc(), &OPENING)
 }
 
-const ASKS: [Call<'static>; 2] = [
+static ASKS: [Call<'static>; 2] = [
     ("Unit", 7_005, Some("DepthLimit")),
     ("Unit", 7_004, Some("OutOfGas")),
 ];
@@ -366,7 +366,7 @@ fn issuing(alloc: Global) -> Result<String, Memory> {
     )
 }
 
-const ISSUES: [Call<'static>; 2] = [("257", 263_947, None), ("257", 263_946, Some("OutOfGas"))];
+static ISSUES: [Call<'static>; 2] = [("257", 263_947, None), ("257", 263_946, Some("OutOfGas"))];
 
 #[test]
 fn operations_of_a_run_at_their_limit(rt: HostRuntime) -> Result<(), Fail> {
@@ -376,7 +376,7 @@ fn operations_of_a_run_at_their_limit(rt: HostRuntime) -> Result<(), Fail> {
 }
 
 // Contents that issue one operation more than their group may, with just the gas for it.
-const ONE_MORE: [&str; 3] = [
+static ONE_MORE: [&str; 3] = [
     "Call 0 9 0 0x01000000000000000100000000000000000000000000 \"default\" 1",
     "Call 0 7 0 0x01000000000000000100000001000000000000000000 \"default\" Unit",
     "Call 0 7 0 0x01000000000000000100000002000000000000000000 \"default\" Unit",
