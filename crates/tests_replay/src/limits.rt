@@ -12,22 +12,68 @@ type Contract<'a> = (&'a str, &'a str);
 // The argument of a call, its gas, and its failure, if it has one.
 type Call<'a> = (&'a str, u64, Option<&'a str>);
 
-// A file in which a contract is made, and called so often.
-fn file(alloc: Global, contract: &Contract<'_>, calls: &[Call<'_>]) -> Result<String, Memory> {
+fn group(alloc: Global, call: &Call<'_>) -> Result<String, Memory> {
+    let (argument, gas, _) = call;
+    Ok(format!(in alloc;
+        "Group 0x000000000000000000000000000000000000000001 {{ \
+        Call 0 {gas} 0 0x01000000000000000100000000000000000000000000 \"default\" {argument} }};"
+    )?)
+}
+
+fn origination(alloc: Global, contract: &Contract<'_>) -> Result<String, Memory> {
     let (parameter, code) = contract;
-    let mut file = format!(in alloc;
+    Ok(format!(in alloc;
         "Chain 0x7a06a770 1 0; Account 0x000000000000000000000000000000000000000001 1000; \
         Group 0x000000000000000000000000000000000000000001 {{ \
         Originate 0 1 0 {{ parameter {parameter} ; storage int ; code {{ {code} }} }} 9 }};"
-    )?;
-    for (argument, gas, _) in calls {
-        let group = format!(in alloc;
-            "Group 0x000000000000000000000000000000000000000001 {{ \
-            Call 0 {gas} 0 0x01000000000000000100000000000000000000000000 \"default\" {argument} }};"
-        )?;
+    )?)
+}
+
+// A file in which a contract is made, and called so often.
+fn file(alloc: Global, contract: &Contract<'_>, calls: &[Call<'_>]) -> Result<String, Memory> {
+    let mut file = origination(alloc, contract)?;
+    for call in calls {
+        let group = group(alloc, call)?;
         file.push_str(group.as_str())?;
     }
     Ok(file)
+}
+
+fn applied(alloc: Global, argument: &str, gas: u64) -> Result<String, Memory> {
+    Ok(format!(in alloc;
+        "Applied {gas} {{ Transfer 0x00000000000000000000000000000000000000000001 \
+        0x01000000000000000100000000000000000000000000 0 {argument} {{}} }}"
+    )?)
+}
+
+// What becomes of a call.
+fn outcome(alloc: Global, call: &Call<'_>) -> Result<String, Memory> {
+    match call {
+        (argument, gas, None) => applied(alloc, argument, *gas),
+        (_, _, Some(failure)) => Ok(format!(in alloc; "Failed 0 {failure}")?),
+    }
+}
+
+fn line(alloc: Global, number: u64, call: &Call<'_>) -> Result<String, Memory> {
+    let outcome = outcome(alloc, call)?;
+    Ok(format!(in alloc; "Group {number} {{ {outcome} }}\n")?)
+}
+
+fn last_lines(alloc: Global, after: &str) -> Result<String, Memory> {
+    Ok(format!(in alloc;
+        "Account 0x000000000000000000000000000000000000000001 1000 {{}}\n\
+        Contract 0x01000000000000000100000000000000000000000000 0 {after}\nFees 0\nSupply 1000\n"
+    )?)
+}
+
+fn push_lines(alloc: Global, lines: &mut String, calls: &[Call<'_>]) -> Result<(), Memory> {
+    let mut number: u64 = 1;
+    for call in calls {
+        number = number.saturating_add(1);
+        let line = line(alloc, number, call)?;
+        lines.push_str(line.as_str())?;
+    }
+    Ok(())
 }
 
 // What is to be written of it, where this is left in the end.
@@ -37,22 +83,8 @@ fn lines(alloc: Global, calls: &[Call<'_>], after: &str) -> Result<String, Memor
         "Group 1 { Applied 1 { Origination 0x00000000000000000000000000000000000000000001 \
         0x01000000000000000100000000000000000000000000 0 } }\n",
     )?;
-    let mut number: u64 = 1;
-    for (argument, gas, failure) in calls {
-        number = number.saturating_add(1);
-        let line = match failure {
-            None => format!(in alloc;
-                "Group {number} {{ Applied {gas} {{ Transfer 0x00000000000000000000000000000000000000000001 \
-                0x01000000000000000100000000000000000000000000 0 {argument} {{}} }} }}\n"
-            )?,
-            Some(failure) => format!(in alloc; "Group {number} {{ Failed 0 {failure} }}\n")?,
-        };
-        lines.push_str(line.as_str())?;
-    }
-    let end = format!(in alloc;
-        "Account 0x000000000000000000000000000000000000000001 1000 {{}}\n\
-        Contract 0x01000000000000000100000000000000000000000000 0 {after}\nFees 0\nSupply 1000\n"
-    )?;
+    push_lines(alloc, &mut lines, calls)?;
+    let end = last_lines(alloc, after)?;
     lines.push_str(end.as_str())?;
     Ok(lines)
 }

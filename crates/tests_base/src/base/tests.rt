@@ -151,14 +151,17 @@ fn a_value_is_shared(rt: HostRuntime) -> Result<(), Fail> {
     Ok(())
 }
 
+fn list_link(alloc: Global) -> Result<Link<Ty>, Memory> {
+    let int = Link::new(alloc, Ty::Int)?;
+    Link::new(alloc, Ty::List(int))
+}
+
 // Whether what is held twice is taken out of both.
 fn are_links_parted(alloc: Global) -> Result<bool, Memory> {
-    let part = Ty::List(Link::new(alloc, Ty::Int)?);
-    let link = Link::new(alloc, part)?;
+    let link = list_link(alloc)?;
     let other = link.share()?;
     let first = link.into_value()?;
-    let second = other.into_value()?;
-    Ok(same_type(&first, &second))
+    Ok(same_type(&first, &other.into_value()?))
 }
 
 #[test]

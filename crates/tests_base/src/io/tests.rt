@@ -36,22 +36,29 @@ fn is_abc<F: Files>(files: &mut F) -> bool {
     count == Some(3) && end == Some(0) && buf[0] == b'a'
 }
 
+fn is_real_file_read(rt: HostRuntime) -> Result<bool, Memory> {
+    let mut files = HostFiles::new(rt, one(rt.alloc(), "a_real_file.txt")?);
+    let started = files.start("a_real_file.txt").is_ok();
+    Ok(started && is_abc(&mut files))
+}
+
 #[test]
 fn a_real_file(rt: HostRuntime) -> Result<(), Fail> {
     fs::write(&rt, "a_real_file.txt", "abc")?;
-    let mut files = HostFiles::new(rt, one(rt.alloc(), "a_real_file.txt")?);
-    let started = files.start("a_real_file.txt").is_ok();
-    let read = started && is_abc(&mut files);
+    let read = is_real_file_read(rt)?;
     fs::remove_file(&rt, "a_real_file.txt")?;
     assert!(rt; read);
     Ok(())
 }
 
+fn fault_of_missing(rt: HostRuntime) -> Result<Option<FilesFault>, Memory> {
+    let mut files = HostFiles::new(rt, one(rt.alloc(), "no_such_file.txt")?);
+    Ok(files.start("no_such_file.txt").err())
+}
+
 #[test]
 fn a_file_that_is_not_there(rt: HostRuntime) -> Result<(), Fail> {
-    let mut files = HostFiles::new(rt, one(rt.alloc(), "no_such_file.txt")?);
-    let missing = files.start("no_such_file.txt").err();
-    assert!(rt; missing == Some(FilesFault::Failed));
+    assert!(rt; fault_of_missing(rt)? == Some(FilesFault::Failed));
     Ok(())
 }
 
@@ -78,23 +85,31 @@ fn reads<F: Files>(files: &mut F, wanted: Option<usize>) -> bool {
     files.read(&mut buf).ok() == wanted
 }
 
+fn is_second_start_good(alloc: Global) -> Result<bool, Memory> {
+    let mut files = failing_files(alloc, &[0])?;
+    Ok(files.start("f").is_err() && files.start("f").is_ok())
+}
+
 #[test]
 fn starts_that_are_listed_fail(rt: HostRuntime) -> Result<(), Fail> {
-    let mut files = failing_files(rt.alloc(), &[0])?;
-    let started = !files.start("f").is_ok() && files.start("f").is_ok();
-    assert!(rt; started);
+    assert!(rt; is_second_start_good(rt.alloc())?);
     Ok(())
+}
+
+fn are_reads_good(alloc: Global) -> Result<bool, Memory> {
+    let mut files = failing_files(alloc, &[1])?;
+    Ok(
+        files.start("f").is_ok()
+            && reads(&mut files, None)
+            && reads(&mut files, Some(2))
+            && reads(&mut files, Some(1))
+            && reads(&mut files, Some(0)),
+    )
 }
 
 #[test]
 fn reads_that_are_listed_fail(rt: HostRuntime) -> Result<(), Fail> {
-    let mut files = failing_files(rt.alloc(), &[1])?;
-    let read = files.start("f").is_ok()
-        && reads(&mut files, None)
-        && reads(&mut files, Some(2))
-        && reads(&mut files, Some(1))
-        && reads(&mut files, Some(0));
-    assert!(rt; read);
+    assert!(rt; are_reads_good(rt.alloc())?);
     Ok(())
 }
 
@@ -113,12 +128,15 @@ fn writes_that_are_listed_fail(rt: HostRuntime) -> Result<(), Fail> {
     Ok(())
 }
 
+fn is_honest_file_read(alloc: Global) -> Result<bool, Memory> {
+    let content = Bytes::from_slice(alloc, b"abc")?;
+    let mut files = HonestFiles::new(Text::from_slice(alloc, b"f")?, content);
+    Ok(reads(&mut files, Some(2)) && reads(&mut files, Some(1)))
+}
+
 #[test]
 fn an_honest_file(rt: HostRuntime) -> Result<(), Fail> {
-    let content = Bytes::from_slice(rt.alloc(), b"abc")?;
-    let mut files = HonestFiles::new(Text::from_slice(rt.alloc(), b"f")?, content);
-    let read = reads(&mut files, Some(2)) && reads(&mut files, Some(1));
-    assert!(rt; read);
+    assert!(rt; is_honest_file_read(rt.alloc())?);
     Ok(())
 }
 
