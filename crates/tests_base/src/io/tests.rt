@@ -90,12 +90,6 @@ fn is_second_start_good(alloc: Global) -> Result<bool, Memory> {
     Ok(files.start("f").is_err() && files.start("f").is_ok())
 }
 
-#[test]
-fn starts_that_are_listed_fail(rt: HostRuntime) -> Result<(), Fail> {
-    assert!(rt; is_second_start_good(rt.alloc())?);
-    Ok(())
-}
-
 fn are_reads_good(alloc: Global) -> Result<bool, Memory> {
     let mut files = failing_files(alloc, &[1])?;
     Ok(
@@ -105,12 +99,6 @@ fn are_reads_good(alloc: Global) -> Result<bool, Memory> {
             && reads(&mut files, Some(1))
             && reads(&mut files, Some(0)),
     )
-}
-
-#[test]
-fn reads_that_are_listed_fail(rt: HostRuntime) -> Result<(), Fail> {
-    assert!(rt; are_reads_good(rt.alloc())?);
-    Ok(())
 }
 
 // Whether three lines come to a sink whose second write fails, but for the second.
@@ -123,7 +111,9 @@ fn is_second_lost(alloc: Global) -> Result<bool, Memory> {
 }
 
 #[test]
-fn writes_that_are_listed_fail(rt: HostRuntime) -> Result<(), Fail> {
+fn calls_that_are_listed_fail(rt: HostRuntime) -> Result<(), Fail> {
+    assert!(rt; is_second_start_good(rt.alloc())?);
+    assert!(rt; are_reads_good(rt.alloc())?);
     assert!(rt; is_second_lost(rt.alloc())?);
     Ok(())
 }
@@ -134,20 +124,9 @@ fn is_honest_file_read(alloc: Global) -> Result<bool, Memory> {
     Ok(reads(&mut files, Some(2)) && reads(&mut files, Some(1)))
 }
 
-#[test]
-fn an_honest_file(rt: HostRuntime) -> Result<(), Fail> {
-    assert!(rt; is_honest_file_read(rt.alloc())?);
-    Ok(())
-}
-
 fn is_honest(alloc: Global) -> bool {
     let mut out = HonestSink::new(alloc);
     out.write(b"ab").ok() == Some(2) && out.as_slice() == b"ab".as_slice()
-}
-
-#[test]
-fn an_honest_output(rt: HostRuntime) {
-    assert!(rt; is_honest(rt.alloc()));
 }
 
 // Whether a line comes to a sink of pieces in one piece.
@@ -158,11 +137,6 @@ fn is_one_piece(alloc: Global) -> bool {
         [piece] => written && piece.as_slice() == b"one line\n".as_slice(),
         _ => false,
     }
-}
-
-#[test]
-fn a_line_is_one_piece(rt: HostRuntime) {
-    assert!(rt; is_one_piece(rt.alloc()));
 }
 
 // Takes one byte a write.
@@ -192,6 +166,10 @@ fn is_written_slowly(alloc: Global) -> bool {
 }
 
 #[test]
-fn one_byte_a_write(rt: HostRuntime) {
+fn outputs_get_what_is_written(rt: HostRuntime) -> Result<(), Fail> {
+    assert!(rt; is_honest_file_read(rt.alloc())?);
+    assert!(rt; is_honest(rt.alloc()));
+    assert!(rt; is_one_piece(rt.alloc()));
     assert!(rt; is_written_slowly(rt.alloc()));
+    Ok(())
 }

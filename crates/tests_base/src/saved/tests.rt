@@ -114,12 +114,6 @@ fn is_read(alloc: Global) -> Result<bool, Fail> {
     Ok(is_head(&state.head) && has_sums(&state))
 }
 
-#[test]
-fn what_was_written_is_read(rt: HostRuntime) -> Result<(), Fail> {
-    assert!(rt; is_read(rt.alloc())?);
-    Ok(())
-}
-
 // Whether it is the account alone, at its place.
 fn is_account(accounts: &[ReadAccount]) -> bool {
     match accounts {
@@ -176,13 +170,9 @@ fn are_read(alloc: Global, first: i128, second: i128, is_kept: bool) -> Result<b
 }
 
 #[test]
-fn holders_are_read_with_their_places(rt: HostRuntime) -> Result<(), Fail> {
+fn what_was_written_is_read(rt: HostRuntime) -> Result<(), Fail> {
+    assert!(rt; is_read(rt.alloc())?);
     assert!(rt; are_read(rt.alloc(), 1, 2, true)?);
-    Ok(())
-}
-
-#[test]
-fn a_set_out_of_order_is_not_kept(rt: HostRuntime) -> Result<(), Fail> {
     assert!(rt; are_read(rt.alloc(), 2, 2, false)?);
     Ok(())
 }
@@ -302,12 +292,6 @@ fn is_ticket_spelt(alloc: Global) -> Result<bool, Memory> {
     )
 }
 
-#[test]
-fn tickets_are_written_with_their_types(rt: HostRuntime) -> Result<(), Fail> {
-    assert!(rt; is_ticket_spelt(rt.alloc())?);
-    Ok(())
-}
-
 fn left_text(alloc: Global) -> Result<Datum, Memory> {
     let text = Text::from_slice(alloc, b"ab")?;
     Ok(Datum::Left(Link::new(alloc, Datum::Text(text))?))
@@ -328,6 +312,7 @@ fn is_pair_spelt(alloc: Global) -> Result<bool, Memory> {
 
 #[test]
 fn values_are_written_part_by_part(rt: HostRuntime) -> Result<(), Fail> {
+    assert!(rt; is_ticket_spelt(rt.alloc())?);
     assert!(rt; is_pair_spelt(rt.alloc())?);
     Ok(())
 }

@@ -55,23 +55,11 @@ fn is_put(alloc: Global) -> Result<bool, StepError> {
     Ok(matches!(stack.as_slice(), [Value::Set(_)]))
 }
 
-#[test]
-fn an_element_is_put(rt: HostRuntime) -> Result<(), Fail> {
-    assert!(rt; is_put(rt.alloc())?);
-    Ok(())
-}
-
 fn is_found(alloc: Global) -> Result<bool, StepError> {
     let mut stack = with_7(alloc)?;
     stack.push(Value::Number(7))?;
     is_member(alloc, &mut stack)?;
     Ok(matches!(stack.as_slice(), [Value::Bool(true)]))
-}
-
-#[test]
-fn an_element_is_found(rt: HostRuntime) -> Result<(), Fail> {
-    assert!(rt; is_found(rt.alloc())?);
-    Ok(())
 }
 
 // The first string behind the second.
@@ -96,7 +84,9 @@ fn is_joined(alloc: Global) -> Result<bool, StepError> {
 }
 
 #[test]
-fn two_strings_are_joined(rt: HostRuntime) -> Result<(), Fail> {
+fn elements_and_strings(rt: HostRuntime) -> Result<(), Fail> {
+    assert!(rt; is_put(rt.alloc())?);
+    assert!(rt; is_found(rt.alloc())?);
     assert!(rt; is_joined(rt.alloc())?);
     Ok(())
 }

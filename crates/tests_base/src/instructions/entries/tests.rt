@@ -114,21 +114,11 @@ fn taken(alloc: Global, key: i128) -> Result<(Option<i128>, usize), Memory> {
 }
 
 #[test]
-fn an_entry_is_there(rt: HostRuntime) -> Result<(), Fail> {
+fn entries_are_found_and_taken(rt: HostRuntime) -> Result<(), Fail> {
     assert!(rt; is_member(rt.alloc(), 7)? == Some(true));
     assert!(rt; is_member(rt.alloc(), 8)? == Some(false));
-    Ok(())
-}
-
-#[test]
-fn an_entry_is_found_and_weighed(rt: HostRuntime) -> Result<(), Fail> {
     assert!(rt; found(rt.alloc(), 7)? == (1, Some(5)));
     assert!(rt; found(rt.alloc(), 8)? == (0, Some(-1)));
-    Ok(())
-}
-
-#[test]
-fn an_entry_is_taken_away(rt: HostRuntime) -> Result<(), Fail> {
     assert!(rt; taken(rt.alloc(), 7)? == (Some(5), 0));
     assert!(rt; taken(rt.alloc(), 8)? == (Some(-1), 1));
     Ok(())

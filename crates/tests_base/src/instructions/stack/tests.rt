@@ -36,12 +36,6 @@ fn is_put(alloc: Global) -> Result<bool, Memory> {
     Ok(matches!(stack.as_slice(), [Value::Number(1), Value::Number(7)]))
 }
 
-#[test]
-fn a_value_is_put_in_place_of_others(rt: HostRuntime) -> Result<(), Fail> {
-    assert!(rt; is_put(rt.alloc())?);
-    Ok(())
-}
-
 fn is_put_below(alloc: Global) -> Result<bool, Memory> {
     let mut stack = numbers(alloc, 1, 2)?;
     insert_below(alloc, &mut stack, Value::Number(7))?;
@@ -51,12 +45,6 @@ fn is_put_below(alloc: Global) -> Result<bool, Memory> {
             [Value::Number(1), Value::Number(7), Value::Number(2)]
         ),
     )
-}
-
-#[test]
-fn a_value_is_put_below_the_top(rt: HostRuntime) -> Result<(), Fail> {
-    assert!(rt; is_put_below(rt.alloc())?);
-    Ok(())
 }
 
 // Whether a number is read as a key, and the key as its value.
@@ -73,7 +61,9 @@ fn is_optional(alloc: Global) -> Result<bool, Memory> {
 }
 
 #[test]
-fn a_key_and_its_value_are_read(rt: HostRuntime) -> Result<(), Fail> {
+fn values_are_put_and_read(rt: HostRuntime) -> Result<(), Fail> {
+    assert!(rt; is_put(rt.alloc())?);
+    assert!(rt; is_put_below(rt.alloc())?);
     assert!(rt; is_key_read(rt.alloc(), 7)?);
     assert!(rt; is_optional(rt.alloc())?);
     Ok(())
