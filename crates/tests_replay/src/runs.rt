@@ -206,10 +206,7 @@ const RUNS_OF_CONTRACTS: [(&str, &str); 8] = [
 ];
 
 // Files with contracts.
-static FILES: [&'static [(&'static str, &'static str)]; 2] = [
-    &CONTRACTS,
-    &RUNS_OF_CONTRACTS,
-];
+static FILES: [&'static [(&'static str, &'static str)]; 2] = [&CONTRACTS, &RUNS_OF_CONTRACTS];
 
 #[test]
 fn contracts(rt: HostRuntime) -> Result<(), Fail> {

@@ -92,11 +92,7 @@ fn branches_end_alike_or_fail(rt: HostRuntime) -> Result<(), Fail> {
 }
 
 // The value of a type that a text spells.
-fn literal_of(
-    alloc: Global,
-    of: &str,
-    text: &str,
-) -> Result<Result<Checked, CheckError>, Fail> {
+fn literal_of(alloc: Global, of: &str, text: &str) -> Result<Result<Checked, CheckError>, Fail> {
     let ty = ty(alloc, of)?;
     let node = node(alloc, text)?;
     if !size_within(&node, 10_000) {

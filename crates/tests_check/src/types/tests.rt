@@ -37,7 +37,8 @@ fn is_wanted<T>(answer: &Result<T, TypeError>, wanted: &Wanted) -> bool {
     match wanted {
         Wanted::Good => answer.is_ok(),
         Wanted::TooLarge => matches!(answer, Err(TypeError::TypeTooLarge)),
-        Wanted::BadType(at) => matches!(answer, Err(TypeError::BadType(location)) if location == at),
+        Wanted::BadType(at) =>
+            matches!(answer, Err(TypeError::BadType(location)) if location == at),
         Wanted::Repeated(at) => {
             matches!(answer, Err(TypeError::RepeatedEntrypoint(location)) if location == at)
         }

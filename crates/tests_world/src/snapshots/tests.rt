@@ -149,10 +149,7 @@ fn has_balances(world: &World) -> bool {
 fn is_loaded(alloc: Global, bytes: &[u8]) -> bool {
     match load(alloc, bytes) {
         Ok(state) => {
-            has_balances(&state.world)
-                && state.groups == 1
-                && state.started
-                && !state.costs_stood
+            has_balances(&state.world) && state.groups == 1 && state.started && !state.costs_stood
         }
         Err(_) => false,
     }

@@ -136,12 +136,10 @@ fn is_packed(alloc: Global) -> Result<bool, StepError> {
 
 fn is_too_long(alloc: Global) -> Result<bool, Memory> {
     let mut stack = text(alloc, 1_048_571)?;
-    Ok(
-        matches!(
-            pack(alloc, &mut stack),
-            Err(StepError::Failed(StepFailure::SizeLimit))
-        ),
-    )
+    Ok(matches!(
+        pack(alloc, &mut stack),
+        Err(StepError::Failed(StepFailure::SizeLimit))
+    ))
 }
 
 #[test]

@@ -39,12 +39,10 @@ fn is_put(alloc: Global) -> Result<bool, Memory> {
 fn is_put_below(alloc: Global) -> Result<bool, Memory> {
     let mut stack = numbers(alloc, 1, 2)?;
     insert_below(alloc, &mut stack, Value::Number(7))?;
-    Ok(
-        matches!(
-            stack.as_slice(),
-            [Value::Number(1), Value::Number(7), Value::Number(2)]
-        ),
-    )
+    Ok(matches!(
+        stack.as_slice(),
+        [Value::Number(1), Value::Number(7), Value::Number(2)]
+    ))
 }
 
 // Whether a number is read as a key, and the key as its value.
