@@ -1,4 +1,4 @@
-// Groups of instructions that burn tickets, over the ledger.
+//! Groups of instructions that burn tickets, over the ledger.
 ghost use Rattle.std.specs.Prelude.{◌≡◌, [], false, IfOk, map};
 ghost use Rattle.mich_base.specs.undo.History.{Keeps as KeepsBooks};
 ghost use Rattle.rules_code.specs.steps.Changes.{burns};
@@ -72,8 +72,10 @@ pub(crate) fn order(
     }
 }
 
+/// What an instruction on pairs makes of a stack that it fits; the tickets that it discards are burnt, in order. After Memory the ledger is
+/// given up, and what was written to it can be taken back.
 #[tactic(auto, using(mich_base::proofs::undo_lemmas::ForCallers::keeps_same))]
-pub(crate) fn pairs(
+pub fn pairs(
     alloc: Global,
     row: &PairRow,
     stack: &mut Rows<Value>,

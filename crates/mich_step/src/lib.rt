@@ -1,7 +1,7 @@
 //! What instructions without bodies do to the values of the stack.
 #![tactic(auto)]
 
-mod burning;
+pub mod burning;
 pub mod collections;
 mod dispatching;
 mod environment;
@@ -19,6 +19,6 @@ pub use dispatching::step;
 pub use environment::{Env, environment_step};
 pub use logic::logic_step;
 pub use numbers::number_step;
-pub use order::stack_step;
-pub use pairs::pair_step;
+pub use order::{dig, dug, dup_value, stack_step, swap, unit};
+pub use pairs::{pair, pair_step, unpair};
 pub use unions::union_step;

@@ -42,7 +42,8 @@ fn drop_values<B: Burner>(
     Ok(())
 }
 
-fn dup_value(alloc: Global, place: u32, stack: &mut Rows<Value>) -> Result<(), StepError>
+/// What `DUP n` makes of a stack that it fits, at the place n from 1 on (Michelson reference, DUP).
+pub fn dup_value(alloc: Global, place: u32, stack: &mut Rows<Value>) -> Result<(), StepError>
     requires fits { Fits (stack_step (i.dup place)) stack.old }
     requires suits { SuitsStack (i.dup place) (plain stack.old) }
     ensures { Keeps (stack_step (i.dup place)) stack.old stack.new result }
@@ -55,7 +56,8 @@ fn dup_value(alloc: Global, place: u32, stack: &mut Rows<Value>) -> Result<(), S
     Ok(())
 }
 
-fn swap(stack: &mut Rows<Value>) -> Result<(), StepError>
+/// What `SWAP` makes of a stack that it fits (Michelson reference, SWAP).
+pub fn swap(stack: &mut Rows<Value>) -> Result<(), StepError>
     requires { Fits (stack_step i.swap) stack.old }
     ensures { Keeps (stack_step i.swap) stack.old stack.new result }
 {
@@ -70,7 +72,8 @@ fn swap(stack: &mut Rows<Value>) -> Result<(), StepError>
     Ok(())
 }
 
-fn dig(alloc: Global, depth: u32, stack: &mut Rows<Value>) -> Result<(), StepError>
+/// What `DIG n` makes of a stack that it fits (Michelson reference, DIG).
+pub fn dig(alloc: Global, depth: u32, stack: &mut Rows<Value>) -> Result<(), StepError>
     requires { Fits (stack_step (i.dig depth)) stack.old }
     ensures { Keeps (stack_step (i.dig depth)) stack.old stack.new result }
 {
@@ -79,7 +82,8 @@ fn dig(alloc: Global, depth: u32, stack: &mut Rows<Value>) -> Result<(), StepErr
     Ok(())
 }
 
-fn dug(alloc: Global, depth: u32, stack: &mut Rows<Value>) -> Result<(), StepError>
+/// What `DUG n` makes of a stack that it fits (Michelson reference, DUG).
+pub fn dug(alloc: Global, depth: u32, stack: &mut Rows<Value>) -> Result<(), StepError>
     requires { Fits (stack_step (i.dug depth)) stack.old }
     ensures { Keeps (stack_step (i.dug depth)) stack.old stack.new result }
 {
@@ -90,7 +94,8 @@ fn dug(alloc: Global, depth: u32, stack: &mut Rows<Value>) -> Result<(), StepErr
     Ok(())
 }
 
-fn unit(stack: &mut Rows<Value>) -> Result<(), StepError>
+/// What `UNIT` makes of any stack (Michelson reference, UNIT).
+pub fn unit(stack: &mut Rows<Value>) -> Result<(), StepError>
     ensures { Keeps (stack_step i.unit) stack.old stack.new result }
 {
     push(stack, Value::Unit)?;

@@ -40,7 +40,8 @@ fn take_comb(
     Ok(Value::Pair(first, rest))
 }
 
-fn pair(alloc: Global, count: u32, stack: &mut Rows<Value>) -> Result<(), StepError>
+/// What `PAIR n` makes of a stack that it fits (Michelson reference, PAIR).
+pub fn pair(alloc: Global, count: u32, stack: &mut Rows<Value>) -> Result<(), StepError>
     requires { Fits (pair_step (i.pair count)) stack.old }
     ensures { Keeps (pair_step (i.pair count)) stack.old stack.new result }
 {
@@ -65,7 +66,8 @@ fn put_parts(comb: Value, others: u32, stack: &mut Rows<Value>) -> Result<(), Me
     push(stack, first)
 }
 
-fn unpair(count: u32, stack: &mut Rows<Value>) -> Result<(), StepError>
+/// What `UNPAIR n` makes of a stack that it fits (Michelson reference, UNPAIR).
+pub fn unpair(count: u32, stack: &mut Rows<Value>) -> Result<(), StepError>
     requires { Fits (pair_step (i.unpair count)) stack.old }
     ensures { Keeps (pair_step (i.unpair count)) stack.old stack.new result }
 {

@@ -3,5 +3,7 @@ mod prices;
 mod texts;
 mod weights;
 
-pub use prices::{collection_price, hash_price, price};
-pub use weights::weigh;
+pub use prices::{
+    collection_price, hash_price, logic_price, number_price, pair_price, price, union_price,
+};
+pub use weights::{number_weight, weigh};

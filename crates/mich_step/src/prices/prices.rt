@@ -24,8 +24,9 @@ fn stack_price(row: &StackRow) -> Kind
     }
 }
 
+/// The kind of one on pairs.
 #[inline(always)]
-fn pair_price(row: &PairRow) -> Kind
+pub fn pair_price(row: &PairRow) -> Kind
     ensures { result ≡ pair_kind (pair_row row.now) }
 {
     match row {
@@ -38,8 +39,9 @@ fn pair_price(row: &PairRow) -> Kind
     }
 }
 
+/// The kind of one on options and unions.
 #[inline(always)]
-fn union_price(row: &UnionRow) -> Kind
+pub fn union_price(row: &UnionRow) -> Kind
     ensures { result ≡ union_kind (union_row row.now) }
 {
     match row {
@@ -69,8 +71,9 @@ pub fn collection_price(row: &CollectionRow) -> Kind
     }
 }
 
+/// The kind of one on numbers.
 #[inline(always)]
-fn number_price(row: &NumberRow) -> Kind
+pub fn number_price(row: &NumberRow) -> Kind
     ensures { result ≡ number_kind (number_row row.now) }
 {
     match row {
@@ -90,8 +93,9 @@ fn number_price(row: &NumberRow) -> Kind
     }
 }
 
+/// The kind of one on truth values and comparisons.
 #[inline(always)]
-fn logic_price(row: &LogicRow) -> Kind
+pub fn logic_price(row: &LogicRow) -> Kind
     ensures { result ≡ logic_kind (logic_row row.now) }
 {
     match row {

@@ -83,9 +83,9 @@ fn collection_weight(alloc: Global, row: &CollectionRow, stack: &Rows<Value>) ->
     }
 }
 
-// The bytes on top that are read as a number.
+/// What one on numbers weighs: the bytes on top that are read as a number, nothing else.
 #[inline(always)]
-fn number_weight(row: &NumberRow, stack: &Rows<Value>) -> u64
+pub fn number_weight(row: &NumberRow, stack: &Rows<Value>) -> u64
     ensures { (big : Sight) → result ≡ capped (number_weight (number_row row.now) (values big stack.now)) }
 {
     match row {
