@@ -34,7 +34,6 @@ use mich_control::{
 use mich_data::Pending;
 use mich_instr::{Block, Instr};
 use mich_outline::Attribute;
-use mich_typed::before_next;
 use mich_types::{behind, behind_all};
 use std::alloc::Global;
 
@@ -57,7 +56,9 @@ pub(crate) fn check_block(
     let mut last = at;
     let mut next = at;
     for node in nodes.as_slice() {
-        let before = before_next(after, last)?;
+        let Some(before) = after else {
+            return Err(CheckError::IllTyped(last));
+        };
         last = next;
         let made = check_node(alloc, node, last, place, before, &mut next)?;
         code.push(made.instr)?;

@@ -128,10 +128,7 @@ fn failwith_on(alloc: Global, types: &[Ty]) -> Result<Option<Made>, Memory>
     if !pushable(top) {
         return Ok(None);
     }
-    Ok(Some(Made {
-        instr: Instr::Failwith(copy_type(alloc, top)?),
-        after: None,
-    }))
+    Ok(Some(Made::failwith(alloc, top)?))
 }
 
 fn never_on(types: &[Ty]) -> Option<Made>

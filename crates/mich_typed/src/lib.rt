@@ -5,4 +5,4 @@ mod error;
 mod made;
 
 pub use error::CheckError;
-pub use made::{Body, Made, before_next};
+pub use made::{Body, Made};

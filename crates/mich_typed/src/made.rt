@@ -1,10 +1,12 @@
 // What the check makes.
-ghost use Rattle.std.specs.Prelude.{◌≡◌, MatchOption, Ok, Err};
-ghost use Rattle.mich_typed.specs.declared.error.CheckError.{CheckError};
+ghost use Rattle.std.specs.Prelude.{◌≡◌, None, IfOk};
+ghost use Rattle.mich_instr.specs.Code.{failwith};
+ghost use Rattle.mich_base.specs.TypeView.{kind};
+ghost use Rattle.mich_instr.specs.View.{code};
 
-use crate::error::CheckError;
-use mich_base::{Rows, Ty};
+use mich_base::{Memory, Rows, Ty, copy_type};
 use mich_instr::{Block, Instr};
+use std::alloc::Global;
 
 /// A typed instruction, and the stack after it; none where it fails.
 #[derive(Drop)]
@@ -20,10 +22,16 @@ pub struct Body {
     pub after: Option<Rows<Ty>>,
 }
 
-/// The stack that the next instruction of a block finds, after what was typed of it. IllTyped, at the location of the last instruction, where
-/// that fails: nothing may stand behind it (Michelson reference, FAILWITH).
-pub fn before_next(after: Option<Rows<Ty>>, last: u32) -> Result<Rows<Ty>, CheckError>
-    ensures { MatchOption after (λ types. result ≡ Ok types) (result ≡ Err (CheckError.IllTyped last)) }
-{
-    after.ok_or(CheckError::IllTyped(last))
+impl Made {
+    /// FAILWITH with the type of what it shows: no stack comes after it, so that nothing may stand behind it (Michelson reference,
+    /// FAILWITH). Memory where there is no room for the type.
+    pub fn failwith(alloc: Global, shown: &Ty) -> Result<Made, Memory>
+        ensures instr { IfOk result (λ m. code m.instr ≡ failwith (kind shown.now)) }
+        ensures after { IfOk result (λ m. m.after ≡ None) }
+    {
+        Ok(Made {
+            instr: Instr::Failwith(copy_type(alloc, shown)?),
+            after: None,
+        })
+    }
 }
