@@ -1,5 +1,6 @@
 pub mod Same
 pub mod Loops
+pub mod Pieces
 pub mod Written
 pub mod Walks
 pub mod Rest

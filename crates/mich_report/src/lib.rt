@@ -5,6 +5,7 @@ mod amounts;
 mod changes;
 mod effects;
 mod failures;
+mod fields;
 mod gathering;
 mod line;
 mod parts;
