@@ -29,7 +29,8 @@ fn look_up(
                 return Err(Fail::from("too large"));
             }
             match bodies.checked(alloc, arg, ret, recursive, body) {
-                Ok(_) => {
+                Ok(code) => {
+                    drop(code);
                     let plain = Body::plain(alloc, body.share()?)?;
                     bodies.code(alloc, arg, ret, recursive, &plain)?;
                     Ok(None)
@@ -42,23 +43,33 @@ fn look_up(
     }
 }
 
+fn shared(alloc: Global, text: &str) -> Result<Shared<Node>, Fail> {
+    Ok(Shared::new(alloc, node(alloc, text)?)?)
+}
+
 // The location of the fault, if there is one.
 fn fault(alloc: Global, bodies: &mut Bodies, row: Row) -> Result<Option<u32>, Fail> {
     let (arg, ret, recursive, body) = row;
     let arg = ty(alloc, arg)?;
     let ret = ty(alloc, ret)?;
-    let body = Shared::new(alloc, node(alloc, body)?)?;
+    let body = shared(alloc, body)?;
     look_up(alloc, bodies, &arg, &ret, recursive, &body)
+}
+
+// Fails with the first body that isn't typed.
+fn look_all_up(alloc: Global, bodies: &mut Bodies, rows: &[Row]) -> Result<(), Fail> {
+    for row in rows {
+        if fault(alloc, bodies, *row)?.is_some() {
+            return Err(Fail::new(row.3));
+        }
+    }
+    Ok(())
 }
 
 // What was used once these were looked up, where each of them is typed.
 fn uses_after(alloc: Global, rows: &[Row]) -> Result<Uses, Fail> {
     let mut bodies = Bodies::new(alloc)?;
-    for row in rows {
-        if fault(alloc, &mut bodies, *row)?.is_some() {
-            return Err(Fail::new(row.3));
-        }
-    }
+    look_all_up(alloc, &mut bodies, rows)?;
     Ok(bodies.uses())
 }
 
@@ -76,7 +87,7 @@ fn a_body_is_found_again(rt: HostRuntime) -> Result<(), Fail> {
 }
 
 // Each of these differs from that before it in one part.
-const DIFFERENT: [Row; 5] = [
+static DIFFERENT: [Row; 5] = [
     ("nat", "int", false, "{ FAILWITH }"),
     ("int", "int", false, "{ FAILWITH }"),
     ("int", "nat", false, "{ FAILWITH }"),
@@ -93,35 +104,56 @@ fn another_body_is_typed(rt: HostRuntime) -> Result<(), Fail> {
 
 const UNTYPED: Row = ("int", "int", false, "{ CAR }");
 
+// What was used once this was looked up twice, where it has its fault at 1.
+fn uses_after_fault(alloc: Global, row: Row) -> Result<Uses, Fail> {
+    let mut bodies = Bodies::new(alloc)?;
+    fail_twice(alloc, &mut bodies, row)?;
+    Ok(bodies.uses())
+}
+
+fn fail_twice(alloc: Global, bodies: &mut Bodies, row: Row) -> Result<(), Fail> {
+    for _ in 0..2 {
+        if fault(alloc, bodies, row)? != Some(1) {
+            return Err(Fail::new(row.3));
+        }
+    }
+    Ok(())
+}
+
 #[test]
 fn a_body_with_a_fault_is_not_kept(rt: HostRuntime) -> Result<(), Fail> {
-    let mut bodies = Bodies::new(rt.alloc())?;
-    assert!(rt; fault(rt.alloc(), &mut bodies, UNTYPED)? == Some(1));
-    assert!(rt; fault(rt.alloc(), &mut bodies, UNTYPED)? == Some(1));
-    assert!(rt; bodies.uses() == Uses { hits: 0, misses: 2 });
+    let uses = uses_after_fault(rt.alloc(), UNTYPED)?;
+    assert!(rt; uses == Uses { hits: 0, misses: 2 });
     Ok(())
+}
+
+fn number_body(alloc: Global, number: u32) -> Result<Shared<Node>, Fail> {
+    let text = format!(in alloc; "{{ PUSH int {number} ; ADD }}")?;
+    shared(alloc, text.as_str())
 }
 
 // Looks 257 bodies up, each with another number in it.
 fn fill(alloc: Global, bodies: &mut Bodies) -> Result<(), Fail> {
-    let int = ty(alloc, "int")?;
-    for n in 0..257 {
-        let text = format!(in alloc; "{{ PUSH int {n} ; ADD }}")?;
-        let body = Shared::new(alloc, node(alloc, &text)?)?;
-        look_up(alloc, bodies, &int, &int, false, &body)?;
+    for number in 0..257 {
+        let body = number_body(alloc, number)?;
+        look_up(alloc, bodies, &Ty::Int, &Ty::Int, false, &body)?;
     }
     Ok(())
 }
 
 // How often a body was typed once these were, and then the second and the first of them again.
+fn fill_and_look(alloc: Global, bodies: &mut Bodies) -> Result<(u64, u64, u64), Fail> {
+    fill(alloc, bodies)?;
+    let filled = bodies.uses().misses;
+    fault(alloc, bodies, ONE_MORE)?;
+    let second = bodies.uses().misses;
+    fault(alloc, bodies, NONE_MORE)?;
+    Ok((filled, second, bodies.uses().misses))
+}
+
 fn misses(alloc: Global) -> Result<(u64, u64, u64), Fail> {
     let mut bodies = Bodies::new(alloc)?;
-    fill(alloc, &mut bodies)?;
-    let filled = bodies.uses().misses;
-    fault(alloc, &mut bodies, ONE_MORE)?;
-    let second = bodies.uses().misses;
-    fault(alloc, &mut bodies, NONE_MORE)?;
-    Ok((filled, second, bodies.uses().misses))
+    fill_and_look(alloc, &mut bodies)
 }
 
 // The first of them makes room for the last.

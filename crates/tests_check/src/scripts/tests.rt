@@ -1,7 +1,7 @@
 // What the calls give with ample memory, by texts. Locations are counted in pre-order from the body, which is 0.
 use crate::support::{node, ty};
 use mich_base::{Node, Ty, size_within};
-use mich_check::{CheckError, check_body, check_literal};
+use mich_check::{CheckError, Checked, check_body, check_literal};
 use mich_data::Pending;
 use mich_instr::{Block, erase};
 use std::alloc::Global;
@@ -16,17 +16,31 @@ fn fault<T: Drop>(answer: Result<T, CheckError>) -> Result<Option<u32>, Fail> {
     }
 }
 
-// The same of a node that is a sequence.
-fn body_fault(alloc: Global, arg: &Ty, ret: &Ty, node: &Node) -> Result<Option<u32>, Fail> {
+// The typed code of a node. One that may not be asked for, as it is no sequence or too large, counts as a lack of memory, which fails a test.
+fn checked(alloc: Global, arg: &Ty, ret: &Ty, node: &Node) -> Result<Block, CheckError> {
     match node {
         Node::Seq(_) => {
-            if !size_within(node, 10_000) {
-                return Err(Fail::from("too large"));
+            if size_within(node, 10_000) {
+                check_body(alloc, arg, ret, false, node)
+            } else {
+                Err(CheckError::Memory)
             }
-            fault(check_body(alloc, arg, ret, false, node))
         }
-        _ => Err(Fail::from("no sequence")),
+        _ => Err(CheckError::Memory),
     }
+}
+
+// The typed code of a body from one type to another.
+fn code_of(
+    alloc: Global,
+    arg: &str,
+    ret: &str,
+    body: &str,
+) -> Result<Result<Block, CheckError>, Fail> {
+    let arg = ty(alloc, arg)?;
+    let ret = ty(alloc, ret)?;
+    let body = node(alloc, body)?;
+    Ok(checked(alloc, &arg, &ret, &body))
 }
 
 // The argument and the result of a body, the body, and the location of its fault, if there is one.
@@ -39,11 +53,8 @@ fn is_typed(
     body: &str,
     at: Option<u32>,
 ) -> Result<bool, Fail> {
-    let arg = ty(alloc, arg)?;
-    let ret = ty(alloc, ret)?;
-    let body = node(alloc, body)?;
-    let found = body_fault(alloc, &arg, &ret, &body)?;
-    Ok(found == at)
+    let answer = code_of(alloc, arg, ret, body)?;
+    Ok(fault(answer)? == at)
 }
 
 // Fails with the first body whose fault isn't where its row says.
@@ -56,7 +67,7 @@ fn all_are_typed(alloc: Global, rows: &[Row]) -> Result<(), Fail> {
     Ok(())
 }
 
-const RESULTS: [Row; 4] = [
+static RESULTS: [Row; 4] = [
     ("unit", "unit", "{ }", None),
     ("unit", "int", "{ }", Some(0)),
     ("unit", "int", "{ FAILWITH }", None),
@@ -68,7 +79,7 @@ fn a_body_ends_with_its_result(rt: HostRuntime) -> Result<(), Fail> {
     all_are_typed(rt.alloc(), &RESULTS)
 }
 
-const BRANCHES: [Row; 4] = [
+static BRANCHES: [Row; 4] = [
     ("bool", "unit", "{ IF { } { NEVER } }", Some(4)),
     ("bool", "unit", "{ IF_NONE { } { } }", Some(1)),
     ("option unit", "unit", "{ IF_NONE { UNIT } { } }", None),
@@ -80,14 +91,20 @@ fn branches_end_alike_or_fail(rt: HostRuntime) -> Result<(), Fail> {
     all_are_typed(rt.alloc(), &BRANCHES)
 }
 
-// The location of the fault of a literal of a type, if there is one.
-fn literal_fault(alloc: Global, of: &str, text: &str) -> Result<Option<u32>, Fail> {
+// The value of a type that a text spells. Too large a node counts as a lack of memory.
+fn literal_of(alloc: Global, of: &str, text: &str) -> Result<Result<Checked, CheckError>, Fail> {
     let ty = ty(alloc, of)?;
     let node = node(alloc, text)?;
     if !size_within(&node, 10_000) {
-        return Err(Fail::from("too large"));
+        return Ok(Err(CheckError::Memory));
     }
-    fault(check_literal(alloc, &ty, &node))
+    Ok(check_literal(alloc, &ty, &node))
+}
+
+// The location of the fault of a literal of a type, if there is one.
+fn literal_fault(alloc: Global, of: &str, text: &str) -> Result<Option<u32>, Fail> {
+    let answer = literal_of(alloc, of, text)?;
+    fault(answer)
 }
 
 // Whether it is a contract of unit that stands at the whole.
@@ -104,12 +121,7 @@ fn is_whole_unit(claim: &Pending) -> bool {
 
 // Whether the contracts that a literal names are so many, each one of unit at the whole.
 fn is_claiming(alloc: Global, of: &str, text: &str, count: usize) -> Result<bool, Fail> {
-    let ty = ty(alloc, of)?;
-    let node = node(alloc, text)?;
-    if !size_within(&node, 10_000) {
-        return Err(Fail::from("too large"));
-    }
-    let checked = check_literal(alloc, &ty, &node)?;
+    let checked = literal_of(alloc, of, text)??;
     Ok(checked.claims.len() == count && checked.claims.iter().all(is_whole_unit))
 }
 
@@ -129,34 +141,21 @@ fn literals_claim_their_contracts(rt: HostRuntime) -> Result<(), Fail> {
     Ok(())
 }
 
-// The typed code of a body from one type to another.
-fn typed_body(alloc: Global, arg: &str, ret: &str, body: &Node) -> Result<Block, Fail> {
-    let arg = ty(alloc, arg)?;
-    let ret = ty(alloc, ret)?;
-    match body {
-        Node::Seq(_) => {
-            if size_within(body, 10_000) {
-                Ok(check_body(alloc, &arg, &ret, false, body)?)
-            } else {
-                Err(Fail::from("too large"))
-            }
-        }
-        _ => Err(Fail::from("no sequence")),
-    }
+fn erased(alloc: Global, arg: &str, ret: &str, body: &str) -> Result<Node, Fail> {
+    let code = code_of(alloc, arg, ret, body)??;
+    Ok(erase(alloc, code.get())?)
 }
 
 // Whether the typed code of a body is erased to this text.
 fn is_erased(alloc: Global, arg: &str, ret: &str, body: &str, plain: &str) -> Result<bool, Fail> {
-    let body = node(alloc, body)?;
-    let code = typed_body(alloc, arg, ret, &body)?;
-    let erased = erase(alloc, code.get())?;
+    let erased = erased(alloc, arg, ret, body)?;
     Ok(erased == node(alloc, plain)?)
 }
 
 // The argument and the result of a body, the body, and what it is erased to.
 type PlainRow = (&'static str, &'static str, &'static str, &'static str);
 
-const PLAIN: [PlainRow; 13] = [
+static PLAIN: [PlainRow; 13] = [
     (
         "unit",
         "unit",

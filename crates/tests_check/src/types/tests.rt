@@ -25,26 +25,47 @@ fn parameter(alloc: Global, node: &Node) -> Result<Parameter, TypeError> {
     }
 }
 
-// Whether the fault of a type is there.
-fn is_bad(alloc: Global, text: &str, location: u32) -> Result<bool, Fail> {
-    let node = node(alloc, text)?;
-    Ok(matches!(read(alloc, &node), Err(TypeError::BadType(l)) if l == location))
+// What is to be made of a node: a type or a parameter, or its fault.
+enum Wanted {
+    Good,
+    TooLarge,
+    BadType(u32),
+    Repeated(u32),
 }
 
+fn is_wanted<T>(answer: &Result<T, TypeError>, wanted: &Wanted) -> bool {
+    match wanted {
+        Wanted::Good => answer.is_ok(),
+        Wanted::TooLarge => matches!(answer, Err(TypeError::TypeTooLarge)),
+        Wanted::BadType(at) =>
+            matches!(answer, Err(TypeError::BadType(location)) if location == at),
+        Wanted::Repeated(at) => {
+            matches!(answer, Err(TypeError::RepeatedEntrypoint(location)) if location == at)
+        }
+    }
+}
+
+fn is_read(alloc: Global, text: &str, wanted: &Wanted) -> Result<bool, Fail> {
+    let node = node(alloc, text)?;
+    Ok(is_wanted(&read(alloc, &node), wanted))
+}
+
+type Row = (&'static str, Wanted);
+
 // No types, and where each is none: an attribute is tried before what stands behind.
-static NO_TYPES: [(&'static str, u32); 6] = [
-    ("map (list int) foo", 1),
-    ("big_map int operation", 2),
-    ("or int (set (list int))", 3),
-    ("pair int", 0),
-    ("PAIR int int", 0),
-    ("map int foo", 2),
+static NO_TYPES: [Row; 6] = [
+    ("map (list int) foo", Wanted::BadType(1)),
+    ("big_map int operation", Wanted::BadType(2)),
+    ("or int (set (list int))", Wanted::BadType(3)),
+    ("pair int", Wanted::BadType(0)),
+    ("PAIR int int", Wanted::BadType(0)),
+    ("map int foo", Wanted::BadType(2)),
 ];
 
-// Fails with the first text whose fault isn't there.
-fn are_bad(alloc: Global, rows: &[(&'static str, u32)]) -> Result<(), Fail> {
-    for (text, location) in rows {
-        if !is_bad(alloc, text, *location)? {
+// Fails with the first text of which something else is made.
+fn are_read(alloc: Global, rows: &[Row]) -> Result<(), Fail> {
+    for (text, wanted) in rows {
+        if !is_read(alloc, text, wanted)? {
             return Err(Fail::new(*text));
         }
     }
@@ -53,74 +74,68 @@ fn are_bad(alloc: Global, rows: &[(&'static str, u32)]) -> Result<(), Fail> {
 
 #[test]
 fn other_nodes_are_no_types(rt: HostRuntime) -> Result<(), Fail> {
-    are_bad(rt.alloc(), &NO_TYPES)
+    are_read(rt.alloc(), &NO_TYPES)
 }
 
-// The node of a text with so many numbers between a beginning and an end.
-fn wide(alloc: Global, begin: &str, count: u32, end: &str) -> Result<Node, Fail> {
+// A text with a piece so many times between a beginning and an end.
+fn repeated(
+    alloc: Global,
+    begin: &str,
+    piece: &str,
+    count: u32,
+    end: &str,
+) -> Result<String, Memory> {
     let mut text = String::new(alloc);
     text.push_str(begin)?;
     for _ in 0..count {
-        text.push_str(" int")?;
-    }
-    text.push_str(end)?;
-    node(alloc, text.as_str())
-}
-
-// A pair of 1,000 numbers counts as 1,999 nodes, and a type has 2,000 at most.
-#[test]
-fn a_type_of_2000_nodes(rt: HostRuntime) -> Result<(), Fail> {
-    let node = wide(rt.alloc(), "option (pair", 1000, ")")?;
-    assert!(rt; read(rt.alloc(), &node).is_ok());
-    Ok(())
-}
-
-fn is_large(alloc: Global, node: &Node) -> bool {
-    matches!(read(alloc, node), Err(TypeError::TypeTooLarge))
-}
-
-#[test]
-fn a_type_of_2001_nodes(rt: HostRuntime) -> Result<(), Fail> {
-    let node = wide(rt.alloc(), "option (option (pair", 1000, "))")?;
-    assert!(rt; is_large(rt.alloc(), &node));
-    Ok(())
-}
-
-#[test]
-fn a_pair_that_is_too_long(rt: HostRuntime) -> Result<(), Fail> {
-    let node = wide(rt.alloc(), "pair", 1001, "")?;
-    assert!(rt; is_large(rt.alloc(), &node));
-    Ok(())
-}
-
-// What is no type comes before the limit.
-#[test]
-fn a_long_pair_of_no_types(rt: HostRuntime) -> Result<(), Fail> {
-    let node = wide(rt.alloc(), "pair", 9_999, " foo")?;
-    assert!(rt; matches!(read(rt.alloc(), &node), Err(TypeError::BadType(10_000))));
-    Ok(())
-}
-
-fn levels(text: &mut String, piece: &str) -> Result<(), Memory> {
-    for _ in 0..999 {
         text.push_str(piece)?;
     }
+    text.push_str(end)?;
+    Ok(text)
+}
+
+// A text with so many numbers between a beginning and an end.
+type Wide = (&'static str, u32, &'static str, Wanted);
+
+// A pair of 1,000 numbers counts as 1,999 nodes, and a type has 2,000 at most. What is no type comes before the limit.
+static WIDE: [Wide; 4] = [
+    ("option (pair", 1000, ")", Wanted::Good),
+    ("option (option (pair", 1000, "))", Wanted::TooLarge),
+    ("pair", 1001, "", Wanted::TooLarge),
+    ("pair", 9_999, " foo", Wanted::BadType(10_000)),
+];
+
+fn is_wide_read(alloc: Global, row: &Wide) -> Result<bool, Fail> {
+    let (begin, count, end, wanted) = row;
+    let text = repeated(alloc, begin, " int", *count, end)?;
+    is_read(alloc, text.as_str(), wanted)
+}
+
+// Fails with the first count of which something else is made.
+fn are_wide_read(alloc: Global, rows: &[Wide]) -> Result<(), Fail> {
+    for row in rows {
+        if !is_wide_read(alloc, row)? {
+            return Err(Fail::new(row.1));
+        }
+    }
     Ok(())
 }
 
-// A type of 1,000 levels.
-fn deep(alloc: Global) -> Result<Node, Fail> {
-    let mut text = String::new(alloc);
-    levels(&mut text, "(option ")?;
-    text.push_str("unit")?;
-    levels(&mut text, ")")?;
-    node(alloc, text.as_str())
+#[test]
+fn types_of_2000_nodes_at_most(rt: HostRuntime) -> Result<(), Fail> {
+    are_wide_read(rt.alloc(), &WIDE)
+}
+
+// Whether a type of 1,000 levels is read.
+fn is_deep_read(alloc: Global) -> Result<bool, Fail> {
+    let front = repeated(alloc, "", "(option ", 999, "unit")?;
+    let text = repeated(alloc, front.as_str(), ")", 999, "")?;
+    is_read(alloc, text.as_str(), &Wanted::Good)
 }
 
 #[test]
 fn a_deep_type(rt: HostRuntime) -> Result<(), Fail> {
-    let node = deep(rt.alloc())?;
-    assert!(rt; read(rt.alloc(), &node).is_ok());
+    assert!(rt; is_deep_read(rt.alloc())?);
     Ok(())
 }
 
@@ -130,11 +145,14 @@ fn printed(alloc: Global, node: &Node) -> Result<Node, TypeError> {
     Ok(type_node(alloc, &ty)?)
 }
 
+fn printed_text(alloc: Global, text: &str) -> Result<Node, Fail> {
+    let node = node(alloc, text)?;
+    Ok(printed(alloc, &node)?)
+}
+
 fn is_printed(alloc: Global, long: &str, short: &str) -> Result<bool, Fail> {
-    let long = node(alloc, long)?;
-    let short = node(alloc, short)?;
-    let found = printed(alloc, &long)?;
-    Ok(found == short)
+    let found = printed_text(alloc, long)?;
+    Ok(found == node(alloc, short)?)
 }
 
 #[test]
@@ -170,47 +188,54 @@ fn token(alloc: Global) -> Result<Parameter, Fail> {
     Ok(parameter(alloc, &node)?)
 }
 
+fn has_all(p: &Parameter) -> bool {
+    p.entries.len() == 3
+        && has(p, "transfer", &[false])
+        && has(p, "mint", &[true])
+        && has(p, "default", &[])
+        && !has(p, "burn", &[])
+}
+
+fn is_token_read(alloc: Global) -> Result<bool, Fail> {
+    let p = token(alloc)?;
+    Ok(has_all(&p))
+}
+
 #[test]
 fn a_token_has_its_entrypoints(rt: HostRuntime) -> Result<(), Fail> {
-    let p = token(rt.alloc())?;
-    assert!(rt;
-        p.entries.len() == 3
-            && has(&p, "transfer", &[false])
-            && has(&p, "mint", &[true])
-            && has(&p, "default", &[])
-            && !has(&p, "burn", &[])
-    );
+    assert!(rt; is_token_read(rt.alloc())?);
     Ok(())
 }
 
-// Whether the fault of a parameter is there.
-fn is_bad_parameter(alloc: Global, text: &str, location: u32) -> Result<bool, Fail> {
+fn is_parameter_read(alloc: Global, text: &str, wanted: &Wanted) -> Result<bool, Fail> {
     let node = node(alloc, text)?;
-    Ok(matches!(parameter(alloc, &node), Err(TypeError::BadType(l)) if l == location))
+    Ok(is_wanted(&parameter(alloc, &node), wanted))
 }
 
-#[test]
-fn names_of_branches_are_limited(rt: HostRuntime) -> Result<(), Fail> {
-    let text = "parameter (or int (nat %a2345678901234567890123456789012))";
-    assert!(rt; is_bad_parameter(rt.alloc(), text, 3)?);
+// Names are limited, those of branches and that of the whole, and distinct.
+static NO_PARAMETERS: [Row; 3] = [
+    (
+        "parameter (or int (nat %a2345678901234567890123456789012))",
+        Wanted::BadType(3),
+    ),
+    (
+        "parameter (int %a2345678901234567890123456789012)",
+        Wanted::BadType(1),
+    ),
+    ("parameter %a (or (int %a) nat)", Wanted::Repeated(2)),
+];
+
+// Fails with the first text of which something else is made.
+fn are_parameters_read(alloc: Global, rows: &[Row]) -> Result<(), Fail> {
+    for (text, wanted) in rows {
+        if !is_parameter_read(alloc, text, wanted)? {
+            return Err(Fail::new(*text));
+        }
+    }
     Ok(())
 }
 
 #[test]
-fn the_name_of_the_whole_is_limited(rt: HostRuntime) -> Result<(), Fail> {
-    let text = "parameter (int %a2345678901234567890123456789012)";
-    assert!(rt; is_bad_parameter(rt.alloc(), text, 1)?);
-    Ok(())
-}
-
-#[test]
-fn names_are_distinct(rt: HostRuntime) -> Result<(), Fail> {
-    assert!(rt; is_repeated(rt.alloc(), "parameter %a (or (int %a) nat)", 2)?);
-    Ok(())
-}
-
-// Whether a name is repeated there.
-fn is_repeated(alloc: Global, text: &str, location: u32) -> Result<bool, Fail> {
-    let node = node(alloc, text)?;
-    Ok(matches!(parameter(alloc, &node), Err(TypeError::RepeatedEntrypoint(l)) if l == location))
+fn names_are_limited_and_distinct(rt: HostRuntime) -> Result<(), Fail> {
+    are_parameters_read(rt.alloc(), &NO_PARAMETERS)
 }
