@@ -30,62 +30,70 @@ fn is_only_line(answer: &Answer, line: &str) -> bool {
     }
 }
 
-#[test]
-fn a_node_is_encoded(rt: HostRuntime) -> Result<(), Fail> {
-    assert!(rt; is_answered(rt.alloc(), NodeCommand::Encode, "Unit", 0, "0x030b\n")?);
+// A command, a file, and the line of its answer.
+type Row = (NodeCommand, &'static str, &'static str);
+
+static NODES: [Row; 3] = [
+    (NodeCommand::Encode, "Unit", "0x030b\n"),
+    (NodeCommand::Decode, "0x030b", "Unit\n"),
+    (NodeCommand::Pack, "Pack unit Unit", "0x05030b\n"),
+];
+
+// Fails with the first file that is answered otherwise.
+fn are_answered(alloc: Global, rows: &[Row]) -> Result<(), Fail> {
+    for (command, file, line) in rows {
+        if !is_answered(alloc, *command, file, 0, line)? {
+            return Err(Fail::new(*file));
+        }
+    }
     Ok(())
 }
 
 #[test]
-fn a_node_is_decoded(rt: HostRuntime) -> Result<(), Fail> {
-    assert!(rt; is_answered(rt.alloc(), NodeCommand::Decode, "0x030b", 0, "Unit\n")?);
-    Ok(())
+fn nodes_are_answered(rt: HostRuntime) -> Result<(), Fail> {
+    are_answered(rt.alloc(), &NODES)
 }
 
-#[test]
-fn a_literal_is_packed(rt: HostRuntime) -> Result<(), Fail> {
-    assert!(rt;
-        is_answered(
-            rt.alloc(),
-            NodeCommand::Pack,
-            "Pack unit Unit",
-            0,
-            "0x05030b\n"
-        )?
-    );
-    Ok(())
+const SCRIPT: &str = "parameter unit; storage unit; code { CDR ; NIL operation ; PAIR }";
+
+fn is_script_answered(alloc: Global) -> Result<bool, Memory> {
+    let answer = answer_script(alloc, ScriptCommand::Check, SCRIPT.as_bytes())?;
+    Ok(answer.status == 0 && is_only_line(&answer, "WellTyped\n"))
 }
 
 #[test]
 fn scripts_are_answered(rt: HostRuntime) -> Result<(), Fail> {
-    let script = "parameter unit; storage unit; code { CDR ; NIL operation ; PAIR }";
-    let answer = answer_script(rt.alloc(), ScriptCommand::Check, script.as_bytes())?;
-    assert!(rt; answer.status == 0 && is_only_line(&answer, "WellTyped\n"));
+    assert!(rt; is_script_answered(rt.alloc())?);
     Ok(())
 }
 
-#[test]
-fn a_statement_is_read(rt: HostRuntime) -> Result<(), Fail> {
-    assert!(rt; matches!(read_next(rt.alloc(), b"Foo;", 0)?, Next::Statement(_)));
-    Ok(())
+fn is_statement_read(alloc: Global) -> Result<bool, Memory> {
+    Ok(matches!(read_next(alloc, b"Foo;", 0)?, Next::Statement(_)))
+}
+
+fn is_end_read(alloc: Global) -> Result<bool, Memory> {
+    Ok(matches!(read_next(alloc, b"Foo;", 4)?, Next::End))
 }
 
 #[test]
-fn the_end_is_read(rt: HostRuntime) -> Result<(), Fail> {
-    assert!(rt; matches!(read_next(rt.alloc(), b"Foo;", 4)?, Next::End));
+fn a_statement_and_the_end_are_read(rt: HostRuntime) -> Result<(), Fail> {
+    assert!(rt; is_statement_read(rt.alloc())?);
+    assert!(rt; is_end_read(rt.alloc())?);
     Ok(())
 }
 
-#[test]
-fn a_refusal_has_its_line(rt: HostRuntime) -> Result<(), Fail> {
-    let line = as_text(refusal_line(rt.alloc(), "BadStatement", 7)?)?;
-    assert!(rt; line.as_slice() == b"Refused BadStatement 7\n".as_slice());
-    Ok(())
+fn is_line_of_refusal(alloc: Global) -> Result<bool, Memory> {
+    let line = as_text(refusal_line(alloc, "BadStatement", 7)?)?;
+    Ok(line.as_slice() == b"Refused BadStatement 7\n".as_slice())
+}
+
+fn status_of_misplaced(alloc: Global) -> Result<u8, Memory> {
+    Ok(misplaced(alloc, 7)?.status)
 }
 
 #[test]
-fn a_statement_is_misplaced(rt: HostRuntime) -> Result<(), Fail> {
-    let answer = misplaced(rt.alloc(), 7)?;
-    assert!(rt; answer.status == 2);
+fn a_refusal_has_its_line_and_status(rt: HostRuntime) -> Result<(), Fail> {
+    assert!(rt; is_line_of_refusal(rt.alloc())?);
+    assert!(rt; status_of_misplaced(rt.alloc())? == 2);
     Ok(())
 }

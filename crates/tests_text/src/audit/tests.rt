@@ -18,97 +18,82 @@ const SEATS: &str = "Group 1 { Applied 20 { Transfer 0x00 0x01 0 Unit \
     Account 0x00 0 { Held 0x01000000000000000100000000000000000000000000 string \"seat\" 6 }\n\
     Contract 0x01 0 (Some (Ticket 0x01000000000000000100000000000000000000000000 string \"seat\" 3))\n";
 
-// The verdict on a text, behind which this stands.
-fn verdict_on(alloc: Global, text: &str, end: &str) -> Result<Verdict, Memory> {
-    let text = format!(in alloc; "{text}{end}")?;
-    audit(alloc, text.as_str().as_bytes())
+// The verdict on a text in three parts.
+fn verdict_on(alloc: Global, front: &str, line: &str, end: &str) -> Result<Verdict, Memory> {
+    let text = format!(in alloc; "{front}{line}{end}")?;
+    audit(alloc, text.as_bytes())
 }
+
+// The last two parts of a text, and the verdict on it.
+type Row = (&'static str, &'static str, Verdict);
+
+// Fails with the number of the first row with another verdict.
+fn are_judged(alloc: Global, front: &str, rows: &[Row]) -> Result<(), Fail> {
+    for (i, (line, end, verdict)) in rows.iter().enumerate() {
+        if verdict_on(alloc, front, line, end)? != *verdict {
+            return Err(Fail::new(i));
+        }
+    }
+    Ok(())
+}
+
+static MUTEZ: [Row; 3] = [
+    ("Fees 10\n", "Supply 1000\n", Verdict::Agrees),
+    ("Fees 10\n", "Supply 1001\n", Verdict::Supply),
+    ("Fees 11\n", "Supply 1000\n", Verdict::Supply),
+];
 
 #[test]
 fn mutez_is_summed(rt: HostRuntime) -> Result<(), Fail> {
-    let alloc = rt.alloc();
-    for (end, verdict) in [
-        ("Fees 10\nSupply 1000\n", Verdict::Agrees),
-        ("Fees 10\nSupply 1001\n", Verdict::Supply),
-        ("Fees 11\nSupply 1000\n", Verdict::Supply),
-    ] {
-        assert_eq!(rt; verdict_on(alloc, TRANSFER, end)?, verdict, "at {end}");
-    }
-    Ok(())
+    are_judged(rt.alloc(), TRANSFER, &MUTEZ)
 }
+
+static TICKETS: [Row; 3] = [
+    (
+        "Tickets 0x01000000000000000100000000000000000000000000 string \"seat\" 10 1 9\n",
+        "Fees 0\nSupply 0\n",
+        Verdict::Agrees,
+    ),
+    (
+        "Tickets 0x01000000000000000100000000000000000000000000 string \"seat\" 10 0 9\n",
+        "Fees 0\nSupply 0\n",
+        Verdict::Tickets(1),
+    ),
+    ("", "Fees 0\nSupply 0\n", Verdict::Missing),
+];
 
 #[test]
 fn tickets_are_summed(rt: HostRuntime) -> Result<(), Fail> {
-    let alloc = rt.alloc();
-    for (line, verdict) in [
-        (
-            "Tickets 0x01000000000000000100000000000000000000000000 string \"seat\" 10 1 9\n",
-            Verdict::Agrees,
-        ),
-        (
-            "Tickets 0x01000000000000000100000000000000000000000000 string \"seat\" 10 0 9\n",
-            Verdict::Tickets(1),
-        ),
-        ("", Verdict::Missing),
-    ] {
-        let text = format!(in alloc; "{SEATS}{line}")?;
-        assert_eq!(rt;
-            verdict_on(alloc, text.as_str(), "Fees 0\nSupply 0\n")?,
-            verdict,
-            "at {line}"
-        );
-    }
-    Ok(())
+    are_judged(rt.alloc(), SEATS, &TICKETS)
 }
 
-#[test]
-fn a_text_without_its_form_is_refused(rt: HostRuntime) -> Result<(), Fail> {
-    let alloc = rt.alloc();
-    for (text, line) in [
-        ("", 1),
-        ("Fees 0\n", 2),
-        ("Fees 0\nSupply 0", 2),
-        ("Fees 0;\nSupply 0\n", 1),
-        ("Fees 0\nSupply 0\nSupply 0\n", 3),
-        ("Group 2 {}\nFees 0\nSupply 0\n", 1),
-    ] {
-        assert_eq!(rt;
-            verdict_on(alloc, text, "")?,
-            Verdict::BadForm(line),
-            "at {text}"
-        );
-    }
-    Ok(())
-}
+// Lines that are missing, cut or too many are refused where they stand. A comment may end in a sign. A storage burn stands where contracts have sizes.
+static FORMS: [Row; 10] = [
+    ("", "", Verdict::BadForm(1)),
+    ("Fees 0\n", "", Verdict::BadForm(2)),
+    ("Fees 0\n", "Supply 0", Verdict::BadForm(2)),
+    ("Fees 0;\n", "Supply 0\n", Verdict::BadForm(1)),
+    ("Fees 0\nSupply 0\n", "Supply 0\n", Verdict::BadForm(3)),
+    ("Group 2 {}\n", "Fees 0\nSupply 0\n", Verdict::BadForm(1)),
+    ("Fees 0 # ;\n", "Supply 0\n", Verdict::Agrees),
+    (
+        "Contract 0x00 5 Unit 1\n",
+        "Fees 2\nStorageBurn 1\nSupply 8\n",
+        Verdict::Agrees,
+    ),
+    (
+        "Contract 0x00 5 Unit 1\n",
+        "Fees 2\nSupply 7\n",
+        Verdict::BadForm(3),
+    ),
+    (
+        "Contract 0x00 5 Unit\n",
+        "Fees 2\nStorageBurn 1\nSupply 8\n",
+        Verdict::BadForm(3),
+    ),
+];
 
 #[test]
-fn a_comment_may_end_in_a_sign(rt: HostRuntime) -> Result<(), Fail> {
-    let alloc = rt.alloc();
-    assert_eq!(rt;
-        verdict_on(alloc, "Fees 0 # ;\nSupply 0\n", "")?,
-        Verdict::Agrees
-    );
-    Ok(())
-}
-
-#[test]
-fn a_storage_burn_stands_where_contracts_have_sizes(rt: HostRuntime) -> Result<(), Fail> {
-    let alloc = rt.alloc();
-    for (text, verdict) in [
-        (
-            "Contract 0x00 5 Unit 1\nFees 2\nStorageBurn 1\nSupply 8\n",
-            Verdict::Agrees,
-        ),
-        (
-            "Contract 0x00 5 Unit 1\nFees 2\nSupply 7\n",
-            Verdict::BadForm(3),
-        ),
-        (
-            "Contract 0x00 5 Unit\nFees 2\nStorageBurn 1\nSupply 8\n",
-            Verdict::BadForm(3),
-        ),
-    ] {
-        assert_eq!(rt; verdict_on(alloc, text, "")?, verdict, "at {text}");
-    }
-    Ok(())
+fn texts_have_their_form(rt: HostRuntime) -> Result<(), Fail> {
+    are_judged(rt.alloc(), "", &FORMS)
 }

@@ -127,27 +127,46 @@ fn nested_form(alloc: Global, depth: u32) -> Result<Bytes, EncodeError> {
     form_of(alloc, &node)
 }
 
+// Whether a node of this depth is decoded.
+fn is_decoded(alloc: Global, depth: u32) -> Result<bool, EncodeError> {
+    let form = nested_form(alloc, depth)?;
+    Ok(decode(alloc, form.as_slice()).is_ok())
+}
+
 #[test]
 fn a_node_at_depth_1000_is_decoded(rt: HostRuntime) -> Result<(), Fail> {
-    let deepest = nested_form(rt.alloc(), 1000)?;
-    assert!(rt; decode(rt.alloc(), deepest.as_slice()).is_ok());
+    assert!(rt; is_decoded(rt.alloc(), 1000)?);
     Ok(())
+}
+
+fn fault_at(alloc: Global, depth: u32) -> Result<Option<(DecodeKind, u64)>, EncodeError> {
+    let form = nested_form(alloc, depth)?;
+    Ok(fault_of(alloc, form.as_slice()))
 }
 
 #[test]
 fn a_node_at_depth_1001_is_refused(rt: HostRuntime) -> Result<(), Fail> {
-    let deeper = nested_form(rt.alloc(), 1001)?;
-    assert!(rt; fault_of(rt.alloc(), deeper.as_slice()) == Some((DecodeKind::TooDeep, 5000)));
+    assert!(rt; fault_at(rt.alloc(), 1001)? == Some((DecodeKind::TooDeep, 5000)));
     Ok(())
+}
+
+// The fault of so many letters behind these bytes.
+fn fault_of_wide(
+    alloc: Global,
+    front: &[u8],
+    count: usize,
+) -> Result<Option<(DecodeKind, u64)>, Memory> {
+    let mut bytes = front.to_vec(alloc)?;
+    for _ in 0..count {
+        bytes.push(b'a')?;
+    }
+    Ok(fault_of(alloc, bytes.as_slice()))
 }
 
 #[test]
 fn a_string_of_more_than_a_mebibyte_is_refused(rt: HostRuntime) -> Result<(), Fail> {
-    let mut wide = vec![in rt.alloc(); b'a'; 1_048_582]?;
-    for (byte, start) in wide.iter_mut().zip(b"\x01\x00\x10\x00\x01") {
-        *byte = *start;
-    }
-    assert!(rt; fault_of(rt.alloc(), wide.as_slice()) == Some((DecodeKind::TooWide, 1)));
+    let fault = fault_of_wide(rt.alloc(), b"\x01\x00\x10\x00\x01", 1_048_577)?;
+    assert!(rt; fault == Some((DecodeKind::TooWide, 1)));
     Ok(())
 }
 
@@ -197,19 +216,33 @@ fn alone(alloc: Global, name: &[u8]) -> Result<Node, Memory> {
     }))
 }
 
-fn with_nat(alloc: Global, name: &[u8], annot: &[u8]) -> Result<Node, Memory> {
+fn annotations(alloc: Global, annot: &[u8]) -> Result<Texts, Memory> {
     let mut annots = Texts::new(alloc);
     annots.push(Text::from_slice(alloc, annot)?)?;
+    Ok(annots)
+}
+
+fn nat(alloc: Global) -> Result<Nodes, Memory> {
     let mut args = Nodes::new(alloc);
     args.push(alone(alloc, b"nat")?)?;
+    Ok(args)
+}
+
+fn with_nat(alloc: Global, name: &[u8], annot: &[u8]) -> Result<Node, Memory> {
     let name = Text::from_slice(alloc, name)?;
+    let annots = annotations(alloc, annot)?;
+    let args = nat(alloc)?;
     Ok(Node::Prim(App { name, annots, args }))
+}
+
+fn is_application_spelt(alloc: Global) -> Result<bool, Memory> {
+    let parameter = with_nat(alloc, b"parameter", b"%x")?;
+    Ok(is_spelt(alloc, &parameter, FORMS[0]))
 }
 
 #[test]
 fn an_application_is_spelt(rt: HostRuntime) -> Result<(), Fail> {
-    let parameter = with_nat(rt.alloc(), b"parameter", b"%x")?;
-    assert!(rt; is_spelt(rt.alloc(), &parameter, FORMS[0]));
+    assert!(rt; is_application_spelt(rt.alloc())?);
     Ok(())
 }
 
@@ -246,10 +279,13 @@ fn integers_are_spelt(rt: HostRuntime) -> Result<(), Fail> {
     are_spelt(rt.alloc(), &INTEGERS)
 }
 
+fn is_refused(alloc: Global, name: &[u8]) -> Result<bool, Memory> {
+    let node = with_nat(alloc, name, b"%x")?;
+    Ok(matches!(form_of(alloc, &node), Err(EncodeError::NoCode(0))))
+}
+
 #[test]
 fn a_name_without_a_code_is_refused(rt: HostRuntime) -> Result<(), Fail> {
-    let node = with_nat(rt.alloc(), b"Foo", b"%x")?;
-    let refused = form_of(rt.alloc(), &node);
-    assert!(rt; matches!(refused, Err(EncodeError::NoCode(0))));
+    assert!(rt; is_refused(rt.alloc(), b"Foo")?);
     Ok(())
 }

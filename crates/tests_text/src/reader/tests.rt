@@ -131,20 +131,34 @@ fn filled(alloc: Global, front: &[u8], byte: u8, count: usize) -> Option<Reader>
     Some(reader)
 }
 
-#[test]
-fn a_statement_up_to_the_limit(rt: HostRuntime) -> Result<(), Fail> {
-    let mut reader = filled(rt.alloc(), b"Foo ", b' ', LIMIT - 4).ok_or("a reader")?;
-    assert!(rt; fed(&mut reader, b"") == Said::More);
-    assert!(rt; fed(&mut reader, b";") == Said::Placed(0, 16_777_217));
-    Ok(())
+fn is_placed_at_the_limit(alloc: Global) -> bool {
+    match filled(alloc, b"Foo ", b' ', LIMIT - 4) {
+        Some(mut reader) => {
+            fed(&mut reader, b"") == Said::More
+                && fed(&mut reader, b";") == Said::Placed(0, 16_777_217)
+        }
+        None => false,
+    }
 }
 
 #[test]
-fn a_statement_past_the_limit(rt: HostRuntime) -> Result<(), Fail> {
-    let mut longer = filled(rt.alloc(), b"Foo ", b' ', LIMIT - 3).ok_or("a reader")?;
+fn a_statement_up_to_the_limit(rt: HostRuntime) {
+    assert!(rt; is_placed_at_the_limit(rt.alloc()));
+}
+
+fn is_too_long_past_the_limit(alloc: Global) -> bool {
     let fault = Said::Fault(TextKind::TooLong, 16_777_216);
-    assert!(rt; answer_of(&mut longer, false) == fault && answer_of(&mut longer, true) == fault);
-    Ok(())
+    match filled(alloc, b"Foo ", b' ', LIMIT - 3) {
+        Some(mut reader) => {
+            answer_of(&mut reader, false) == fault && answer_of(&mut reader, true) == fault
+        }
+        None => false,
+    }
+}
+
+#[test]
+fn a_statement_past_the_limit(rt: HostRuntime) {
+    assert!(rt; is_too_long_past_the_limit(rt.alloc()));
 }
 
 // A sequence of so many numbers, each with its `;`, comes in pieces of two bytes.
@@ -175,12 +189,18 @@ fn next_line(alloc: Global, reader: &mut Reader) -> Result<Text, Fail> {
     }
 }
 
+// The line of a statement that comes in two pieces.
+fn line_of_pieces(alloc: Global, first: &[u8], second: &[u8]) -> Result<Text, Fail> {
+    let mut reader = Reader::new(alloc);
+    if fed(&mut reader, first) != Said::More || reader.feed(second).is_err() {
+        return Err(Fail::from("more"));
+    }
+    next_line(alloc, &mut reader)
+}
+
 #[test]
 fn a_node_is_the_one_of_the_text(rt: HostRuntime) -> Result<(), Fail> {
-    let mut reader = Reader::new(rt.alloc());
-    assert!(rt; fed(&mut reader, b"Pair 1 (Foo @") == Said::More);
-    assert!(rt; reader.feed(b"a) ;").is_ok());
-    let line = next_line(rt.alloc(), &mut reader)?;
+    let line = line_of_pieces(rt.alloc(), b"Pair 1 (Foo @", b"a) ;")?;
     assert!(rt; line.as_slice() == b"Pair 1 (Foo @a)".as_slice());
     Ok(())
 }

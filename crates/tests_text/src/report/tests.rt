@@ -107,49 +107,11 @@ fn minting(alloc: Global) -> Result<Effect, Fail> {
     Ok(Effect::Transfer(account(), to, 0, argument, changes))
 }
 
-#[test]
-fn a_transfer_that_mints(rt: HostRuntime) -> Result<(), Fail> {
-    let line = "Group 2 { Applied 31 { Transfer 0x00000000000000000000000000000000000000000001 \
-        0x010000000000000001000000000000000000000000006d696e74 0 Unit { \
-        Minted 0x01000000000000000100000000000000000000000000 nat 7 5 ; \
-        Burnt 0x01000000000000000100000000000000000000000000 nat 7 3 } } }";
-    let effect = minting(rt.alloc())?;
-    assert!(rt; is_effect(rt.alloc(), 31, effect, line)?);
-    Ok(())
-}
-
 fn giving(alloc: Global) -> Result<Effect, Fail> {
     let to = address(account(), b"default")?;
     let ty = bare(alloc, b"nat")?;
     let content = Node::Int(7);
     Ok(Effect::Give(account(), to, contract(), ty, content, 2, Rows::new(alloc)))
-}
-
-#[test]
-fn a_gift(rt: HostRuntime) -> Result<(), Fail> {
-    let line = "Group 2 { Applied 1 { Give 0x00000000000000000000000000000000000000000001 \
-        0x00000000000000000000000000000000000000000001 0x01000000000000000100000000000000000000000000 nat 7 2 {} } }";
-    let effect = giving(rt.alloc())?;
-    assert!(rt; is_effect(rt.alloc(), 1, effect, line)?);
-    Ok(())
-}
-
-#[test]
-fn an_origination(rt: HostRuntime) -> Result<(), Fail> {
-    let line = "Group 2 { Applied 1 { Origination 0x00000000000000000000000000000000000000000001 \
-        0x01000000000000000100000000000000000000000000 5 } }";
-    let effect = Effect::Origination(account(), contract(), 5);
-    assert!(rt; is_effect(rt.alloc(), 1, effect, line)?);
-    Ok(())
-}
-
-#[test]
-fn growth_that_is_charged(rt: HostRuntime) -> Result<(), Fail> {
-    let line =
-        "Group 2 { Applied 1 { Storage 0x01000000000000000100000000000000000000000000 33 99 } }";
-    let effect = Effect::Storage(contract(), 33, 99);
-    assert!(rt; is_effect(rt.alloc(), 1, effect, line)?);
-    Ok(())
 }
 
 fn telling(alloc: Global) -> Result<Effect, Memory> {
@@ -158,13 +120,75 @@ fn telling(alloc: Global) -> Result<Effect, Memory> {
     Ok(Effect::Event(contract(), tag, ty, unit(alloc)?))
 }
 
-#[test]
-fn an_event(rt: HostRuntime) -> Result<(), Fail> {
-    let line =
-        "Group 2 { Applied 28 { Event 0x01000000000000000100000000000000000000000000 \"c\" unit Unit } }";
-    let effect = telling(rt.alloc())?;
-    assert!(rt; is_effect(rt.alloc(), 28, effect, line)?);
+// What a content does.
+enum Made {
+    Mints,
+    Gives,
+    Originates,
+    Grows,
+    Tells,
+}
+
+fn effect_of(alloc: Global, made: &Made) -> Result<Effect, Fail> {
+    match made {
+        Made::Mints => minting(alloc),
+        Made::Gives => giving(alloc),
+        Made::Originates => Ok(Effect::Origination(account(), contract(), 5)),
+        Made::Grows => Ok(Effect::Storage(contract(), 33, 99)),
+        Made::Tells => Ok(telling(alloc)?),
+    }
+}
+
+// The gas of a content, what it does, and its line.
+type Row = (u64, Made, &'static str);
+
+static EFFECTS: [Row; 5] = [
+    (
+        31,
+        Made::Mints,
+        "Group 2 { Applied 31 { Transfer 0x00000000000000000000000000000000000000000001 \
+            0x010000000000000001000000000000000000000000006d696e74 0 Unit { \
+            Minted 0x01000000000000000100000000000000000000000000 nat 7 5 ; \
+            Burnt 0x01000000000000000100000000000000000000000000 nat 7 3 } } }",
+    ),
+    (
+        1,
+        Made::Gives,
+        "Group 2 { Applied 1 { Give 0x00000000000000000000000000000000000000000001 \
+            0x00000000000000000000000000000000000000000001 0x01000000000000000100000000000000000000000000 nat 7 2 {} } }",
+    ),
+    (
+        1,
+        Made::Originates,
+        "Group 2 { Applied 1 { Origination 0x00000000000000000000000000000000000000000001 \
+            0x01000000000000000100000000000000000000000000 5 } }",
+    ),
+    (
+        1,
+        Made::Grows,
+        "Group 2 { Applied 1 { Storage 0x01000000000000000100000000000000000000000000 33 99 } }",
+    ),
+    (
+        28,
+        Made::Tells,
+        "Group 2 { Applied 28 { Event 0x01000000000000000100000000000000000000000000 \"c\" unit Unit } }",
+    ),
+];
+
+// Fails with the first line that is written otherwise.
+fn are_effects(alloc: Global, rows: &[Row]) -> Result<(), Fail> {
+    for (gas, made, line) in rows {
+        let effect = effect_of(alloc, made)?;
+        if !is_effect(alloc, *gas, effect, line)? {
+            return Err(Fail::new(*line));
+        }
+    }
     Ok(())
+}
+
+#[test]
+fn effects(rt: HostRuntime) -> Result<(), Fail> {
+    are_effects(rt.alloc(), &EFFECTS)
 }
 
 fn batch(alloc: Global) -> Result<GroupReceipt, Memory> {
@@ -175,11 +199,15 @@ fn batch(alloc: Global) -> Result<GroupReceipt, Memory> {
     Ok(GroupReceipt::Done(statuses))
 }
 
+fn is_batch(alloc: Global, line: &str) -> Result<bool, Memory> {
+    let receipt = batch(alloc)?;
+    is_line(alloc, 1, &receipt, line)
+}
+
 #[test]
 fn a_batch_that_fails(rt: HostRuntime) -> Result<(), Fail> {
-    let receipt = batch(rt.alloc())?;
     let line = "Group 1 { Backtracked ; Failed 0 EmptyTransaction ; Skipped }";
-    assert!(rt; is_line(rt.alloc(), 1, &receipt, line)?);
+    assert!(rt; is_batch(rt.alloc(), line)?);
     Ok(())
 }
 
@@ -194,17 +222,15 @@ fn failing(alloc: Global) -> Result<Failure, Memory> {
     Ok(Failure::FailedWith(ty, unit(alloc)?))
 }
 
+fn is_failure_with_value(alloc: Global, line: &str) -> Result<bool, Memory> {
+    let why = failing(alloc)?;
+    is_failure(alloc, 2, why, line)
+}
+
 #[test]
 fn a_failure_with_a_value(rt: HostRuntime) -> Result<(), Fail> {
-    let why = failing(rt.alloc())?;
-    assert!(rt;
-        is_failure(
-            rt.alloc(),
-            2,
-            why,
-            "Group 4 { Failed 2 (FailedWith unit Unit) }"
-        )?
-    );
+    let line = "Group 4 { Failed 2 (FailedWith unit Unit) }";
+    assert!(rt; is_failure_with_value(rt.alloc(), line)?);
     Ok(())
 }
 

@@ -8,7 +8,7 @@ use std::alloc::Global;
 use std::test::Fail;
 
 // No statements: another name, fields that are missing or too many, of another kind or out of range, annotations.
-const OTHERS: [&'static str; 18] = [
+static OTHERS: [&'static str; 18] = [
     "Foo",
     "5",
     "{ Chain 0x7a06a770 1 0 }",
@@ -29,7 +29,7 @@ const OTHERS: [&'static str; 18] = [
     "Block :a 1 0",
 ];
 
-const NO_TABLES: [&'static str; 10] = [
+static NO_TABLES: [&'static str; 10] = [
     "Costs",
     "Costs Foo",
     "Costs {} {}",
@@ -42,7 +42,7 @@ const NO_TABLES: [&'static str; 10] = [
     "Costs { Cost CAR 0x01 0 }",
 ];
 
-const NO_ACCOUNTS_OR_GROUPS: [&'static str; 11] = [
+static NO_ACCOUNTS_OR_GROUPS: [&'static str; 11] = [
     "Account 0x000000000000000000000000000000000000000001",
     "Account 0x040000000000000000000000000000000000000001 1",
     "Account 0x0000000000000000000000000000000000000001 1",
@@ -57,7 +57,7 @@ const NO_ACCOUNTS_OR_GROUPS: [&'static str; 11] = [
 ];
 
 // No contents of a group.
-const NO_CALLS: [&'static str; 13] = [
+static NO_CALLS: [&'static str; 13] = [
     "Call %a 1 2 3 0x00020000000000000000000000000000000000000002 \"a\" Unit",
     "Call 1 2 3 0x00020000000000000000000000000000000000000002 \"a\"",
     "Call 1 2 3 0x00020000000000000000000000000000000000000002 \"a\" Unit Unit",
@@ -73,7 +73,7 @@ const NO_CALLS: [&'static str; 13] = [
     "{ Call 1 2 3 0x00020000000000000000000000000000000000000002 \"a\" Unit }",
 ];
 
-const NO_ORIGINATIONS_OR_GIFTS: [&'static str; 13] = [
+static NO_ORIGINATIONS_OR_GIFTS: [&'static str; 13] = [
     "Originate 0 1 5 {}",
     "Originate 0 1 5 {} 7 7",
     "Originate 0 1 -5 {} 7",
@@ -177,61 +177,68 @@ fn other_nodes_are_no_contents(rt: HostRuntime) -> Result<(), Fail> {
     are_no_groups(rt.alloc(), &NO_ORIGINATIONS_OR_GIFTS)
 }
 
-#[test]
-fn a_chain(rt: HostRuntime) -> Result<(), Fail> {
-    let found = form_of(
-        rt.alloc(),
-        "(Chain 0x7a06a770 2147483647 -9223372036854775808)",
-    )?;
-    assert!(rt; matches!(found, Some(Statement::Chain(_, 2_147_483_647, i64::MIN))));
-    Ok(())
+// What a text is.
+enum Form {
+    Chain(u32, i64),
+    Block(u32, i64),
+    Account(u64),
+    Profile(u64),
+    Costs,
+    Nothing,
 }
 
-#[test]
-fn a_block(rt: HostRuntime) -> Result<(), Fail> {
-    let found = form_of(rt.alloc(), "Block 0 9223372036854775807")?;
-    assert!(rt; matches!(found, Some(Statement::Block(0, i64::MAX))));
-    Ok(())
+fn is_form(found: &Option<Statement>, form: &Form) -> bool {
+    match form {
+        Form::Chain(level, now) => {
+            matches!(found, Some(Statement::Chain(_, l, n)) if l == level && n == now)
+        }
+        Form::Block(level, now) => {
+            matches!(found, Some(Statement::Block(l, n)) if l == level && n == now)
+        }
+        Form::Account(mutez) => matches!(found, Some(Statement::Account(_, m)) if m == mutez),
+        Form::Profile(rate) => matches!(found, Some(Statement::Profile(r)) if r == rate),
+        Form::Costs => matches!(found, Some(Statement::Costs(_))),
+        Form::Nothing => found.is_none(),
+    }
 }
 
-#[test]
-fn an_account(rt: HostRuntime) -> Result<(), Fail> {
-    let found = form_of(
-        rt.alloc(),
-        "Account 0x030000000000000000000000000000000000000001 9223372036854775807",
-    )?;
-    assert!(rt;
-        matches!(
-            found,
-            Some(Statement::Account(_, 9_223_372_036_854_775_807))
-        )
-    );
-    Ok(())
-}
-
-#[test]
-fn a_profile(rt: HostRuntime) -> Result<(), Fail> {
-    let alloc = rt.alloc();
-    let found = form_of(alloc, "Profile 2 1000000")?;
-    assert!(rt; matches!(found, Some(Statement::Profile(1_000_000))));
-    assert!(rt; form_of(alloc, "Profile 2 1000001")?.is_none());
-    assert!(rt; form_of(alloc, "Profile 1 3")?.is_none());
-    assert!(rt; form_of(alloc, "Profile 2")?.is_none());
-    Ok(())
-}
-
-#[test]
-fn an_empty_table_of_prices(rt: HostRuntime) -> Result<(), Fail> {
-    assert!(rt; matches!(form_of(rt.alloc(), "Costs {}")?, Some(Statement::Costs(_))));
-    Ok(())
+fn has_form(alloc: Global, text: &str, form: &Form) -> Result<bool, Memory> {
+    let found = form_of(alloc, text)?;
+    Ok(is_form(&found, form))
 }
 
 // A row's name may be unknown, and its numbers out of range: then the table is a statement, and a bad one.
-#[test]
-fn a_bad_table_of_prices(rt: HostRuntime) -> Result<(), Fail> {
-    let found = form_of(rt.alloc(), "Costs { Cost CAR 10 0 ; Cost FOO -1 5 }")?;
-    assert!(rt; matches!(found, Some(Statement::Costs(_))));
+static FORMS: [(&'static str, Form); 9] = [
+    (
+        "(Chain 0x7a06a770 2147483647 -9223372036854775808)",
+        Form::Chain(2_147_483_647, i64::MIN),
+    ),
+    ("Block 0 9223372036854775807", Form::Block(0, i64::MAX)),
+    (
+        "Account 0x030000000000000000000000000000000000000001 9223372036854775807",
+        Form::Account(9_223_372_036_854_775_807),
+    ),
+    ("Profile 2 1000000", Form::Profile(1_000_000)),
+    ("Profile 2 1000001", Form::Nothing),
+    ("Profile 1 3", Form::Nothing),
+    ("Profile 2", Form::Nothing),
+    ("Costs {}", Form::Costs),
+    ("Costs { Cost CAR 10 0 ; Cost FOO -1 5 }", Form::Costs),
+];
+
+// Fails with the first text of another form.
+fn have_forms(alloc: Global, rows: &[(&'static str, Form)]) -> Result<(), Fail> {
+    for (text, form) in rows {
+        if !has_form(alloc, text, form)? {
+            return Err(Fail::new(*text));
+        }
+    }
     Ok(())
+}
+
+#[test]
+fn statements_have_their_forms(rt: HostRuntime) -> Result<(), Fail> {
+    have_forms(rt.alloc(), &FORMS)
 }
 
 // Whether it is a call of an account with 3 mutez and a pair.
@@ -247,35 +254,30 @@ fn is_the_call(action: &Action) -> bool {
     }
 }
 
-#[test]
-fn a_call(rt: HostRuntime) -> Result<(), Fail> {
-    let contents = "Call 1 2 3 0x00020000000000000000000000000000000000000002 \"a%b\" (Pair 4 5) ;";
-    let group = group_of(rt.alloc(), contents)?.ok_or("no group")?;
-    let content = group.contents.only().ok_or("another count")?;
-    assert!(rt;
-        group.source.tag == 0
-            && content.fee == 1
-            && content.gas == 2
-            && is_the_call(&content.action)
-    );
-    Ok(())
+fn is_call(group: &Group) -> bool {
+    match group.contents.only() {
+        Some(content) => {
+            group.source.tag == 0
+                && content.fee == 1
+                && content.gas == 2
+                && is_the_call(&content.action)
+        }
+        None => false,
+    }
 }
 
-#[test]
-fn an_origination(rt: HostRuntime) -> Result<(), Fail> {
-    let group = group_of(rt.alloc(), "Originate 0 1 5 { code {} } 7")?.ok_or("no group")?;
-    let content = group.contents.only().ok_or("another count")?;
-    assert!(rt;
-        matches!(
-            content.action,
+fn is_origination(group: &Group) -> bool {
+    match group.contents.only() {
+        Some(content) => matches!(
+            &content.action,
             Action::Originate {
                 balance: 5,
                 script: Node::Seq(_),
                 storage: Node::Int(7),
             }
-        )
-    );
-    Ok(())
+        ),
+        None => false,
+    }
 }
 
 // Whether it is a gift of two tickets to an account.
@@ -293,14 +295,56 @@ fn is_the_gift(action: &Action) -> bool {
     }
 }
 
-#[test]
-fn a_gift(rt: HostRuntime) -> Result<(), Fail> {
-    let contents =
-        "Originate 0 1 5 {} 7 ; Give 0 10 0x01000000000000000100000000000000000000000000 nat \"x\" 2 0x00020000000000000000000000000000000000000002 \"default\"";
-    let group = group_of(rt.alloc(), contents)?.ok_or("no group")?;
-    let (_, second) = group.contents.both().ok_or("another count")?;
-    assert!(rt; is_the_gift(&second.action));
+fn is_gift(group: &Group) -> bool {
+    match group.contents.both() {
+        Some((_, second)) => is_the_gift(&second.action),
+        None => false,
+    }
+}
+
+enum Content {
+    Call,
+    Origination,
+    Gift,
+}
+
+// Whether these contents are a group with this.
+fn has_content(alloc: Global, contents: &str, content: &Content) -> Result<bool, Memory> {
+    let Some(group) = group_of(alloc, contents)? else {
+        return Ok(false);
+    };
+    Ok(match content {
+        Content::Call => is_call(&group),
+        Content::Origination => is_origination(&group),
+        Content::Gift => is_gift(&group),
+    })
+}
+
+static CONTENTS: [(&'static str, Content); 3] = [
+    (
+        "Call 1 2 3 0x00020000000000000000000000000000000000000002 \"a%b\" (Pair 4 5) ;",
+        Content::Call,
+    ),
+    ("Originate 0 1 5 { code {} } 7", Content::Origination),
+    (
+        "Originate 0 1 5 {} 7 ; Give 0 10 0x01000000000000000100000000000000000000000000 nat \"x\" 2 0x00020000000000000000000000000000000000000002 \"default\"",
+        Content::Gift,
+    ),
+];
+
+// Fails with the first contents of which this is not so.
+fn have_contents(alloc: Global, rows: &[(&'static str, Content)]) -> Result<(), Fail> {
+    for (contents, content) in rows {
+        if !has_content(alloc, contents, content)? {
+            return Err(Fail::new(*contents));
+        }
+    }
     Ok(())
+}
+
+#[test]
+fn groups_have_their_contents(rt: HostRuntime) -> Result<(), Fail> {
+    have_contents(rt.alloc(), &CONTENTS)
 }
 
 // So many contents.
