@@ -20,12 +20,6 @@ fn are_in_pre_order(alloc: Global) -> Result<bool, Fail> {
     )
 }
 
-#[test]
-fn locations_are_in_pre_order(rt: HostRuntime) -> Result<(), Fail> {
-    assert!(rt; are_in_pre_order(rt.alloc())?);
-    Ok(())
-}
-
 fn are_exact(alloc: Global) -> Result<bool, Fail> {
     let node = node(alloc, SAMPLE)?;
     Ok(
@@ -34,12 +28,6 @@ fn are_exact(alloc: Global) -> Result<bool, Fail> {
             && depth_within(&node, 3)
             && !depth_within(&node, 2),
     )
-}
-
-#[test]
-fn depth_and_size_are_exact(rt: HostRuntime) -> Result<(), Fail> {
-    assert!(rt; are_exact(rt.alloc())?);
-    Ok(())
 }
 
 // A node of this depth.
@@ -58,12 +46,6 @@ fn is_deep(alloc: Global) -> Result<bool, Memory> {
     Ok(depth_within(&node, 1001) && !depth_within(&node, 1000))
 }
 
-#[test]
-fn a_deep_node(rt: HostRuntime) -> Result<(), Fail> {
-    assert!(rt; is_deep(rt.alloc())?);
-    Ok(())
-}
-
 // Whether a copy of a node is equal to it.
 fn is_copied(alloc: Global, node: &Node) -> Result<bool, Memory> {
     Ok(copy_node(alloc, node)? == *node)
@@ -74,12 +56,6 @@ fn is_sample_copied(alloc: Global) -> Result<bool, Fail> {
     Ok(is_copied(alloc, &node)?)
 }
 
-#[test]
-fn a_copy_is_equal(rt: HostRuntime) -> Result<(), Fail> {
-    assert!(rt; is_sample_copied(rt.alloc())?);
-    Ok(())
-}
-
 // Whether a copy of a type is the same, and int is not.
 fn is_type_copied(alloc: Global, ty: &Ty) -> Result<bool, Memory> {
     let copy = copy_type(alloc, ty)?;
@@ -87,7 +63,11 @@ fn is_type_copied(alloc: Global, ty: &Ty) -> Result<bool, Memory> {
 }
 
 #[test]
-fn a_copy_of_a_type_is_the_same(rt: HostRuntime) -> Result<(), Fail> {
+fn nodes_are_measured_and_copied(rt: HostRuntime) -> Result<(), Fail> {
+    assert!(rt; are_in_pre_order(rt.alloc())?);
+    assert!(rt; are_exact(rt.alloc())?);
+    assert!(rt; is_deep(rt.alloc())?);
+    assert!(rt; is_sample_copied(rt.alloc())?);
     assert!(rt; is_type_copied(rt.alloc(), &Ty::Nat)?);
     Ok(())
 }
@@ -99,12 +79,6 @@ fn are_two(alloc: Global) -> Result<bool, Memory> {
     others.push(2u8)?;
     numbers.append(others)?;
     Ok(numbers.len() == 2 && numbers.three().is_none() && numbers.both().is_some())
-}
-
-#[test]
-fn lists_grow(rt: HostRuntime) -> Result<(), Fail> {
-    assert!(rt; are_two(rt.alloc())?);
-    Ok(())
 }
 
 fn one_text(alloc: Global) -> Result<Texts, Memory> {
@@ -121,12 +95,6 @@ fn are_parted(alloc: Global) -> Result<bool, Memory> {
     Ok(texts.len() == 1 && twice.len() == 2 && twice.three().is_none() && twice.both().is_some())
 }
 
-#[test]
-fn shared_lists_part(rt: HostRuntime) -> Result<(), Fail> {
-    assert!(rt; are_parted(rt.alloc())?);
-    Ok(())
-}
-
 // Whether a list, held elsewhere too, is taken out of its holder and put back.
 fn are_taken_out(alloc: Global) -> Result<bool, Memory> {
     let texts = one_text(alloc)?;
@@ -134,35 +102,30 @@ fn are_taken_out(alloc: Global) -> Result<bool, Memory> {
     Ok(rows.len() == 1 && Texts::from_rows(rows)? == texts)
 }
 
-#[test]
-fn shared_lists_are_taken_out(rt: HostRuntime) -> Result<(), Fail> {
-    assert!(rt; are_taken_out(rt.alloc())?);
-    Ok(())
-}
-
 fn shared(alloc: Global) -> Result<u8, Memory> {
     let shared = Shared::new(alloc, 7u8)?;
     Ok(*shared.share()?.get())
 }
 
-#[test]
-fn a_value_is_shared(rt: HostRuntime) -> Result<(), Fail> {
-    assert!(rt; shared(rt.alloc())? == 7);
-    Ok(())
+fn list_link(alloc: Global) -> Result<Link<Ty>, Memory> {
+    let int = Link::new(alloc, Ty::Int)?;
+    Link::new(alloc, Ty::List(int))
 }
 
 // Whether what is held twice is taken out of both.
 fn are_links_parted(alloc: Global) -> Result<bool, Memory> {
-    let part = Ty::List(Link::new(alloc, Ty::Int)?);
-    let link = Link::new(alloc, part)?;
+    let link = list_link(alloc)?;
     let other = link.share()?;
     let first = link.into_value()?;
-    let second = other.into_value()?;
-    Ok(same_type(&first, &second))
+    Ok(same_type(&first, &other.into_value()?))
 }
 
 #[test]
-fn links_part(rt: HostRuntime) -> Result<(), Fail> {
+fn lists_grow_and_part(rt: HostRuntime) -> Result<(), Fail> {
+    assert!(rt; are_two(rt.alloc())?);
+    assert!(rt; are_parted(rt.alloc())?);
+    assert!(rt; are_taken_out(rt.alloc())?);
+    assert!(rt; shared(rt.alloc())? == 7);
     assert!(rt; are_links_parted(rt.alloc())?);
     Ok(())
 }
@@ -170,12 +133,6 @@ fn links_part(rt: HostRuntime) -> Result<(), Fail> {
 fn are_bytes_copied(alloc: Global) -> Result<bool, Memory> {
     let bytes = Bytes::from_slice(alloc, b"ab")?;
     Ok(bytes.copy(alloc)? == bytes)
-}
-
-#[test]
-fn bytes_are_copied(rt: HostRuntime) -> Result<(), Fail> {
-    assert!(rt; are_bytes_copied(rt.alloc())?);
-    Ok(())
 }
 
 // Whether a text of these bytes shows them, and gives them back.
@@ -189,7 +146,8 @@ fn are_kept(alloc: Global, bytes: &[u8]) -> Result<bool, Memory> {
 }
 
 #[test]
-fn texts_keep_their_bytes(rt: HostRuntime) -> Result<(), Fail> {
+fn bytes_and_texts_are_kept(rt: HostRuntime) -> Result<(), Fail> {
+    assert!(rt; are_bytes_copied(rt.alloc())?);
     assert!(rt; are_kept(rt.alloc(), b"")?);
     assert!(rt; are_kept(rt.alloc(), b"22 bytes are in place.")?);
     assert!(rt; are_kept(rt.alloc(), b"23 bytes are elsewhere.")?);

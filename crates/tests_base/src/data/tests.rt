@@ -74,7 +74,7 @@ fn all_misfit(alloc: Global, rows: &[Misfit]) -> Result<(), Fail> {
     Ok(())
 }
 
-const SIMPLE: [Given; 14] = [
+static SIMPLE: [Given; 14] = [
     ("unit", "Unit", "Unit"),
     ("unit", "Unit @x", "Unit"),
     ("bool", "True", "True"),
@@ -112,7 +112,7 @@ fn types_without_arguments_have_literals(rt: HostRuntime) -> Result<(), Fail> {
     all_give(rt.alloc(), &SIMPLE)
 }
 
-const BYTE_FORMS: [Given; 10] = [
+static BYTE_FORMS: [Given; 10] = [
     (
         "key_hash",
         "0x030000000000000000000000000000000000000000",
@@ -166,7 +166,7 @@ fn byte_forms_have_literals(rt: HostRuntime) -> Result<(), Fail> {
     all_give(rt.alloc(), &BYTE_FORMS)
 }
 
-const OUT_OF_RANGE: [Misfit; 14] = [
+static OUT_OF_RANGE: [Misfit; 14] = [
     ("unit", "Unit 1", 0),
     ("unit", "True", 0),
     ("unit", "{}", 0),
@@ -188,7 +188,7 @@ fn numbers_and_texts_out_of_range_are_refused(rt: HostRuntime) -> Result<(), Fai
     all_misfit(rt.alloc(), &OUT_OF_RANGE)
 }
 
-const OTHER_FORMS: [Misfit; 20] = [
+static OTHER_FORMS: [Misfit; 20] = [
     (
         "key_hash",
         "0x040000000000000000000000000000000000000000",
@@ -272,7 +272,7 @@ fn bytes_of_another_form_are_refused(rt: HostRuntime) -> Result<(), Fail> {
     all_misfit(rt.alloc(), &OTHER_FORMS)
 }
 
-const WITH_ARGUMENTS: [Given; 14] = [
+static WITH_ARGUMENTS: [Given; 14] = [
     ("option int", "None", "None"),
     ("option int", "Some 1", "Some 1"),
     ("option int", "Some %a 1", "Some 1"),
@@ -314,7 +314,7 @@ fn types_with_arguments_have_literals(rt: HostRuntime) -> Result<(), Fail> {
     all_give(rt.alloc(), &WITH_ARGUMENTS)
 }
 
-const PAIRS: [Given; 10] = [
+static PAIRS: [Given; 10] = [
     ("pair int int", "Pair 1 2", "Pair 1 2"),
     ("pair int int", "{ 1 ; 2 }", "Pair 1 2"),
     ("pair int int", "Pair %a 1 2", "Pair 1 2"),
@@ -344,7 +344,7 @@ fn pairs_have_many_literals(rt: HostRuntime) -> Result<(), Fail> {
     all_give(rt.alloc(), &PAIRS)
 }
 
-const OTHER_PAIRS: [Misfit; 12] = [
+static OTHER_PAIRS: [Misfit; 12] = [
     ("pair int int", "Pair \"\" 2 3", 1),
     ("pair int int", "Pair 1 2 3", 0),
     ("pair int (list int)", "{ 1 ; 2 ; 3 }", 0),
@@ -364,7 +364,7 @@ fn pairs_with_other_parts_are_refused(rt: HostRuntime) -> Result<(), Fail> {
     all_misfit(rt.alloc(), &OTHER_PAIRS)
 }
 
-const OTHER_PARTS: [Misfit; 24] = [
+static OTHER_PARTS: [Misfit; 24] = [
     ("option int", "Some", 0),
     ("option int", "Some \"\"", 1),
     ("option int", "None 1", 0),
@@ -396,7 +396,7 @@ fn other_parts_are_refused_where_they_stand(rt: HostRuntime) -> Result<(), Fail>
     all_misfit(rt.alloc(), &OTHER_PARTS)
 }
 
-const OUT_OF_ORDER: [Misfit; 8] = [
+static OUT_OF_ORDER: [Misfit; 8] = [
     ("set int", "{ 2 ; 1 }", 2),
     ("set int", "{ 1 ; 1 }", 2),
     ("set string", "{ \"b\" ; \"ab\" }", 2),

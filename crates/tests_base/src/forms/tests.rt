@@ -3,27 +3,15 @@ use mich_forms::{Address, ChainId, Entrypoint, Key, KeyHash, Place, Signature};
 use std::cmp::Ordering;
 
 #[test]
-fn key_hashes(rt: HostRuntime) {
+fn forms_of_bytes(rt: HostRuntime) {
     assert!(rt;
         KeyHash::read([3; 21].as_slice()).is_some() && KeyHash::read([4; 21].as_slice()).is_none()
     );
-}
-
-#[test]
-fn keys(rt: HostRuntime) {
     assert!(rt; Key::read([0; 33].as_slice()).is_some() && Key::read([0; 34].as_slice()).is_none());
-}
-
-#[test]
-fn signatures(rt: HostRuntime) {
     assert!(rt;
         Signature::read([7; 64].as_slice()).is_some()
             && Signature::read([7; 65].as_slice()).is_none()
     );
-}
-
-#[test]
-fn chain_ids(rt: HostRuntime) {
     assert!(rt;
         ChainId::read([7; 4].as_slice()).is_some() && ChainId::read([7; 5].as_slice()).is_none()
     );
@@ -37,24 +25,6 @@ fn is_place(bytes: &[u8]) -> bool {
     }
 }
 
-#[test]
-fn places(rt: HostRuntime) {
-    assert!(rt; is_place([0; 22].as_slice()) && !is_place([2; 22].as_slice()));
-    assert!(rt; !is_place([0; 21].as_slice()));
-}
-
-#[test]
-fn names_of_entrypoints(rt: HostRuntime) {
-    assert!(rt; Entrypoint::read(b"_.%@09azAZ").is_some() && Entrypoint::read(b"a-b").is_none());
-    assert!(rt; Entrypoint::read(b"01234567890123456789012345678901").is_none());
-}
-
-#[test]
-fn the_default_entrypoint(rt: HostRuntime) {
-    let default = Entrypoint::default_entrypoint();
-    assert!(rt; default.is_default() && default.as_slice() == b"default".as_slice());
-}
-
 // Whether these bytes are an address with this entrypoint.
 fn is_address(bytes: &[u8], name: &[u8]) -> bool {
     match Address::read(bytes) {
@@ -64,13 +34,11 @@ fn is_address(bytes: &[u8], name: &[u8]) -> bool {
 }
 
 #[test]
-fn addresses(rt: HostRuntime) {
+fn places_and_addresses(rt: HostRuntime) {
+    assert!(rt; is_place([0; 22].as_slice()) && !is_place([2; 22].as_slice()));
+    assert!(rt; !is_place([0; 21].as_slice()));
     assert!(rt; is_address([0; 22].as_slice(), b"default"));
     assert!(rt; !is_address([0; 21].as_slice(), b"default"));
-}
-
-#[test]
-fn places_are_ordered(rt: HostRuntime) {
     let account = KeyHash {
         tag: 3,
         hash: [9; 20],
@@ -87,6 +55,10 @@ fn is_below(first: &[u8], second: &[u8]) -> bool {
 }
 
 #[test]
-fn names_are_ordered(rt: HostRuntime) {
+fn names_of_entrypoints(rt: HostRuntime) {
+    assert!(rt; Entrypoint::read(b"_.%@09azAZ").is_some() && Entrypoint::read(b"a-b").is_none());
+    assert!(rt; Entrypoint::read(b"01234567890123456789012345678901").is_none());
+    let default = Entrypoint::default_entrypoint();
+    assert!(rt; default.is_default() && default.as_slice() == b"default".as_slice());
     assert!(rt; is_below(b"ab", b"b") && !is_below(b"b", b"ab"));
 }

@@ -36,22 +36,29 @@ fn is_abc<F: Files>(files: &mut F) -> bool {
     count == Some(3) && end == Some(0) && buf[0] == b'a'
 }
 
+fn is_real_file_read(rt: HostRuntime) -> Result<bool, Memory> {
+    let mut files = HostFiles::new(rt, one(rt.alloc(), "a_real_file.txt")?);
+    let started = files.start("a_real_file.txt").is_ok();
+    Ok(started && is_abc(&mut files))
+}
+
 #[test]
 fn a_real_file(rt: HostRuntime) -> Result<(), Fail> {
     fs::write(&rt, "a_real_file.txt", "abc")?;
-    let mut files = HostFiles::new(rt, one(rt.alloc(), "a_real_file.txt")?);
-    let started = files.start("a_real_file.txt").is_ok();
-    let read = started && is_abc(&mut files);
+    let read = is_real_file_read(rt)?;
     fs::remove_file(&rt, "a_real_file.txt")?;
     assert!(rt; read);
     Ok(())
 }
 
+fn fault_of_missing(rt: HostRuntime) -> Result<Option<FilesFault>, Memory> {
+    let mut files = HostFiles::new(rt, one(rt.alloc(), "no_such_file.txt")?);
+    Ok(files.start("no_such_file.txt").err())
+}
+
 #[test]
 fn a_file_that_is_not_there(rt: HostRuntime) -> Result<(), Fail> {
-    let mut files = HostFiles::new(rt, one(rt.alloc(), "no_such_file.txt")?);
-    let missing = files.start("no_such_file.txt").err();
-    assert!(rt; missing == Some(FilesFault::Failed));
+    assert!(rt; fault_of_missing(rt)? == Some(FilesFault::Failed));
     Ok(())
 }
 
@@ -78,24 +85,20 @@ fn reads<F: Files>(files: &mut F, wanted: Option<usize>) -> bool {
     files.read(&mut buf).ok() == wanted
 }
 
-#[test]
-fn starts_that_are_listed_fail(rt: HostRuntime) -> Result<(), Fail> {
-    let mut files = failing_files(rt.alloc(), &[0])?;
-    let started = !files.start("f").is_ok() && files.start("f").is_ok();
-    assert!(rt; started);
-    Ok(())
+fn is_second_start_good(alloc: Global) -> Result<bool, Memory> {
+    let mut files = failing_files(alloc, &[0])?;
+    Ok(files.start("f").is_err() && files.start("f").is_ok())
 }
 
-#[test]
-fn reads_that_are_listed_fail(rt: HostRuntime) -> Result<(), Fail> {
-    let mut files = failing_files(rt.alloc(), &[1])?;
-    let read = files.start("f").is_ok()
-        && reads(&mut files, None)
-        && reads(&mut files, Some(2))
-        && reads(&mut files, Some(1))
-        && reads(&mut files, Some(0));
-    assert!(rt; read);
-    Ok(())
+fn are_reads_good(alloc: Global) -> Result<bool, Memory> {
+    let mut files = failing_files(alloc, &[1])?;
+    Ok(
+        files.start("f").is_ok()
+            && reads(&mut files, None)
+            && reads(&mut files, Some(2))
+            && reads(&mut files, Some(1))
+            && reads(&mut files, Some(0)),
+    )
 }
 
 // Whether three lines come to a sink whose second write fails, but for the second.
@@ -108,28 +111,22 @@ fn is_second_lost(alloc: Global) -> Result<bool, Memory> {
 }
 
 #[test]
-fn writes_that_are_listed_fail(rt: HostRuntime) -> Result<(), Fail> {
+fn calls_that_are_listed_fail(rt: HostRuntime) -> Result<(), Fail> {
+    assert!(rt; is_second_start_good(rt.alloc())?);
+    assert!(rt; are_reads_good(rt.alloc())?);
     assert!(rt; is_second_lost(rt.alloc())?);
     Ok(())
 }
 
-#[test]
-fn an_honest_file(rt: HostRuntime) -> Result<(), Fail> {
-    let content = Bytes::from_slice(rt.alloc(), b"abc")?;
-    let mut files = HonestFiles::new(Text::from_slice(rt.alloc(), b"f")?, content);
-    let read = reads(&mut files, Some(2)) && reads(&mut files, Some(1));
-    assert!(rt; read);
-    Ok(())
+fn is_honest_file_read(alloc: Global) -> Result<bool, Memory> {
+    let content = Bytes::from_slice(alloc, b"abc")?;
+    let mut files = HonestFiles::new(Text::from_slice(alloc, b"f")?, content);
+    Ok(reads(&mut files, Some(2)) && reads(&mut files, Some(1)))
 }
 
 fn is_honest(alloc: Global) -> bool {
     let mut out = HonestSink::new(alloc);
     out.write(b"ab").ok() == Some(2) && out.as_slice() == b"ab".as_slice()
-}
-
-#[test]
-fn an_honest_output(rt: HostRuntime) {
-    assert!(rt; is_honest(rt.alloc()));
 }
 
 // Whether a line comes to a sink of pieces in one piece.
@@ -140,11 +137,6 @@ fn is_one_piece(alloc: Global) -> bool {
         [piece] => written && piece.as_slice() == b"one line\n".as_slice(),
         _ => false,
     }
-}
-
-#[test]
-fn a_line_is_one_piece(rt: HostRuntime) {
-    assert!(rt; is_one_piece(rt.alloc()));
 }
 
 // Takes one byte a write.
@@ -174,6 +166,10 @@ fn is_written_slowly(alloc: Global) -> bool {
 }
 
 #[test]
-fn one_byte_a_write(rt: HostRuntime) {
+fn outputs_get_what_is_written(rt: HostRuntime) -> Result<(), Fail> {
+    assert!(rt; is_honest_file_read(rt.alloc())?);
+    assert!(rt; is_honest(rt.alloc()));
+    assert!(rt; is_one_piece(rt.alloc()));
     assert!(rt; is_written_slowly(rt.alloc()));
+    Ok(())
 }

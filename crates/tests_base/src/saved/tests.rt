@@ -3,8 +3,9 @@ use mich_base::{Link, Memory, Text, Ty};
 use mich_forms::Place;
 use mich_gas::Price;
 use mich_saved::{
-    LoadError, ReadState, put, put_datum, put_eight, put_field, put_four, put_identity, put_mark,
-    put_price, put_signed_eight, put_signed_sixteen, read,
+    Head, LoadError, ReadAccount, ReadContract, ReadState, ReadTotal, put, put_datum, put_eight,
+    put_field, put_four, put_identity, put_mark, put_price, put_signed_eight, put_signed_sixteen,
+    read,
 };
 use mich_term::{Datum, TicketId, Value};
 use std::alloc::Global;
@@ -65,25 +66,115 @@ fn put_contract(out: &mut Vec<u8>, first: i128, second: i128) -> Result<(), Memo
     put_signed_sixteen(out, second)
 }
 
+// The account, the contract and the ticket, each behind its count.
+fn put_holders(alloc: Global, out: &mut Vec<u8>, first: i128, second: i128) -> Result<(), Memory> {
+    put_eight(out, 1)?;
+    put_account(alloc, out)?;
+    put_eight(out, 1)?;
+    put_contract(out, first, second)?;
+    put_eight(out, 1)?;
+    put_identity(alloc, out, &ticket())?;
+    put_signed_sixteen(out, 6)?;
+    put_signed_sixteen(out, 1)
+}
+
 fn snapshot(alloc: Global, first: i128, second: i128) -> Result<Vec<u8>, Memory> {
     let mut out = Vec::new(alloc);
     put_head(&mut out)?;
-    put_eight(&mut out, 1)?;
-    put_account(alloc, &mut out)?;
-    put_eight(&mut out, 1)?;
-    put_contract(&mut out, first, second)?;
-    put_eight(&mut out, 1)?;
-    put_identity(alloc, &mut out, &ticket())?;
-    put_signed_sixteen(&mut out, 6)?;
-    put_signed_sixteen(&mut out, 1)?;
+    put_holders(alloc, &mut out, first, second)?;
     Ok(out)
 }
 
-fn state_of(alloc: Global, bytes: &[u8]) -> Result<ReadState, Fail> {
-    match read(alloc, bytes) {
+// What is read where a contract stores these numbers.
+fn state(alloc: Global, first: i128, second: i128) -> Result<ReadState, Fail> {
+    let bytes = snapshot(alloc, first, second)?;
+    match read(alloc, bytes.as_slice()) {
         Ok(state) => Ok(state),
         Err(_) => Err(Fail::from("not read")),
     }
+}
+
+fn is_head(head: &Head) -> bool {
+    head.moment.chain == [0x7a, 0x06, 0xa7, 0x70]
+        && head.moment.level == 3
+        && head.moment.now == -1
+        && head.pays
+        && head.rate == 250
+        && head.groups == 1
+        && !head.costs_stood
+        && head.started
+}
+
+fn has_sums(state: &ReadState) -> bool {
+    state.prices.len() == 98 && state.fees == 10 && state.storage_burn == 20
+}
+
+fn is_read(alloc: Global) -> Result<bool, Fail> {
+    let state = state(alloc, 1, 2)?;
+    Ok(is_head(&state.head) && has_sums(&state))
+}
+
+// Whether it is the account alone, at its place.
+fn is_account(accounts: &[ReadAccount]) -> bool {
+    match accounts {
+        [account] => {
+            account.place == 851 && account.balance == 90 && account.holdings.len() == 1
+        }
+        _ => false,
+    }
+}
+
+// Whether it is the contract alone, at its place, and its set is kept or not.
+fn is_contract(contracts: &[ReadContract], is_kept: bool) -> bool {
+    match contracts {
+        [contract] => {
+            contract.place == 949
+                && contract.hash == HASH
+                && contract.balance == 7
+                && contract.paid == 300
+                && is_stored(&contract.storage, is_kept)
+        }
+        _ => false,
+    }
+}
+
+fn is_stored(storage: &Option<Value>, is_kept: bool) -> bool {
+    match storage {
+        Some(Value::Set(_)) => is_kept,
+        Some(_) => false,
+        None => !is_kept,
+    }
+}
+
+// Whether it is the ticket alone, at its place.
+fn is_total(tickets: &[ReadTotal]) -> bool {
+    match tickets {
+        [total] => {
+            total.place == 1048
+                && total.minted == 6
+                && total.burnt == 1
+                && matches!(total.id.content, Datum::Number(7))
+        }
+        _ => false,
+    }
+}
+
+// Whether all three are read where a contract stores these numbers, and its set is kept or not.
+fn are_read(alloc: Global, first: i128, second: i128, is_kept: bool) -> Result<bool, Fail> {
+    let state = state(alloc, first, second)?;
+    Ok(
+        is_account(state.accounts.as_slice())
+            && is_contract(state.contracts.as_slice(), is_kept)
+            && is_total(state.tickets.as_slice()),
+    )
+}
+
+#[test]
+fn what_was_written_is_read(rt: HostRuntime) -> Result<(), Fail> {
+    assert!(rt; is_read(rt.alloc())?);
+    assert!(rt; are_read(rt.alloc(), 1, 2, true)?);
+    assert!(rt; are_read(rt.alloc(), 2, 2, false)?);
+    Ok(())
 }
 
 // Where bytes can't be read.
@@ -94,114 +185,134 @@ fn fault_of(alloc: Global, bytes: &[u8]) -> Option<u64> {
     }
 }
 
-#[test]
-fn what_was_written_is_read(rt: HostRuntime) -> Result<(), Fail> {
-    let bytes = snapshot(rt.alloc(), 1, 2)?;
-    let state = state_of(rt.alloc(), bytes.as_slice())?;
-    assert!(rt; state.head.moment.chain == [0x7a, 0x06, 0xa7, 0x70]);
-    assert!(rt; state.head.moment.level == 3 && state.head.moment.now == -1);
-    assert!(rt; state.head.pays && state.head.rate == 250 && state.head.groups == 1);
-    assert!(rt; !state.head.costs_stood && state.head.started);
-    assert!(rt; state.prices.len() == 98 && state.fees == 10 && state.storage_burn == 20);
-    Ok(())
+// How many bytes are left, and where their fault is.
+static CUTS: [(usize, u64); 3] = [(1116, 1101), (990, 985), (7, 0)];
+
+fn is_missed(alloc: Global, count: usize, place: u64) -> Result<bool, Memory> {
+    let mut bytes = snapshot(alloc, 1, 2)?;
+    let is_whole = bytes.len() == 1117;
+    bytes.truncate(count);
+    Ok(is_whole && fault_of(alloc, bytes.as_slice()) == Some(place))
 }
 
-#[test]
-fn holders_are_read_with_their_places(rt: HostRuntime) -> Result<(), Fail> {
-    let bytes = snapshot(rt.alloc(), 1, 2)?;
-    let state = state_of(rt.alloc(), bytes.as_slice())?;
-    for account in state.accounts.as_slice() {
-        assert!(rt; account.place == 851 && account.balance == 90 && account.holdings.len() == 1);
+// Fails with the first count with which the fault is elsewhere.
+fn are_missed(alloc: Global, rows: &[(usize, u64)]) -> Result<(), Fail> {
+    for (count, place) in rows {
+        if !is_missed(alloc, *count, *place)? {
+            return Err(Fail::new(*count));
+        }
     }
-    for contract in state.contracts.as_slice() {
-        assert!(rt; contract.place == 949 && contract.hash == HASH);
-        assert!(rt; contract.balance == 7 && contract.paid == 300);
-        assert!(rt; matches!(&contract.storage, Some(Value::Set(_))));
-    }
-    for total in state.tickets.as_slice() {
-        assert!(rt; total.place == 1048 && total.minted == 6 && total.burnt == 1);
-        assert!(rt; matches!(&total.id.content, Datum::Number(7)));
-    }
-    assert!(rt; state.accounts.len() == 1 && state.contracts.len() == 1);
-    assert!(rt; state.tickets.len() == 1);
-    Ok(())
-}
-
-#[test]
-fn a_set_out_of_order_is_not_kept(rt: HostRuntime) -> Result<(), Fail> {
-    let bytes = snapshot(rt.alloc(), 2, 2)?;
-    let state = state_of(rt.alloc(), bytes.as_slice())?;
-    for contract in state.contracts.as_slice() {
-        assert!(rt; contract.storage.is_none());
-    }
-    assert!(rt; state.tickets.len() == 1);
     Ok(())
 }
 
 #[test]
 fn what_is_cut_off_is_missed_at_its_field(rt: HostRuntime) -> Result<(), Fail> {
-    let mut bytes = snapshot(rt.alloc(), 1, 2)?;
-    assert!(rt; bytes.len() == 1117);
-    bytes.truncate(1116);
-    assert!(rt; fault_of(rt.alloc(), bytes.as_slice()) == Some(1101));
-    bytes.truncate(990);
-    assert!(rt; fault_of(rt.alloc(), bytes.as_slice()) == Some(985));
-    bytes.truncate(7);
-    assert!(rt; fault_of(rt.alloc(), bytes.as_slice()) == Some(0));
-    Ok(())
+    are_missed(rt.alloc(), &CUTS)
+}
+
+// The fault of a snapshot with a byte more.
+fn fault_of_longer(alloc: Global) -> Result<Option<u64>, Memory> {
+    let mut bytes = snapshot(alloc, 1, 2)?;
+    bytes.push(0)?;
+    Ok(fault_of(alloc, bytes.as_slice()))
 }
 
 #[test]
 fn what_stands_behind_is_refused(rt: HostRuntime) -> Result<(), Fail> {
-    let mut bytes = snapshot(rt.alloc(), 1, 2)?;
-    bytes.push(0)?;
-    assert!(rt; fault_of(rt.alloc(), bytes.as_slice()) == Some(1117));
+    assert!(rt; fault_of_longer(rt.alloc())? == Some(1117));
+    Ok(())
+}
+
+// The byte at 24, another place with its byte, and where the fault is.
+type Damage = (u8, usize, u8, u64);
+
+static DAMAGES: [Damage; 3] = [(3, 42, 0, 24), (1, 42, 2, 42), (1, 851, 4, 851)];
+
+fn is_damaged(alloc: Global, damage: &Damage) -> Result<bool, Memory> {
+    let (first, at, byte, place) = *damage;
+    let mut bytes = snapshot(alloc, 1, 2)?;
+    if bytes.len() != 1117 || at >= 1117 {
+        return Ok(false);
+    }
+    bytes[24] = first;
+    bytes[at] = byte;
+    Ok(fault_of(alloc, bytes.as_slice()) == Some(place))
+}
+
+// Fails with the first place at which the fault is not.
+fn are_damaged(alloc: Global, rows: &[Damage]) -> Result<(), Fail> {
+    for damage in rows {
+        if !is_damaged(alloc, damage)? {
+            return Err(Fail::new(damage.3));
+        }
+    }
     Ok(())
 }
 
 #[test]
 fn bytes_outside_a_choice_are_refused(rt: HostRuntime) -> Result<(), Fail> {
-    let mut bytes = snapshot(rt.alloc(), 1, 2)?;
-    assert!(rt; bytes.len() == 1117);
-    bytes[24] = 3;
-    assert!(rt; fault_of(rt.alloc(), bytes.as_slice()) == Some(24));
-    bytes[24] = 1;
-    bytes[42] = 2;
-    assert!(rt; fault_of(rt.alloc(), bytes.as_slice()) == Some(42));
-    bytes[42] = 0;
-    bytes[851] = 4;
-    assert!(rt; fault_of(rt.alloc(), bytes.as_slice()) == Some(851));
-    Ok(())
+    are_damaged(rt.alloc(), &DAMAGES)
 }
 
-#[test]
-fn tickets_are_written_with_their_types(rt: HostRuntime) -> Result<(), Fail> {
-    let alloc = rt.alloc();
-    let option = Ty::Option(Link::new(alloc, Ty::Unit)?);
+fn option_and_bool(alloc: Global) -> Result<Ty, Memory> {
+    let unit = Link::new(alloc, Ty::Unit)?;
+    let option = Link::new(alloc, Ty::Option(unit))?;
+    Ok(Ty::Pair(option, Link::new(alloc, Ty::Bool)?))
+}
+
+fn nothing_and_truth(alloc: Global) -> Result<Datum, Memory> {
     let nothing = Link::new(alloc, Datum::None)?;
-    let truth = Link::new(alloc, Datum::Bool(true))?;
-    let id = TicketId {
+    Ok(Datum::Pair(nothing, Link::new(alloc, Datum::Bool(true))?))
+}
+
+// A ticket of the contract with an option and a truth value.
+fn paired(alloc: Global) -> Result<TicketId, Memory> {
+    let ty = option_and_bool(alloc)?;
+    Ok(TicketId {
         issuer: Place::Contract(HASH),
-        ty: Ty::Pair(Link::new(alloc, option)?, Link::new(alloc, Ty::Bool)?),
-        content: Datum::Pair(nothing, truth),
-    };
+        ty,
+        content: nothing_and_truth(alloc)?,
+    })
+}
+
+fn spelt_ticket(alloc: Global) -> Result<Vec<u8>, Memory> {
+    let id = paired(alloc)?;
     let mut out = Vec::new(alloc);
     put_identity(alloc, &mut out, &id)?;
-    assert!(rt; out.as_slice().starts_with(&HASH));
-    assert!(rt; out.as_slice().ends_with(&[0x65, 0x63, 0x6c, 0x59, 0, 1]));
-    assert!(rt; out.len() == 26);
-    Ok(())
+    Ok(out)
+}
+
+fn is_ticket_spelt(alloc: Global) -> Result<bool, Memory> {
+    let out = spelt_ticket(alloc)?;
+    let bytes = out.as_slice();
+    Ok(
+        bytes.starts_with(&HASH)
+            && bytes.ends_with(&[0x65, 0x63, 0x6c, 0x59, 0, 1])
+            && bytes.len() == 26,
+    )
+}
+
+fn left_text(alloc: Global) -> Result<Datum, Memory> {
+    let text = Text::from_slice(alloc, b"ab")?;
+    Ok(Datum::Left(Link::new(alloc, Datum::Text(text))?))
+}
+
+fn text_and_some(alloc: Global) -> Result<Datum, Memory> {
+    let left = Link::new(alloc, left_text(alloc)?)?;
+    let some = Datum::Some(Link::new(alloc, Datum::Bool(true))?);
+    Ok(Datum::Pair(left, Link::new(alloc, some)?))
+}
+
+fn is_pair_spelt(alloc: Global) -> Result<bool, Memory> {
+    let pair = text_and_some(alloc)?;
+    let mut out = Vec::new(alloc);
+    put_datum(&mut out, &pair)?;
+    Ok(out.as_slice() == [0, 0, 0, 0, 2, b'a', b'b', 1, 1].as_slice())
 }
 
 #[test]
 fn values_are_written_part_by_part(rt: HostRuntime) -> Result<(), Fail> {
-    let alloc = rt.alloc();
-    let text = Datum::Text(Text::from_slice(alloc, b"ab")?);
-    let left = Datum::Left(Link::new(alloc, text)?);
-    let some = Datum::Some(Link::new(alloc, Datum::Bool(true))?);
-    let pair = Datum::Pair(Link::new(alloc, left)?, Link::new(alloc, some)?);
-    let mut out = Vec::new(alloc);
-    put_datum(&mut out, &pair)?;
-    assert!(rt; out.as_slice() == [0, 0, 0, 0, 2, b'a', b'b', 1, 1].as_slice());
+    assert!(rt; is_ticket_spelt(rt.alloc())?);
+    assert!(rt; is_pair_spelt(rt.alloc())?);
     Ok(())
 }

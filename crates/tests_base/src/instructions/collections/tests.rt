@@ -50,20 +50,16 @@ fn with_7(alloc: Global) -> Result<Rows<Value>, StepError> {
     Ok(stack)
 }
 
-#[test]
-fn an_element_is_put(rt: HostRuntime) -> Result<(), Fail> {
-    let stack = with_7(rt.alloc())?;
-    assert!(rt; matches!(stack.as_slice(), [Value::Set(_)]));
-    Ok(())
+fn is_put(alloc: Global) -> Result<bool, StepError> {
+    let stack = with_7(alloc)?;
+    Ok(matches!(stack.as_slice(), [Value::Set(_)]))
 }
 
-#[test]
-fn an_element_is_found(rt: HostRuntime) -> Result<(), Fail> {
-    let mut stack = with_7(rt.alloc())?;
+fn is_found(alloc: Global) -> Result<bool, StepError> {
+    let mut stack = with_7(alloc)?;
     stack.push(Value::Number(7))?;
-    is_member(rt.alloc(), &mut stack)?;
-    assert!(rt; matches!(stack.as_slice(), [Value::Bool(true)]));
-    Ok(())
+    is_member(alloc, &mut stack)?;
+    Ok(matches!(stack.as_slice(), [Value::Bool(true)]))
 }
 
 // The first string behind the second.
@@ -81,10 +77,16 @@ fn is_text(stack: &Rows<Value>, bytes: &[u8]) -> bool {
     }
 }
 
+fn is_joined(alloc: Global) -> Result<bool, StepError> {
+    let mut stack = strings(alloc, b"a", b"b")?;
+    concat(alloc, &mut stack)?;
+    Ok(is_text(&stack, b"ab"))
+}
+
 #[test]
-fn two_strings_are_joined(rt: HostRuntime) -> Result<(), Fail> {
-    let mut stack = strings(rt.alloc(), b"a", b"b")?;
-    concat(rt.alloc(), &mut stack)?;
-    assert!(rt; is_text(&stack, b"ab"));
+fn elements_and_strings(rt: HostRuntime) -> Result<(), Fail> {
+    assert!(rt; is_put(rt.alloc())?);
+    assert!(rt; is_found(rt.alloc())?);
+    assert!(rt; is_joined(rt.alloc())?);
     Ok(())
 }

@@ -49,50 +49,23 @@ fn one_entry(alloc: Global, store: &Store) -> Result<Rows<Value>, Memory>
     Ok(stack)
 }
 
-// What MEM says of a number.
-fn is_member(alloc: Global, key: i128) -> Result<Option<Value>, Memory> {
-    let store = new_store(alloc);
-    let mut stack = one_entry(alloc, &store)?;
-    push(&mut stack, Value::Number(key))?;
-    let gone = big_map_step(alloc, &CollectionRow::MemBigMap, &mut stack, &store)?;
-    drop(gone);
-    Ok(stack.pop())
+// The truth value that is given.
+fn truth_in(value: &Option<Value>) -> Option<bool> {
+    match value {
+        Some(Value::Bool(b)) => Some(*b),
+        _ => None,
+    }
 }
 
-// What GET finds at a number, and what that weighs.
-fn found(alloc: Global, key: i128) -> Result<(u64, Option<Value>), Memory> {
-    let store = new_store(alloc);
-    let mut stack = one_entry(alloc, &store)?;
-    push(&mut stack, Value::Number(key))?;
-    let weight = big_map_weight(alloc, &CollectionRow::GetBigMap, &stack, &store)?;
-    big_map_step(alloc, &CollectionRow::GetBigMap, &mut stack, &store)?;
-    Ok((weight, stack.pop()))
-}
-
-// What GET_AND_UPDATE finds at a number, from where it takes the entry away, and what is left.
-fn taken(alloc: Global, key: i128) -> Result<(Option<Value>, Option<Value>), Memory> {
-    let store = new_store(alloc);
-    let mut stack = one_entry(alloc, &store)?;
-    push(&mut stack, Value::None)?;
-    push(&mut stack, Value::Number(key))?;
-    big_map_step(
-        alloc,
-        &CollectionRow::GetAndUpdateBigMap,
-        &mut stack,
-        &store,
-    )?;
-    let old = stack.pop();
-    Ok((old, stack.pop()))
-}
-
-// The number in an option, or -1.
-fn number_in(value: &Option<Value>) -> i128 {
+// The option of a number that is given.
+fn number_in(value: &Option<Value>) -> Option<Option<i128>> {
     match value {
         Some(Value::Some(inner)) => match inner.get() {
-            Value::Number(n) => *n,
-            _ => -1,
+            Value::Number(n) => Some(Some(*n)),
+            _ => None,
         },
-        _ => -1,
+        Some(Value::None) => Some(None),
+        _ => None,
     }
 }
 
@@ -104,42 +77,49 @@ fn entries_in(value: &Option<Value>) -> usize {
     }
 }
 
-#[test]
-fn an_entry_is_there(rt: HostRuntime) -> Result<(), Fail> {
-    assert!(rt; matches!(is_member(rt.alloc(), 7)?, Some(Value::Bool(true))));
-    Ok(())
+// What MEM says of a number.
+fn is_member(alloc: Global, key: i128) -> Result<Option<bool>, Memory> {
+    let store = new_store(alloc);
+    let mut stack = one_entry(alloc, &store)?;
+    push(&mut stack, Value::Number(key))?;
+    let gone = big_map_step(alloc, &CollectionRow::MemBigMap, &mut stack, &store)?;
+    drop(gone);
+    Ok(truth_in(&stack.pop()))
+}
+
+// What GET finds at a number, and what that weighs.
+fn found(alloc: Global, key: i128) -> Result<(u64, Option<Option<i128>>), Memory> {
+    let store = new_store(alloc);
+    let mut stack = one_entry(alloc, &store)?;
+    push(&mut stack, Value::Number(key))?;
+    let weight = big_map_weight(alloc, &CollectionRow::GetBigMap, &stack, &store)?;
+    big_map_step(alloc, &CollectionRow::GetBigMap, &mut stack, &store)?;
+    Ok((weight, number_in(&stack.pop())))
+}
+
+// What GET_AND_UPDATE finds at a number, from where it takes the entry away, and how many are left.
+fn taken(alloc: Global, key: i128) -> Result<(Option<Option<i128>>, usize), Memory> {
+    let store = new_store(alloc);
+    let mut stack = one_entry(alloc, &store)?;
+    push(&mut stack, Value::None)?;
+    push(&mut stack, Value::Number(key))?;
+    big_map_step(
+        alloc,
+        &CollectionRow::GetAndUpdateBigMap,
+        &mut stack,
+        &store,
+    )?;
+    let old = number_in(&stack.pop());
+    Ok((old, entries_in(&stack.pop())))
 }
 
 #[test]
-fn no_entry_is_there(rt: HostRuntime) -> Result<(), Fail> {
-    assert!(rt; matches!(is_member(rt.alloc(), 8)?, Some(Value::Bool(false))));
-    Ok(())
-}
-
-#[test]
-fn an_entry_is_found_and_weighed(rt: HostRuntime) -> Result<(), Fail> {
-    let (weight, value) = found(rt.alloc(), 7)?;
-    assert!(rt; weight == 1 && number_in(&value) == 5);
-    Ok(())
-}
-
-#[test]
-fn no_entry_is_found_and_weighed(rt: HostRuntime) -> Result<(), Fail> {
-    let (weight, value) = found(rt.alloc(), 8)?;
-    assert!(rt; weight == 0 && matches!(value, Some(Value::None)));
-    Ok(())
-}
-
-#[test]
-fn an_entry_is_taken_away(rt: HostRuntime) -> Result<(), Fail> {
-    let (old, left) = taken(rt.alloc(), 7)?;
-    assert!(rt; number_in(&old) == 5 && entries_in(&left) == 0);
-    Ok(())
-}
-
-#[test]
-fn no_entry_is_taken_away(rt: HostRuntime) -> Result<(), Fail> {
-    let (old, left) = taken(rt.alloc(), 8)?;
-    assert!(rt; matches!(old, Some(Value::None)) && entries_in(&left) == 1);
+fn entries_are_found_and_taken(rt: HostRuntime) -> Result<(), Fail> {
+    assert!(rt; is_member(rt.alloc(), 7)? == Some(true));
+    assert!(rt; is_member(rt.alloc(), 8)? == Some(false));
+    assert!(rt; found(rt.alloc(), 7)? == (1, Some(Some(5))));
+    assert!(rt; found(rt.alloc(), 8)? == (0, Some(None)));
+    assert!(rt; taken(rt.alloc(), 7)? == (Some(Some(5)), 0));
+    assert!(rt; taken(rt.alloc(), 8)? == (Some(None), 1));
     Ok(())
 }

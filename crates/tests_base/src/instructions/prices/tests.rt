@@ -40,13 +40,10 @@ fn number_on_list(alloc: Global) -> Result<Rows<Value>, Memory> {
     )
 }
 
-#[test]
-fn values_are_weighed(rt: HostRuntime) -> Result<(), Fail> {
-    let values = number_on_list(rt.alloc())?;
-    assert!(rt;
-        dropped_weight(rt.alloc(), &values)? == 4 && copied_weight(rt.alloc(), &values)? == 3
-    );
-    Ok(())
+fn dropped_and_copied(alloc: Global) -> Result<(u64, u64), Memory> {
+    let values = number_on_list(alloc)?;
+    let dropped = dropped_weight(alloc, &values)?;
+    Ok((dropped, copied_weight(alloc, &values)?))
 }
 
 // A list of two strings.
@@ -78,11 +75,9 @@ fn number_on_map(alloc: Global, number: i128) -> Result<Rows<Value>, Memory> {
     stack(alloc, Value::Unit, map(alloc)?, Value::Number(number))
 }
 
-#[test]
-fn what_get_finds_is_weighed(rt: HostRuntime) -> Result<(), Fail> {
-    let values = number_on_map(rt.alloc(), 7)?;
-    assert!(rt; get_weight(rt.alloc(), &values)? == 3);
-    Ok(())
+fn found(alloc: Global) -> Result<u64, Memory> {
+    let values = number_on_map(alloc, 7)?;
+    get_weight(alloc, &values)
 }
 
 // What SLICE weighs, where two numbers that aren't negative and a string stand.
@@ -108,9 +103,15 @@ fn cutting(alloc: Global, count: i128, place: i128) -> Result<Rows<Value>, Memor
     )
 }
 
+fn cut(alloc: Global) -> Result<u64, Memory> {
+    let values = cutting(alloc, 3, 1)?;
+    cut_weight(alloc, &values)
+}
+
 #[test]
-fn what_is_cut_is_weighed(rt: HostRuntime) -> Result<(), Fail> {
-    let values = cutting(rt.alloc(), 3, 1)?;
-    assert!(rt; cut_weight(rt.alloc(), &values)? == 3);
+fn values_are_weighed(rt: HostRuntime) -> Result<(), Fail> {
+    assert!(rt; dropped_and_copied(rt.alloc())? == (4, 3));
+    assert!(rt; found(rt.alloc())? == 3);
+    assert!(rt; cut(rt.alloc())? == 3);
     Ok(())
 }

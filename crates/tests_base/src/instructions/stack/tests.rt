@@ -29,34 +29,40 @@ fn number_key(alloc: Global, number: i128) -> Result<Datum, Memory> {
     take_key(alloc, &mut stack)
 }
 
-#[test]
-fn a_value_is_put_in_place_of_others(rt: HostRuntime) -> Result<(), Fail> {
-    let mut stack = numbers(rt.alloc(), 1, 2)?;
+fn is_put(alloc: Global) -> Result<bool, Memory> {
+    let mut stack = numbers(alloc, 1, 2)?;
     push(&mut stack, Value::Number(3))?;
     put(&mut stack, 2, Value::Number(7))?;
-    assert!(rt; matches!(stack.as_slice(), [Value::Number(1), Value::Number(7)]));
-    Ok(())
+    Ok(matches!(stack.as_slice(), [Value::Number(1), Value::Number(7)]))
+}
+
+fn is_put_below(alloc: Global) -> Result<bool, Memory> {
+    let mut stack = numbers(alloc, 1, 2)?;
+    insert_below(alloc, &mut stack, Value::Number(7))?;
+    Ok(matches!(
+        stack.as_slice(),
+        [Value::Number(1), Value::Number(7), Value::Number(2)]
+    ))
+}
+
+// Whether a number is read as a key, and the key as its value.
+fn is_key_read(alloc: Global, number: i128) -> Result<bool, Memory> {
+    let key = number_key(alloc, number)?;
+    let is_key = matches!(key, Datum::Number(n) if n == number);
+    let value = content_value(alloc, &key)?;
+    Ok(is_key && matches!(value, Value::Number(n) if n == number))
+}
+
+fn is_optional(alloc: Global) -> Result<bool, Memory> {
+    let found = optional_value(alloc, Some(Value::Number(5)))?;
+    Ok(matches!(found, Value::Some(_)))
 }
 
 #[test]
-fn a_value_is_put_below_the_top(rt: HostRuntime) -> Result<(), Fail> {
-    let mut stack = numbers(rt.alloc(), 1, 2)?;
-    insert_below(rt.alloc(), &mut stack, Value::Number(7))?;
-    assert!(rt;
-        matches!(
-            stack.as_slice(),
-            [Value::Number(1), Value::Number(7), Value::Number(2)]
-        )
-    );
-    Ok(())
-}
-
-#[test]
-fn a_key_and_its_value_are_read(rt: HostRuntime) -> Result<(), Fail> {
-    let key = number_key(rt.alloc(), 7)?;
-    assert!(rt; matches!(key, Datum::Number(7)));
-    assert!(rt; matches!(content_value(rt.alloc(), &key)?, Value::Number(7)));
-    let found = optional_value(rt.alloc(), Some(Value::Number(5)))?;
-    assert!(rt; matches!(found, Value::Some(_)));
+fn values_are_put_and_read(rt: HostRuntime) -> Result<(), Fail> {
+    assert!(rt; is_put(rt.alloc())?);
+    assert!(rt; is_put_below(rt.alloc())?);
+    assert!(rt; is_key_read(rt.alloc(), 7)?);
+    assert!(rt; is_optional(rt.alloc())?);
     Ok(())
 }

@@ -66,46 +66,6 @@ fn some(alloc: Global, stack: &mut Rows<Value>) -> Result<(), StepError> {
     union_step(alloc, &UnionRow::Some, stack)
 }
 
-#[test]
-fn the_first_number_is_the_one_on_top(rt: HostRuntime) -> Result<(), Fail> {
-    let mut stack = numbers(rt.alloc(), 3, 10)?;
-    subtract(rt.alloc(), &mut stack)?;
-    assert!(rt; matches!(stack.as_slice(), [Value::Number(7)]));
-    Ok(())
-}
-
-#[test]
-fn two_numbers_are_compared(rt: HostRuntime) -> Result<(), Fail> {
-    let mut stack = numbers(rt.alloc(), 3, 10)?;
-    compare(&mut stack)?;
-    assert!(rt; matches!(stack.as_slice(), [Value::Number(1)]));
-    Ok(())
-}
-
-#[test]
-fn two_values_are_swapped(rt: HostRuntime) -> Result<(), Fail> {
-    let mut stack = numbers(rt.alloc(), 3, 10)?;
-    swap(rt.alloc(), &mut stack)?;
-    assert!(rt; matches!(stack.as_slice(), [Value::Number(10), Value::Number(3)]));
-    Ok(())
-}
-
-#[test]
-fn an_option_is_made(rt: HostRuntime) -> Result<(), Fail> {
-    let mut stack = numbers(rt.alloc(), 3, 10)?;
-    some(rt.alloc(), &mut stack)?;
-    assert!(rt; matches!(stack.as_slice(), [Value::Number(3), Value::Some(_)]));
-    Ok(())
-}
-
-#[test]
-fn a_pair_is_made(rt: HostRuntime) -> Result<(), Fail> {
-    let mut stack = numbers(rt.alloc(), 3, 10)?;
-    pair(rt.alloc(), &mut stack)?;
-    assert!(rt; matches!(stack.as_slice(), [Value::Pair(_, _)]));
-    Ok(())
-}
-
 const ACCOUNT: KeyHash = KeyHash {
     tag: 0,
     hash: [1; 20],
@@ -125,10 +85,68 @@ fn env() -> Env {
     }
 }
 
-#[test]
-fn the_amount_is_read(rt: HostRuntime) -> Result<(), Fail> {
-    let mut stack = numbers(rt.alloc(), 1, 2)?;
-    environment_step(rt.alloc(), &env(), &EnvironmentRow::Amount, &mut stack)?;
-    assert!(rt; matches!(stack.as_slice(), [_, _, Value::Number(6)]));
+enum Instruction {
+    Subtract,
+    Compare,
+    Swap,
+    Some,
+    Pair,
+    Amount,
+}
+
+fn take(
+    alloc: Global,
+    instruction: &Instruction,
+    stack: &mut Rows<Value>,
+) -> Result<(), StepError> {
+    match instruction {
+        Instruction::Subtract => subtract(alloc, stack),
+        Instruction::Compare => compare(stack),
+        Instruction::Swap => swap(alloc, stack),
+        Instruction::Some => some(alloc, stack),
+        Instruction::Pair => pair(alloc, stack),
+        Instruction::Amount => environment_step(alloc, &env(), &EnvironmentRow::Amount, stack),
+    }
+}
+
+// Whether this is to stand after 3 and, on top of it, 10.
+fn is_right(instruction: &Instruction, stack: &[Value]) -> bool {
+    match instruction {
+        Instruction::Subtract => matches!(stack, [Value::Number(7)]),
+        Instruction::Compare => matches!(stack, [Value::Number(1)]),
+        Instruction::Swap => matches!(stack, [Value::Number(10), Value::Number(3)]),
+        Instruction::Some => matches!(stack, [Value::Number(3), Value::Some(_)]),
+        Instruction::Pair => matches!(stack, [Value::Pair(_, _)]),
+        Instruction::Amount => matches!(stack, [_, _, Value::Number(6)]),
+    }
+}
+
+fn is_taken(alloc: Global, instruction: &Instruction) -> Result<bool, StepError> {
+    let mut stack = numbers(alloc, 3, 10)?;
+    take(alloc, instruction, &mut stack)?;
+    Ok(is_right(instruction, stack.as_slice()))
+}
+
+static INSTRUCTIONS: [(&'static str, Instruction); 6] = [
+    ("the first number is the one on top", Instruction::Subtract),
+    ("two numbers are compared", Instruction::Compare),
+    ("two values are swapped", Instruction::Swap),
+    ("an option is made", Instruction::Some),
+    ("a pair is made", Instruction::Pair),
+    ("the amount is read", Instruction::Amount),
+];
+
+// Fails with the first row of which this is not so.
+fn are_taken(alloc: Global, rows: &[(&'static str, Instruction)]) -> Result<(), Fail> {
+    for (what, instruction) in rows {
+        if !is_taken(alloc, instruction)? {
+            return Err(Fail::new(*what));
+        }
+    }
     Ok(())
+}
+
+#[test]
+fn instructions_are_taken(rt: HostRuntime) -> Result<(), Fail> {
+    are_taken(rt.alloc(), &INSTRUCTIONS)
 }
