@@ -2,6 +2,7 @@
 use mich_base::Memory;
 use mich_forms::{KeyHash, Place};
 use mich_snapshot::{LoadError, load};
+use mich_world::World;
 use std::alloc::Global;
 use std::test::Fail;
 
@@ -42,17 +43,27 @@ fn put_account(out: &mut Vec<u8>, number: u8, balance: u8) -> Result<(), Memory>
     put_eight(out, 0)
 }
 
+// All that stands before the accounts.
+fn put_front(out: &mut Vec<u8>, fees: u8) -> Result<(), Memory> {
+    put_head(out)?;
+    put_prices(out)?;
+    put_sums(out, fees)
+}
+
+// Two accounts, no contract and no ticket.
+fn put_accounts(out: &mut Vec<u8>, first: u8, second: u8) -> Result<(), Memory> {
+    put_eight(out, 2)?;
+    put_account(out, first, 90)?;
+    put_account(out, second, 1)?;
+    put_eight(out, 0)?;
+    put_eight(out, 0)
+}
+
 // A snapshot of two accounts, where 10 mutez of fees were taken.
 fn two_accounts(alloc: Global, first: u8, second: u8) -> Result<Vec<u8>, Memory> {
     let mut out = Vec::new(alloc);
-    put_head(&mut out)?;
-    put_prices(&mut out)?;
-    put_sums(&mut out, 10)?;
-    put_eight(&mut out, 2)?;
-    put_account(&mut out, first, 90)?;
-    put_account(&mut out, second, 1)?;
-    put_eight(&mut out, 0)?;
-    put_eight(&mut out, 0)?;
+    put_front(&mut out, 10)?;
+    put_accounts(&mut out, first, second)?;
     Ok(out)
 }
 
@@ -76,27 +87,35 @@ fn put_sixteen(out: &mut Vec<u8>, number: u8) -> Result<(), Memory> {
     put_eight(out, number)
 }
 
+// No account, and a contract that stores so many of its tickets.
+fn put_contract(out: &mut Vec<u8>, stored: u8) -> Result<(), Memory> {
+    put_eight(out, 0)?;
+    put_eight(out, 1)?;
+    out.extend_from_slice(&HASH)?;
+    put_eight(out, 5)?;
+    put_eight(out, 0)?;
+    out.extend_from_slice(&[0, 0, 0, 32])?;
+    out.extend_from_slice(script())?;
+    put_eight(out, 1)?;
+    out.extend_from_slice(&HASH)?;
+    put_sixteen(out, 7)?;
+    put_sixteen(out, stored)
+}
+
+// How many tickets were minted and burnt.
+fn put_totals(out: &mut Vec<u8>, minted: u8, burnt: u8) -> Result<(), Memory> {
+    put_eight(out, 1)?;
+    put_identity(out)?;
+    put_sixteen(out, minted)?;
+    put_sixteen(out, burnt)
+}
+
 // A snapshot of a contract that stores so many of its tickets, of which so many were minted and burnt.
 fn tickets(alloc: Global, stored: u8, minted: u8, burnt: u8) -> Result<Vec<u8>, Memory> {
     let mut out = Vec::new(alloc);
-    put_head(&mut out)?;
-    put_prices(&mut out)?;
-    put_sums(&mut out, 0)?;
-    put_eight(&mut out, 0)?;
-    put_eight(&mut out, 1)?;
-    out.extend_from_slice(&HASH)?;
-    put_eight(&mut out, 5)?;
-    put_eight(&mut out, 0)?;
-    out.extend_from_slice(&[0, 0, 0, 32])?;
-    out.extend_from_slice(script())?;
-    put_eight(&mut out, 1)?;
-    out.extend_from_slice(&HASH)?;
-    put_sixteen(&mut out, 7)?;
-    put_sixteen(&mut out, stored)?;
-    put_eight(&mut out, 1)?;
-    put_identity(&mut out)?;
-    put_sixteen(&mut out, minted)?;
-    put_sixteen(&mut out, burnt)?;
+    put_front(&mut out, 0)?;
+    put_contract(&mut out, stored)?;
+    put_totals(&mut out, minted, burnt)?;
     Ok(out)
 }
 
@@ -121,39 +140,72 @@ fn account(number: u8) -> Place {
     Place::Implicit(KeyHash { tag: 0, hash })
 }
 
+fn has_balances(world: &World) -> bool {
+    world.balance(account(1)) == Some(90)
+        && world.balance(account(2)) == Some(1)
+        && world.supply() == 101
+}
+
+fn is_loaded(alloc: Global, bytes: &[u8]) -> bool {
+    match load(alloc, bytes) {
+        Ok(state) => {
+            has_balances(&state.world) && state.groups == 1 && state.started && !state.costs_stood
+        }
+        Err(_) => false,
+    }
+}
+
+fn are_balances_loaded(alloc: Global) -> Result<bool, Memory> {
+    let bytes = two_accounts(alloc, 1, 2)?;
+    Ok(is_loaded(alloc, bytes.as_slice()))
+}
+
 #[test]
 fn balances_are_loaded(rt: HostRuntime) -> Result<(), Fail> {
-    let bytes = two_accounts(rt.alloc(), 1, 2)?;
-    let Ok(state) = load(rt.alloc(), bytes.as_slice()) else {
-        return Err(Fail::from("not loaded"));
-    };
-    assert!(rt; state.world.balance(account(1)) == Some(90));
-    assert!(rt; state.world.balance(account(2)) == Some(1));
-    assert!(rt; state.world.supply() == 101);
-    assert!(rt; state.groups == 1 && state.started && !state.costs_stood);
+    assert!(rt; are_balances_loaded(rt.alloc())?);
     Ok(())
+}
+
+// Why so many bytes of a snapshot of these accounts are refused.
+fn refusal_of_accounts(
+    alloc: Global,
+    first: u8,
+    second: u8,
+    count: usize,
+) -> Result<Option<Refusal>, Memory> {
+    let mut bytes = two_accounts(alloc, first, second)?;
+    bytes.truncate(count);
+    Ok(refusal_of(alloc, bytes.as_slice()))
 }
 
 #[test]
 fn what_is_cut_off_is_missed_at_its_field(rt: HostRuntime) -> Result<(), Fail> {
-    let mut bytes = two_accounts(rt.alloc(), 1, 2)?;
-    bytes.truncate(940);
-    assert!(rt; refusal_of(rt.alloc(), bytes.as_slice()) == Some(Refusal::BadForm(933)));
-    bytes.truncate(7);
-    assert!(rt; refusal_of(rt.alloc(), bytes.as_slice()) == Some(Refusal::BadForm(0)));
+    let alloc = rt.alloc();
+    assert!(rt; refusal_of_accounts(alloc, 1, 2, 940)? == Some(Refusal::BadForm(933)));
+    assert!(rt; refusal_of_accounts(alloc, 1, 2, 7)? == Some(Refusal::BadForm(0)));
     Ok(())
 }
 
 #[test]
 fn accounts_out_of_order_are_unsound(rt: HostRuntime) -> Result<(), Fail> {
-    let bytes = two_accounts(rt.alloc(), 2, 1)?;
-    assert!(rt; refusal_of(rt.alloc(), bytes.as_slice()) == Some(Refusal::Unsound(888)));
+    let refusal = refusal_of_accounts(rt.alloc(), 2, 1, 941)?;
+    assert!(rt; refusal == Some(Refusal::Unsound(888)));
     Ok(())
+}
+
+fn refusal_of_tickets(
+    alloc: Global,
+    stored: u8,
+    minted: u8,
+    burnt: u8,
+) -> Result<Option<Refusal>, Memory> {
+    let bytes = tickets(alloc, stored, minted, burnt)?;
+    Ok(refusal_of(alloc, bytes.as_slice()))
 }
 
 #[test]
 fn tickets_that_are_not_there_are_unsound(rt: HostRuntime) -> Result<(), Fail> {
-    let bytes = tickets(rt.alloc(), 3, 5, 1)?;
-    assert!(rt; refusal_of(rt.alloc(), bytes.as_slice()) == Some(Refusal::Unsound(999)));
+    let refusal = refusal_of_tickets(rt.alloc(), 3, 5, 1)?;
+    assert!(rt; refusal == Some(Refusal::Unsound(999)));
     Ok(())
 }
