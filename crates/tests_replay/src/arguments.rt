@@ -16,7 +16,7 @@ const NOWHERE: &str = "0x01000000000000000900000000000000000000000000";
 // The type of a parameter, an argument, and whether it is of that type; if not, the location of its fault.
 type Row = (&'static str, &'static str, Option<u32>);
 
-const ARGUMENTS: [Row; 10] = [
+static ARGUMENTS: [Row; 10] = [
     ("(contract unit)", ACCOUNT, None),
     ("(contract int)", ACCOUNT, Some(0)),
     ("(contract (or int string))", CONTRACT, None),

@@ -2,7 +2,7 @@
 use crate::examples::{Example, are_answered};
 use std::test::Fail;
 
-const CASES: [Example; 7] = [
+static CASES: [Example; 7] = [
     (
         "certify",
         "parameter unit; storage unit; code { CDR ; NIL operation ; PAIR }",

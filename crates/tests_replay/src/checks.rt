@@ -54,7 +54,7 @@ fn views_are_told(alloc: Global, rows: &[Row]) -> Result<(), Fail> {
 }
 
 // An unknown name or a wrong number of arguments comes before all else of an instruction.
-const NAMES: [Row; 20] = [
+const NAMES_AND_NUMBERS_OF_ARGUMENTS_COME_FIRST: [Row; 20] = [
     ("FOO", Some(7)),
     // A type's name.
     ("unit", Some(7)),
@@ -79,13 +79,8 @@ const NAMES: [Row; 20] = [
     ("CREATE_CONTRACT", Some(7)),
 ];
 
-#[test]
-fn names_and_numbers_of_arguments_come_first(rt: HostRuntime) -> Result<(), Fail> {
-    codes_are_told(rt.alloc(), &NAMES)
-}
-
 // The arguments come from left to right, and before the stack, which fits none of these.
-const ARGUMENTS: [Row; 20] = [
+const ARGUMENTS_COME_BEFORE_THE_STACK: [Row; 20] = [
     ("NONE foo", Some(8)),
     ("EMPTY_SET (list int)", Some(8)),
     // The key's attribute before the value.
@@ -109,13 +104,8 @@ const ARGUMENTS: [Row; 20] = [
     ("CAST (pair foo unit)", Some(9)),
 ];
 
-#[test]
-fn arguments_come_before_the_stack(rt: HostRuntime) -> Result<(), Fail> {
-    codes_are_told(rt.alloc(), &ARGUMENTS)
-}
-
 // So do the arguments of instructions with bodies, and names in annotations come before the arguments.
-const ARGUMENTS_OF_BODIES: [Row; 15] = [
+const ARGUMENTS_COME_BEFORE_BODIES: [Row; 15] = [
     ("DIP 1024 5", Some(8)),
     ("DIP {} 5", Some(8)),
     ("LAMBDA foo bar 5", Some(8)),
@@ -135,13 +125,8 @@ const ARGUMENTS_OF_BODIES: [Row; 15] = [
     ("EMIT @abcdefghijklmnopqrstuvwxyz012345 foo", Some(8)),
 ];
 
-#[test]
-fn arguments_come_before_bodies(rt: HostRuntime) -> Result<(), Fail> {
-    codes_are_told(rt.alloc(), &ARGUMENTS_OF_BODIES)
-}
-
 // The stack comes before bodies, literals and scripts.
-const STACKS: [Row; 20] = [
+const THE_STACK_COMES_BEFORE_BODIES: [Row; 20] = [
     ("ADD", Some(7)),
     ("DROP 2", Some(7)),
     ("DIG 1", Some(7)),
@@ -172,13 +157,8 @@ const STACKS: [Row; 20] = [
     ),
 ];
 
-#[test]
-fn the_stack_comes_before_bodies(rt: HostRuntime) -> Result<(), Fail> {
-    codes_are_told(rt.alloc(), &STACKS)
-}
-
 // Values that hold tickets are not copied, and what is sent is of the contract's type.
-const TICKETS: [Row; 7] = [
+const WHAT_IS_NOT_DUPLICABLE_IS_NOT_COPIED: [Row; 7] = [
     ("PUSH nat 1; PUSH nat 1; TICKET; DUP", Some(14)),
     ("PUSH nat 1; PUSH nat 1; TICKET; UNIT; DUP 2", Some(15)),
     ("EMPTY_MAP int (ticket nat); PUSH int 1; GET", Some(14)),
@@ -195,13 +175,8 @@ const TICKETS: [Row; 7] = [
     ),
 ];
 
-#[test]
-fn what_is_not_duplicable_is_not_copied(rt: HostRuntime) -> Result<(), Fail> {
-    codes_are_told(rt.alloc(), &TICKETS)
-}
-
 // Bodies come from left to right, each first for being a sequence, and before what they leave.
-const BODIES: [Row; 20] = [
+const BODIES_COME_FROM_LEFT_TO_RIGHT: [Row; 20] = [
     ("PUSH bool True; IF 5 { FOO }", Some(11)),
     ("PUSH bool True; IF {} UNIT", Some(12)),
     ("PUSH bool True; IF { FOO } 5", Some(12)),
@@ -226,13 +201,8 @@ const BODIES: [Row; 20] = [
     ("{ { FOO } }", Some(9)),
 ];
 
-#[test]
-fn bodies_come_from_left_to_right(rt: HostRuntime) -> Result<(), Fail> {
-    codes_are_told(rt.alloc(), &BODIES)
-}
-
 // A literal comes as a whole before the bodies in it, which come in pre-order; a body that ends with another stack is at the body.
-const LITERALS: [Row; 20] = [
+const LITERALS_COME_BEFORE_THE_BODIES_IN_THEM: [Row; 20] = [
     ("PUSH int \"a\"", Some(9)),
     ("PUSH (pair int nat) (Pair 1 -1)", Some(13)),
     ("PUSH (set int) { 2; 1 }", Some(12)),
@@ -276,13 +246,8 @@ const LITERALS: [Row; 20] = [
     ("PUSH string \"\\t\"", Some(9)),
 ];
 
-#[test]
-fn literals_come_before_the_bodies_in_them(rt: HostRuntime) -> Result<(), Fail> {
-    codes_are_told(rt.alloc(), &LITERALS)
-}
-
 // What branches and bodies leave is at the instruction.
-const RESULTS: [Row; 19] = [
+const WHAT_BODIES_LEAVE_IS_AT_THE_INSTRUCTION: [Row; 19] = [
     ("PUSH bool True; IF { UNIT } {}", Some(10)),
     ("PUSH bool True; IF {} { UNIT }", Some(10)),
     ("NONE int; IF_NONE {} {}", Some(9)),
@@ -304,13 +269,8 @@ const RESULTS: [Row; 19] = [
     ("PUSH (lambda int int) { DUP }", Some(11)),
 ];
 
-#[test]
-fn what_bodies_leave_is_at_the_instruction(rt: HostRuntime) -> Result<(), Fail> {
-    codes_are_told(rt.alloc(), &RESULTS)
-}
-
 // What fails is last in its block. Bodies of loops and lambdas and one of two branches may fail.
-const FAILING: [Row; 16] = [
+const WHAT_FAILS_IS_LAST: [Row; 16] = [
     ("FAILWITH; FOO", Some(7)),
     ("{ FAILWITH }; FAILWITH", Some(7)),
     ("UNIT; { { FAILWITH } }; FOO", Some(8)),
@@ -341,25 +301,15 @@ const FAILING: [Row; 16] = [
     ("LAMBDA_REC int unit { FAILWITH }; FAILWITH", None),
 ];
 
-#[test]
-fn what_fails_is_last(rt: HostRuntime) -> Result<(), Fail> {
-    codes_are_told(rt.alloc(), &FAILING)
-}
-
 // The code ends with the operations and the storage, or fails.
-const ENDS: [Row; 3] = [
+const CODE_ENDS_WITH_OPERATIONS_AND_THE_STORAGE: [Row; 3] = [
     ("CDR; NIL operation; PAIR", None),
     ("FAILWITH", None),
     ("{ { CDR; NIL operation }; PAIR }", None),
 ];
 
-#[test]
-fn code_ends_with_operations_and_the_storage(rt: HostRuntime) -> Result<(), Fail> {
-    codes_are_told(rt.alloc(), &ENDS)
-}
-
 // Code or a view that ends with another stack is at its body.
-const CODE_ENDS: [Row; 10] = [
+const CODE_THAT_ENDS_OTHERWISE_IS_AT_ITS_BODY: [Row; 10] = [
     ("parameter unit; storage unit; code {}", Some(6)),
     ("parameter unit; storage unit; code { CDR }", Some(6)),
     ("parameter unit; storage unit; code { UNIT }", Some(6)),
@@ -393,13 +343,8 @@ const CODE_ENDS: [Row; 10] = [
     ),
 ];
 
-#[test]
-fn code_that_ends_otherwise_is_at_its_body(rt: HostRuntime) -> Result<(), Fail> {
-    all_are_told(rt.alloc(), &CODE_ENDS)
-}
-
 // In a view SELF has no place, nor have TRANSFER_TOKENS and CREATE_CONTRACT outside of lambdas.
-const VIEWS: [Row; 12] = [
+static VIEWS: [Row; 12] = [
     ("SELF", Some(10)),
     ("TRANSFER_TOKENS", Some(10)),
     (
@@ -440,7 +385,7 @@ fn views_send_nothing(rt: HostRuntime) -> Result<(), Fail> {
 }
 
 // In the body of a lambda SELF has no place, wherever the lambda stands.
-const LAMBDA_PLACES: [Row; 7] = [
+const LAMBDAS_HAVE_NO_SELF: [Row; 7] = [
     ("LAMBDA unit unit { SELF }", Some(11)),
     ("LAMBDA_REC unit unit { SELF }", Some(11)),
     ("PUSH (lambda unit unit) { SELF }", Some(12)),
@@ -450,13 +395,8 @@ const LAMBDA_PLACES: [Row; 7] = [
     ("PUSH bool True; IF { SELF; DROP } {}; FAILWITH", None),
 ];
 
-#[test]
-fn lambdas_have_no_self(rt: HostRuntime) -> Result<(), Fail> {
-    codes_are_told(rt.alloc(), &LAMBDA_PLACES)
-}
-
 // SELF names an entrypoint of its script by the first field annotation, if that is not empty; the root by the section's before the type's.
-const SELVES: [Row; 14] = [
+const SELF_NAMES_AN_ENTRYPOINT_OF_ITS_OWN_SCRIPT: [Row; 14] = [
     (
         "parameter (or (int %a) (nat %b)); storage unit; code { SELF %a; PUSH mutez 0; PUSH int 1; TRANSFER_TOKENS; DROP; FAILWITH }",
         None,
@@ -521,13 +461,8 @@ const SELVES: [Row; 14] = [
     ),
 ];
 
-#[test]
-fn self_names_an_entrypoint_of_its_own_script(rt: HostRuntime) -> Result<(), Fail> {
-    all_are_told(rt.alloc(), &SELVES)
-}
-
 // The script of CREATE_CONTRACT has its own faults, before its storage is compared with what is given.
-const CREATED: [Row; 13] = [
+const SCRIPTS_WITHIN_ARE_TRIED_AS_SCRIPTS: [Row; 13] = [
     (
         "UNIT; PUSH mutez 0; NONE key_hash; CREATE_CONTRACT { parameter unit; storage unit; code { CDR; NIL operation; PAIR } }; \
             DROP 2; FAILWITH",
@@ -589,14 +524,9 @@ const CREATED: [Row; 13] = [
     ),
 ];
 
-#[test]
-fn scripts_within_are_tried_as_scripts(rt: HostRuntime) -> Result<(), Fail> {
-    codes_are_told(rt.alloc(), &CREATED)
-}
-
 // Sections come from left to right and before a missing one, then the parameter, the storage, the types of views, the code and
 // the bodies of views.
-const SECTIONS: [Row; 20] = [
+const SECTIONS_COME_BEFORE_TYPES_AND_TYPES_BEFORE_BODIES: [Row; 20] = [
     ("", Some(0)),
     ("5", Some(1)),
     ("{}; parameter unit", Some(1)),
@@ -649,13 +579,8 @@ const SECTIONS: [Row; 20] = [
     ),
 ];
 
-#[test]
-fn sections_come_before_types_and_types_before_bodies(rt: HostRuntime) -> Result<(), Fail> {
-    all_are_told(rt.alloc(), &SECTIONS)
-}
-
 // Sections have the arguments and names of their forms, and a name over 31 characters is at the node that carries it.
-const MORE_SECTIONS: [Row; 16] = [
+const SECTIONS_HAVE_ARGUMENTS_AND_NAMES_OF_THEIR_FORMS: [Row; 16] = [
     ("parameter unit; storage unit; foo; code {}", Some(5)),
     ("parameter unit; storage unit; code 5", Some(5)),
     ("parameter unit; storage unit; code {} {}", Some(5)),
@@ -704,11 +629,6 @@ const MORE_SECTIONS: [Row; 16] = [
     ),
 ];
 
-#[test]
-fn sections_have_arguments_and_names_of_their_forms(rt: HostRuntime) -> Result<(), Fail> {
-    all_are_told(rt.alloc(), &MORE_SECTIONS)
-}
-
 // A script with two types, which are pairs of so many numbers, the second left out for none; and the location of its fault.
 type Wide = (
     &'static str,
@@ -754,7 +674,7 @@ fn wide_are_told(alloc: Global, rows: &[Wide]) -> Result<(), Fail> {
 }
 
 // A comb of 1,000 numbers has 1,999 nodes.
-const WIDE: [Wide; 17] = [
+const TYPES_OF_SCRIPTS_AND_LAMBDAS_HAVE_AT_MOST_2000_NODES: [Wide; 17] = [
     // An option of 2,000 nodes.
     (
         "parameter unit; storage unit; code { NONE ",
@@ -899,13 +819,8 @@ const WIDE: [Wide; 17] = [
     ),
 ];
 
-#[test]
-fn types_of_scripts_and_lambdas_have_at_most_2000_nodes(rt: HostRuntime) -> Result<(), Fail> {
-    wide_are_told(rt.alloc(), &WIDE)
-}
-
 // What an instruction newly puts on the stack is within the limit, else it is at the instruction.
-const WIDE_RESULTS: [Wide; 11] = [
+const TYPES_OF_RESULTS_HAVE_AT_MOST_2000_NODES: [Wide; 11] = [
     (
         "parameter unit; storage unit; code { NONE ",
         999,
@@ -996,7 +911,56 @@ const WIDE_RESULTS: [Wide; 11] = [
     ),
 ];
 
+// Code, by what it shows.
+static CODE: [&'static [Row]; 12] = [
+    &NAMES_AND_NUMBERS_OF_ARGUMENTS_COME_FIRST,
+    &ARGUMENTS_COME_BEFORE_THE_STACK,
+    &ARGUMENTS_COME_BEFORE_BODIES,
+    &THE_STACK_COMES_BEFORE_BODIES,
+    &WHAT_IS_NOT_DUPLICABLE_IS_NOT_COPIED,
+    &BODIES_COME_FROM_LEFT_TO_RIGHT,
+    &LITERALS_COME_BEFORE_THE_BODIES_IN_THEM,
+    &WHAT_BODIES_LEAVE_IS_AT_THE_INSTRUCTION,
+    &WHAT_FAILS_IS_LAST,
+    &CODE_ENDS_WITH_OPERATIONS_AND_THE_STORAGE,
+    &LAMBDAS_HAVE_NO_SELF,
+    &SCRIPTS_WITHIN_ARE_TRIED_AS_SCRIPTS,
+];
+
 #[test]
-fn types_of_results_have_at_most_2000_nodes(rt: HostRuntime) -> Result<(), Fail> {
-    wide_are_told(rt.alloc(), &WIDE_RESULTS)
+fn faults_of_code(rt: HostRuntime) -> Result<(), Fail> {
+    for rows in &CODE {
+        codes_are_told(rt.alloc(), rows)?;
+    }
+    Ok(())
+}
+
+// Scripts, by what they show.
+static SCRIPTS: [&'static [Row]; 4] = [
+    &CODE_THAT_ENDS_OTHERWISE_IS_AT_ITS_BODY,
+    &SELF_NAMES_AN_ENTRYPOINT_OF_ITS_OWN_SCRIPT,
+    &SECTIONS_COME_BEFORE_TYPES_AND_TYPES_BEFORE_BODIES,
+    &SECTIONS_HAVE_ARGUMENTS_AND_NAMES_OF_THEIR_FORMS,
+];
+
+#[test]
+fn faults_of_scripts(rt: HostRuntime) -> Result<(), Fail> {
+    for rows in &SCRIPTS {
+        all_are_told(rt.alloc(), rows)?;
+    }
+    Ok(())
+}
+
+// Types of scripts and lambdas, and of results.
+static WIDE_TYPES: [&'static [Wide]; 2] = [
+    &TYPES_OF_SCRIPTS_AND_LAMBDAS_HAVE_AT_MOST_2000_NODES,
+    &TYPES_OF_RESULTS_HAVE_AT_MOST_2000_NODES,
+];
+
+#[test]
+fn types_have_at_most_2000_nodes(rt: HostRuntime) -> Result<(), Fail> {
+    for rows in &WIDE_TYPES {
+        wide_are_told(rt.alloc(), rows)?;
+    }
+    Ok(())
 }

@@ -7,7 +7,7 @@ use std::test::Fail;
 // A command, the file, the status, and what is written.
 pub(crate) type Example = (&'static str, &'static str, u8, &'static str);
 
-const EXAMPLES: [Example; 11] = [
+static EXAMPLES: [Example; 11] = [
     (
         "replay",
         "Chain 0x7a06a770 1 0;\n\

@@ -13,7 +13,7 @@ use std::alloc::Global;
 use std::test::Fail;
 
 // The words of a command over a file, its content, and its line.
-const COMMANDS: [(&str, &str, &str); 4] = [
+static COMMANDS: [(&str, &str, &str); 4] = [
     (
         "check",
         "parameter unit; storage unit; code { CAR; NIL operation; PAIR }",
@@ -131,7 +131,7 @@ const FIRST: &str =
 const SECOND: &str =
     "Group 0x000000000000000000000000000000000000000001 { Call 10 100 2 0x00000000000000000000000000000000000000000002 \"default\" Unit };";
 
-const LINES: [&str; 6] = [
+static LINES: [&str; 6] = [
     "Group 1 { Applied 1 { Transfer 0x00000000000000000000000000000000000000000001 0x00000000000000000000000000000000000000000002 1 Unit \
         {} } }\n",
     "Group 2 { Applied 1 { Transfer 0x00000000000000000000000000000000000000000001 0x00000000000000000000000000000000000000000002 2 Unit \
@@ -160,7 +160,7 @@ fn long_file(alloc: Global) -> Result<String, Memory> {
 // piece each, call 4 finds the end, and there is no call 9. What a piece closes is written before the next is read.
 type Break = (u64, u64, u8, usize);
 
-const BROKEN: [Break; 10] = [
+static BROKEN: [Break; 10] = [
     (9, 9, 0, 6),
     (1, 9, 3, 0),
     (2, 9, 3, 1),
@@ -211,7 +211,7 @@ fn pieces_of_a_byte(rt: HostRuntime) -> Result<(), Fail> {
 }
 
 // Two words that are no command.
-const NO_COMMANDS: [(&str, &str); 7] = [
+static NO_COMMANDS: [(&str, &str); 7] = [
     ("replay", "-f"),
     ("check", "--help"),
     ("pack", "-"),

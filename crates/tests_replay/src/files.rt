@@ -40,28 +40,27 @@ fn is_moved(alloc: Global, fee: u64, amount: u64, lines: &[&str]) -> Result<bool
     is_answered(alloc, "replay", file.as_str(), 0, written.as_str())
 }
 
+// The fee and the amount of a call, and its lines.
+static MOVES: [(u64, u64, [&'static str; 5]); 4] = [
+    (10, 1, TRANSFER),
+    (10, 0, NOTHING_IS_MOVED),
+    (10, 991, TOO_MUCH_IS_MOVED),
+    (1001, 1, A_FEE_TOO_HIGH),
+];
+
+// Fails with the amount of the first call that is answered with other lines.
+fn are_moved(alloc: Global, rows: &[(u64, u64, [&'static str; 5])]) -> Result<(), Fail> {
+    for (fee, amount, lines) in rows {
+        if !is_moved(alloc, *fee, *amount, lines)? {
+            return Err(Fail::new(*amount));
+        }
+    }
+    Ok(())
+}
+
 #[test]
 fn mutez_are_moved(rt: HostRuntime) -> Result<(), Fail> {
-    assert!(rt; is_moved(rt.alloc(), 10, 1, &TRANSFER)?);
-    Ok(())
-}
-
-#[test]
-fn nothing_is_moved(rt: HostRuntime) -> Result<(), Fail> {
-    assert!(rt; is_moved(rt.alloc(), 10, 0, &NOTHING_IS_MOVED)?);
-    Ok(())
-}
-
-#[test]
-fn too_much_is_moved(rt: HostRuntime) -> Result<(), Fail> {
-    assert!(rt; is_moved(rt.alloc(), 10, 991, &TOO_MUCH_IS_MOVED)?);
-    Ok(())
-}
-
-#[test]
-fn a_fee_is_too_high(rt: HostRuntime) -> Result<(), Fail> {
-    assert!(rt; is_moved(rt.alloc(), 1001, 1, &A_FEE_TOO_HIGH)?);
-    Ok(())
+    are_moved(rt.alloc(), &MOVES)
 }
 
 // Fails with the first call whose failing isn't told. The read that finds the end comes behind the group.

@@ -77,7 +77,7 @@ fn are_runs(alloc: Global, runs: &[Run]) -> Result<(), Fail> {
 }
 
 // Numbers as bytes.
-const SPELLED: [Run; 9] = [
+const NUMBERS_AS_BYTES: [Run; 9] = [
     (
         "nat",
         "bytes",
@@ -161,13 +161,8 @@ const SPELLED: [Run; 9] = [
     ),
 ];
 
-#[test]
-fn numbers_as_bytes(rt: HostRuntime) -> Result<(), Fail> {
-    are_runs(rt.alloc(), &SPELLED)
-}
-
 // Values, the order of the stack, and lambdas.
-const STACKS: [Run; 19] = [
+const VALUES_AND_LAMBDAS: [Run; 19] = [
     (
         "nat",
         "nat",
@@ -343,11 +338,6 @@ const STACKS: [Run; 19] = [
         ),
     ),
 ];
-
-#[test]
-fn values_and_lambdas(rt: HostRuntime) -> Result<(), Fail> {
-    are_runs(rt.alloc(), &STACKS)
-}
 
 // Instructions with bodies, and those that fail.
 const BODIES: [Run; 21] = [
@@ -543,13 +533,8 @@ const BODIES: [Run; 21] = [
     ),
 ];
 
-#[test]
-fn bodies(rt: HostRuntime) -> Result<(), Fail> {
-    are_runs(rt.alloc(), &BODIES)
-}
-
 // Pairs, unions, options and lists.
-const PARTS: [Run; 17] = [
+const PAIRS_UNIONS_AND_OPTIONS: [Run; 17] = [
     (
         "nat",
         "(pair nat nat)",
@@ -704,11 +689,6 @@ const PARTS: [Run; 17] = [
         Outcome::Leaves("{ 1 ; 2 ; 3 }"),
     ),
 ];
-
-#[test]
-fn pairs_unions_and_options(rt: HostRuntime) -> Result<(), Fail> {
-    are_runs(rt.alloc(), &PARTS)
-}
 
 // Sets, maps and big maps.
 const COLLECTIONS: [Run; 19] = [
@@ -885,13 +865,8 @@ const COLLECTIONS: [Run; 19] = [
     ),
 ];
 
-#[test]
-fn collections(rt: HostRuntime) -> Result<(), Fail> {
-    are_runs(rt.alloc(), &COLLECTIONS)
-}
-
 // Sums, products and quotients.
-const SUMS: [Run; 30] = [
+const SUMS_AND_PRODUCTS: [Run; 30] = [
     (
         "(pair nat nat)",
         "nat",
@@ -1164,13 +1139,8 @@ const SUMS: [Run; 30] = [
     ),
 ];
 
-#[test]
-fn sums_and_products(rt: HostRuntime) -> Result<(), Fail> {
-    are_runs(rt.alloc(), &SUMS)
-}
-
 // Signs, shifts and bits.
-const BITS: [Run; 21] = [
+const SIGNS_AND_BITS: [Run; 21] = [
     (
         "int",
         "nat",
@@ -1362,11 +1332,6 @@ const BITS: [Run; 21] = [
     ),
 ];
 
-#[test]
-fn signs_and_bits(rt: HostRuntime) -> Result<(), Fail> {
-    are_runs(rt.alloc(), &BITS)
-}
-
 // Comparisons: each rule of the order, and its prefixes and parts.
 const COMPARISONS: [Run; 17] = [
     (
@@ -1525,7 +1490,7 @@ const COMPARISONS: [Run; 17] = [
 ];
 
 // Code that compares a number with zero, and whether it holds of -1, 0 and 1.
-const SIGNS: [(&str, bool, bool, bool); 6] = [
+static SIGNS: [(&str, bool, bool, bool); 6] = [
     ("CAR ; EQ ; NIL operation ; PAIR", false, true, false),
     ("CAR ; NEQ ; NIL operation ; PAIR", true, false, true),
     ("CAR ; LT ; NIL operation ; PAIR", true, false, false),
@@ -1567,17 +1532,12 @@ fn are_signs(alloc: Global, rows: &[(&'static str, bool, bool, bool)]) -> Result
 }
 
 #[test]
-fn comparisons(rt: HostRuntime) -> Result<(), Fail> {
-    are_runs(rt.alloc(), &COMPARISONS)
-}
-
-#[test]
 fn comparisons_with_zero(rt: HostRuntime) -> Result<(), Fail> {
     are_signs(rt.alloc(), &SIGNS)
 }
 
 // Strings, bytes and hashes.
-const BYTES: [Run; 22] = [
+const STRINGS_AND_BYTES: [Run; 22] = [
     (
         "(pair string string)",
         "string",
@@ -1782,11 +1742,6 @@ const BYTES: [Run; 22] = [
     ),
 ];
 
-#[test]
-fn strings_and_bytes(rt: HostRuntime) -> Result<(), Fail> {
-    are_runs(rt.alloc(), &BYTES)
-}
-
 // Surroundings and operations.
 const SURROUNDINGS: [Run; 14] = [
     (
@@ -1917,13 +1872,8 @@ const SURROUNDINGS: [Run; 14] = [
     ),
 ];
 
-#[test]
-fn surroundings(rt: HostRuntime) -> Result<(), Fail> {
-    are_runs(rt.alloc(), &SURROUNDINGS)
-}
-
 // The same of instructions whose calls have more effects, amounts or tickets: whole files, and what is written of them.
-const FILES: [(&str, &str); 16] = [
+static FILES: [(&str, &str); 16] = [
     (
         "Chain 0x7a06a770 9 1700;Account 0x000000000000000000000000000000000000000001 1000;Group \
             0x000000000000000000000000000000000000000001 { Originate 0 1 0 { parameter unit; storage mutez; code { DROP ; AMOUNT ; NIL \
@@ -2165,4 +2115,26 @@ const FILES: [(&str, &str); 16] = [
 #[test]
 fn each_effect_is_told(rt: HostRuntime) -> Result<(), Fail> {
     all_end_with(rt.alloc(), "replay", 0, &FILES)
+}
+
+// Runs, by what their instructions are about.
+static RUNS: [&'static [Run]; 10] = [
+    &NUMBERS_AS_BYTES,
+    &VALUES_AND_LAMBDAS,
+    &BODIES,
+    &PAIRS_UNIONS_AND_OPTIONS,
+    &COLLECTIONS,
+    &SUMS_AND_PRODUCTS,
+    &SIGNS_AND_BITS,
+    &COMPARISONS,
+    &STRINGS_AND_BYTES,
+    &SURROUNDINGS,
+];
+
+#[test]
+fn instructions(rt: HostRuntime) -> Result<(), Fail> {
+    for rows in &RUNS {
+        are_runs(rt.alloc(), rows)?;
+    }
+    Ok(())
 }

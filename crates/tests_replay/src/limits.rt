@@ -12,22 +12,68 @@ type Contract<'a> = (&'a str, &'a str);
 // The argument of a call, its gas, and its failure, if it has one.
 type Call<'a> = (&'a str, u64, Option<&'a str>);
 
-// A file in which a contract is made, and called so often.
-fn file(alloc: Global, contract: &Contract<'_>, calls: &[Call<'_>]) -> Result<String, Memory> {
+fn group(alloc: Global, call: &Call<'_>) -> Result<String, Memory> {
+    let (argument, gas, _) = call;
+    Ok(format!(in alloc;
+        "Group 0x000000000000000000000000000000000000000001 {{ \
+        Call 0 {gas} 0 0x01000000000000000100000000000000000000000000 \"default\" {argument} }};"
+    )?)
+}
+
+fn origination(alloc: Global, contract: &Contract<'_>) -> Result<String, Memory> {
     let (parameter, code) = contract;
-    let mut file = format!(in alloc;
+    Ok(format!(in alloc;
         "Chain 0x7a06a770 1 0; Account 0x000000000000000000000000000000000000000001 1000; \
         Group 0x000000000000000000000000000000000000000001 {{ \
         Originate 0 1 0 {{ parameter {parameter} ; storage int ; code {{ {code} }} }} 9 }};"
-    )?;
-    for (argument, gas, _) in calls {
-        let group = format!(in alloc;
-            "Group 0x000000000000000000000000000000000000000001 {{ \
-            Call 0 {gas} 0 0x01000000000000000100000000000000000000000000 \"default\" {argument} }};"
-        )?;
+    )?)
+}
+
+// A file in which a contract is made, and called so often.
+fn file(alloc: Global, contract: &Contract<'_>, calls: &[Call<'_>]) -> Result<String, Memory> {
+    let mut file = origination(alloc, contract)?;
+    for call in calls {
+        let group = group(alloc, call)?;
         file.push_str(group.as_str())?;
     }
     Ok(file)
+}
+
+fn applied(alloc: Global, argument: &str, gas: u64) -> Result<String, Memory> {
+    Ok(format!(in alloc;
+        "Applied {gas} {{ Transfer 0x00000000000000000000000000000000000000000001 \
+        0x01000000000000000100000000000000000000000000 0 {argument} {{}} }}"
+    )?)
+}
+
+// What becomes of a call.
+fn outcome(alloc: Global, call: &Call<'_>) -> Result<String, Memory> {
+    match call {
+        (argument, gas, None) => applied(alloc, argument, *gas),
+        (_, _, Some(failure)) => Ok(format!(in alloc; "Failed 0 {failure}")?),
+    }
+}
+
+fn line(alloc: Global, number: u64, call: &Call<'_>) -> Result<String, Memory> {
+    let outcome = outcome(alloc, call)?;
+    Ok(format!(in alloc; "Group {number} {{ {outcome} }}\n")?)
+}
+
+fn last_lines(alloc: Global, after: &str) -> Result<String, Memory> {
+    Ok(format!(in alloc;
+        "Account 0x000000000000000000000000000000000000000001 1000 {{}}\n\
+        Contract 0x01000000000000000100000000000000000000000000 0 {after}\nFees 0\nSupply 1000\n"
+    )?)
+}
+
+fn push_lines(alloc: Global, lines: &mut String, calls: &[Call<'_>]) -> Result<(), Memory> {
+    let mut number: u64 = 1;
+    for call in calls {
+        number = number.saturating_add(1);
+        let line = line(alloc, number, call)?;
+        lines.push_str(line.as_str())?;
+    }
+    Ok(())
 }
 
 // What is to be written of it, where this is left in the end.
@@ -37,22 +83,8 @@ fn lines(alloc: Global, calls: &[Call<'_>], after: &str) -> Result<String, Memor
         "Group 1 { Applied 1 { Origination 0x00000000000000000000000000000000000000000001 \
         0x01000000000000000100000000000000000000000000 0 } }\n",
     )?;
-    let mut number: u64 = 1;
-    for (argument, gas, failure) in calls {
-        number = number.saturating_add(1);
-        let line = match failure {
-            None => format!(in alloc;
-                "Group {number} {{ Applied {gas} {{ Transfer 0x00000000000000000000000000000000000000000001 \
-                0x01000000000000000100000000000000000000000000 0 {argument} {{}} }} }}\n"
-            )?,
-            Some(failure) => format!(in alloc; "Group {number} {{ Failed 0 {failure} }}\n")?,
-        };
-        lines.push_str(line.as_str())?;
-    }
-    let end = format!(in alloc;
-        "Account 0x000000000000000000000000000000000000000001 1000 {{}}\n\
-        Contract 0x01000000000000000100000000000000000000000000 0 {after}\nFees 0\nSupply 1000\n"
-    )?;
+    push_lines(alloc, &mut lines, calls)?;
+    let end = last_lines(alloc, after)?;
     lines.push_str(end.as_str())?;
     Ok(lines)
 }
@@ -102,7 +134,7 @@ const LETTERS: &str =
 // stand before those of a string that is packed: the byte 5, the tag of a string, and its length in four bytes.
 type Longest = (&'static str, &'static str, &'static str, u64, u64);
 
-const LONGEST: [Longest; 3] = [
+static LONGEST: [Longest; 3] = [
     ("PACK", "1048570", "1048571", 4_194_579, 4_194_577),
     (
         "PUSH string \"a\" ; CONCAT",
@@ -150,12 +182,12 @@ fn bytes_at_their_limit(rt: HostRuntime) -> Result<(), Fail> {
 // A lambda, its body, and the empty sequences behind it with which what APPLY makes of it and of the empty list has 100,000
 // nodes. Beside these there are eight nodes, and one for each unit of the list: the sequence, PUSH, the two of its type, the
 // list, PAIR, and the two of the old body. Of the lambda that gets itself there are 19.
-const CAPTURING: [(&str, &str, u32); 2] = [
+static CAPTURING: [(&str, &str, u32); 2] = [
     ("LAMBDA", "CDR", 99_992),
     ("LAMBDA_REC", "CDR ; DIP { DROP }", 99_981),
 ];
 
-const CAPTURES: [Call<'static>; 4] = [
+static CAPTURES: [Call<'static>; 4] = [
     ("{}", 12, None),
     ("{}", 11, Some("OutOfGas")),
     ("{ Unit }", 7, Some("SizeLimit")),
@@ -259,7 +291,7 @@ fn one_block_more(rt: HostRuntime) -> Result<(), Fail> {
 // as the 100,000th.
 type Opening = (&'static str, u64, u64);
 
-const OPENING: [Opening; 11] = [
+static OPENING: [Opening; 11] = [
     ("{ PUSH int 7 }", 6_998, 7_002),
     (
         "PUSH bool True ; IF { PUSH int 7 } { PUSH int 8 }",
@@ -334,7 +366,7 @@ fn each_block_at_the_limit(rt: HostRuntime) -> Result<(), Fail> {
     are_limited(rt.alloc(), &OPENING)
 }
 
-const ASKS: [Call<'static>; 2] = [
+static ASKS: [Call<'static>; 2] = [
     ("Unit", 7_005, Some("DepthLimit")),
     ("Unit", 7_004, Some("OutOfGas")),
 ];
@@ -366,7 +398,7 @@ fn issuing(alloc: Global) -> Result<String, Memory> {
     )
 }
 
-const ISSUES: [Call<'static>; 2] = [("257", 263_947, None), ("257", 263_946, Some("OutOfGas"))];
+static ISSUES: [Call<'static>; 2] = [("257", 263_947, None), ("257", 263_946, Some("OutOfGas"))];
 
 #[test]
 fn operations_of_a_run_at_their_limit(rt: HostRuntime) -> Result<(), Fail> {
@@ -376,7 +408,7 @@ fn operations_of_a_run_at_their_limit(rt: HostRuntime) -> Result<(), Fail> {
 }
 
 // Contents that issue one operation more than their group may, with just the gas for it.
-const ONE_MORE: [&str; 3] = [
+static ONE_MORE: [&str; 3] = [
     "Call 0 9 0 0x01000000000000000100000000000000000000000000 \"default\" 1",
     "Call 0 7 0 0x01000000000000000100000001000000000000000000 \"default\" Unit",
     "Call 0 7 0 0x01000000000000000100000002000000000000000000 \"default\" Unit",

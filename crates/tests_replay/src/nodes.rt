@@ -5,7 +5,7 @@ use std::alloc::Global;
 use std::test::Fail;
 
 // A file that is encoded, the status, and what is written.
-static ENCODED: [Row; 14] = [
+const ENCODED: [Row; 14] = [
     ("parameter %x nat", 0, "0x06000362000000022578\n"),
     (
         "LAMBDA int int {} ;",
@@ -27,7 +27,7 @@ static ENCODED: [Row; 14] = [
 ];
 
 // A file with a fault of its text, and the line that it gives.
-static FAULTS: [(&str, &str); 23] = [
+const FAULTS: [(&str, &str); 23] = [
     ("Foo 1 ; ;", "Refused Unexpected 8\n"),
     ("{ ; }", "Refused Unexpected 2\n"),
     ("Pair (Pair 1 2", "Refused Unclosed 14\n"),
@@ -54,7 +54,7 @@ static FAULTS: [(&str, &str); 23] = [
 ];
 
 // A file that is decoded, the status, and what is written.
-static DECODED: [Row; 14] = [
+const DECODED: [Row; 14] = [
     ("0x06000362000000022578", 0, "parameter %x nat\n"),
     (
         "0x093100000009035b035b020000000000000000 ;",
@@ -75,23 +75,8 @@ static DECODED: [Row; 14] = [
     ("", 2, "Refused BadStatement 0\n"),
 ];
 
-#[test]
-fn nodes_are_encoded(rt: HostRuntime) -> Result<(), Fail> {
-    all_are_answered(rt.alloc(), "encode", &ENCODED)
-}
-
-#[test]
-fn faults_of_texts(rt: HostRuntime) -> Result<(), Fail> {
-    all_end_with(rt.alloc(), "decode", 2, &FAULTS)
-}
-
-#[test]
-fn bytes_are_decoded(rt: HostRuntime) -> Result<(), Fail> {
-    all_are_answered(rt.alloc(), "decode", &DECODED)
-}
-
 // A file that is packed, the status, and what is written.
-static PACKED: [Row; 11] = [
+const PACKED: [Row; 11] = [
     ("Pack int -1", 0, "0x050041\n"),
     ("Pack int 64", 0, "0x05008001\n"),
     (
@@ -122,7 +107,7 @@ static PACKED: [Row; 11] = [
 ];
 
 // A file that isn't packed, and the line that it gives. The type stands at location 1.
-static UNPACKABLE: [(&str, &str); 15] = [
+const UNPACKABLE: [(&str, &str); 15] = [
     ("Pack (big_map int int) {}", "Refused IllTyped 1\n"),
     ("Pack operation 1", "Refused IllTyped 1\n"),
     ("Pack foo 1", "Refused IllTyped 1\n"),
@@ -146,27 +131,12 @@ static UNPACKABLE: [(&str, &str); 15] = [
     ("Pack int 1a", "Refused BadNumber 9\n"),
 ];
 
-#[test]
-fn literals_are_packed(rt: HostRuntime) -> Result<(), Fail> {
-    all_are_answered(rt.alloc(), "pack", &PACKED)
-}
-
-#[test]
-fn what_is_not_packed(rt: HostRuntime) -> Result<(), Fail> {
-    all_end_with(rt.alloc(), "pack", 2, &UNPACKABLE)
-}
-
 // What is no text is refused before the script is typed.
-static NO_TEXTS: [(&str, &str); 3] = [
+const NO_TEXTS: [(&str, &str); 3] = [
     ("parameter unit; \"ab", "Refused Unclosed 19\n"),
     ("parameter unit; foo; )", "Refused Unexpected 21\n"),
     ("{ parameter unit", "Refused Unclosed 16\n"),
 ];
-
-#[test]
-fn files_without_a_text_are_not_checked(rt: HostRuntime) -> Result<(), Fail> {
-    all_end_with(rt.alloc(), "check", 2, &NO_TEXTS)
-}
 
 // So many sequences, each in the one before.
 fn braces(alloc: Global, depth: u32) -> Result<String, Memory> {
@@ -259,5 +229,35 @@ fn is_packed_to_the_limit(alloc: Global) -> Result<bool, Memory> {
 #[test]
 fn packed_strings_at_the_limit(rt: HostRuntime) -> Result<(), Fail> {
     assert!(rt; is_packed_to_the_limit(rt.alloc())?);
+    Ok(())
+}
+
+// A command, and files that it answers.
+static ANSWERED: [(&'static str, &'static [Row]); 3] = [
+    ("encode", &ENCODED),
+    ("decode", &DECODED),
+    ("pack", &PACKED),
+];
+
+#[test]
+fn nodes_are_encoded_decoded_and_packed(rt: HostRuntime) -> Result<(), Fail> {
+    for (verb, rows) in &ANSWERED {
+        all_are_answered(rt.alloc(), verb, rows)?;
+    }
+    Ok(())
+}
+
+// A command, and files that it refuses.
+static REFUSED: [(&'static str, &'static [(&'static str, &'static str)]); 3] = [
+    ("decode", &FAULTS),
+    ("pack", &UNPACKABLE),
+    ("check", &NO_TEXTS),
+];
+
+#[test]
+fn files_are_refused(rt: HostRuntime) -> Result<(), Fail> {
+    for (verb, rows) in &REFUSED {
+        all_end_with(rt.alloc(), verb, 2, rows)?;
+    }
     Ok(())
 }

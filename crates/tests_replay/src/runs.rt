@@ -4,7 +4,7 @@ use std::test::Fail;
 
 // Files with contracts, and what is written of them: one is made and called; the gas of a call is one short; the second of three
 // contents fails; a sum is past the limit; code fails with a value; tickets are minted that nobody keeps; a string is cut.
-static CONTRACTS: [(&str, &str); 7] = [
+const CONTRACTS: [(&str, &str); 7] = [
     (
         "Chain 0x7a06a770 1 0;Account 0x000000000000000000000000000000000000000001 100; Group 0x000000000000000000000000000000000000000001 \
             { Originate 0 1 5 { parameter int ; storage int ; code { CAR ; NIL operation ; PAIR } } 7 }; \
@@ -85,7 +85,7 @@ static CONTRACTS: [(&str, &str); 7] = [
 
 // Code that calls lambdas, a lambda that calls itself without end, two contracts that code makes, one that calls another and
 // emits an event, and big maps: one is copied and changed, one holds what a token's accounts have.
-static RUNS: [(&str, &str); 8] = [
+const RUNS_OF_CONTRACTS: [(&str, &str); 8] = [
     (
         "Chain 0x7a06a770 1 0;Account 0x000000000000000000000000000000000000000001 1000; Account \
             0x000000000000000000000000000000000000000002 0; Group 0x000000000000000000000000000000000000000001 { Originate 0 1 0 { \
@@ -205,12 +205,13 @@ static RUNS: [(&str, &str); 8] = [
     ),
 ];
 
-#[test]
-fn contracts(rt: HostRuntime) -> Result<(), Fail> {
-    all_end_with(rt.alloc(), "replay", 0, &CONTRACTS)
-}
+// Files with contracts.
+static FILES: [&'static [(&'static str, &'static str)]; 2] = [&CONTRACTS, &RUNS_OF_CONTRACTS];
 
 #[test]
-fn runs_of_contracts(rt: HostRuntime) -> Result<(), Fail> {
-    all_end_with(rt.alloc(), "replay", 0, &RUNS)
+fn contracts(rt: HostRuntime) -> Result<(), Fail> {
+    for rows in &FILES {
+        all_end_with(rt.alloc(), "replay", 0, rows)?;
+    }
+    Ok(())
 }

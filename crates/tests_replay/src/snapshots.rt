@@ -1,7 +1,7 @@
 // Snapshots that are written, and files that go on from them.
 ghost use Rattle.std.specs.Prelude.{◌≡◌, ◌∷◌, [], IfOk, codes};
 
-use crate::support::{call, numbers, run};
+use crate::support::{call, is_answered, run};
 use crate::tickets::TICKETS_ARE_SENT;
 use mich_base::{Bytes, Memory, Rows, Text, Texts};
 use mich_io::{MemFiles, MemSink};
@@ -42,20 +42,37 @@ fn words(alloc: Global) -> Result<Texts, Memory>
     Ok(texts)
 }
 
+fn file(alloc: Global, name: &[u8], content: &[u8]) -> Result<(Text, Bytes), Memory> {
+    let name = Text::from_slice(alloc, name)?;
+    Ok((name, Bytes::from_slice(alloc, content)?))
+}
+
+// A snapshot, and a file of this text, which may be missing.
+fn held(
+    alloc: Global,
+    snapshot: &[u8],
+    second: Option<&str>,
+) -> Result<Rows<(Text, Bytes)>, Memory> {
+    let mut held = Rows::new(alloc);
+    held.push(file(alloc, b"s", snapshot)?)?;
+    if let Some(second) = second {
+        held.push(file(alloc, b"f", second.as_bytes())?)?;
+    }
+    Ok(held)
+}
+
+fn files(alloc: Global, snapshot: &[u8], second: Option<&str>) -> Result<MemFiles, Memory>
+    ensures { IfOk result (λ f. f.lent ≡ codes "s" ∷ codes "f" ∷ []) }
+{
+    let held = held(alloc, snapshot, second)?;
+    Ok(MemFiles::new(both(alloc)?, held, Rows::new(alloc)))
+}
+
 // Resumes a snapshot with a file of this text, which may be missing.
 fn resume(alloc: Global, snapshot: &[u8], second: Option<&str>) -> Result<(u8, MemSink), Memory> {
-    let mut held = Rows::new(alloc);
-    held.push((
-        Text::from_slice(alloc, b"s")?,
-        Bytes::from_slice(alloc, snapshot)?,
-    ))?;
-    if let Some(second) = second {
-        let content = Bytes::from_slice(alloc, second.as_bytes())?;
-        held.push((Text::from_slice(alloc, b"f")?, content))?;
-    }
     let words = words(alloc)?;
-    let mut files = MemFiles::new(both(alloc)?, held, numbers(alloc, &[])?);
-    let mut out = MemSink::new(alloc, numbers(alloc, &[])?);
+    let mut files = files(alloc, snapshot, second)?;
+    let mut out = MemSink::new(alloc, Rows::new(alloc));
     let status = mich(alloc, &words, &mut files, &mut out);
     Ok((status, out))
 }
@@ -87,69 +104,92 @@ fn transfer(alloc: Global) -> Result<MemSink, Fail> {
     snapshot(alloc, file.as_str())
 }
 
+// A file behind a snapshot, which may be missing, the status, and what is written.
+type Row = (Option<&'static str>, u8, &'static str);
+
+static BEHIND: [Row; 3] = [
+    (Some(SECOND), 0, RESUMED),
+    (Some("; Block"), 2, "Refused Unexpected 0\n"),
+    (None, 3, ""),
+];
+
+// Fails with what is to be written of the first file of which something else is.
+fn all_resume(alloc: Global, rows: &[Row]) -> Result<(), Fail> {
+    let saved = transfer(alloc)?;
+    for (second, status, written) in rows {
+        if !resumes(alloc, saved.as_slice(), *second, *status, written)? {
+            return Err(Fail::new(*written));
+        }
+    }
+    Ok(())
+}
+
 #[test]
 fn files_go_on(rt: HostRuntime) -> Result<(), Fail> {
-    let alloc = rt.alloc();
-    let saved = transfer(alloc)?;
-    if !resumes(alloc, saved.as_slice(), Some(SECOND), 0, RESUMED)? {
-        return Err(Fail::new("a group behind a snapshot"));
-    }
-    if !resumes(
-        alloc,
-        saved.as_slice(),
-        Some("; Block"),
-        2,
-        "Refused Unexpected 0\n",
-    )? {
-        return Err(Fail::new("a fault behind a snapshot"));
-    }
-    Ok(())
+    all_resume(rt.alloc(), &BEHIND)
 }
 
-// The last byte is missing, within the count of tickets; or the first one is another. The file behind isn't read.
-#[test]
-fn damaged_snapshots(rt: HostRuntime) -> Result<(), Fail> {
-    let alloc = rt.alloc();
+// Whether bytes are no snapshot, with the fault at a place. The file behind isn't read.
+fn are_damaged(alloc: Global, bytes: &[u8], line: &str) -> Result<bool, Memory> {
+    resumes(alloc, bytes, None, 2, line)
+}
+
+// The last byte is missing, within the count of tickets.
+fn is_cut(alloc: Global) -> Result<bool, Fail> {
     let saved = transfer(alloc)?;
-    if let Some((_, front)) = saved.as_slice().split_last()
-        && !resumes(alloc, front, None, 2, "Refused BadForm 933\n")?
-    {
-        return Err(Fail::new("without the last byte"));
+    match saved.as_slice().split_last() {
+        Some((_, front)) => Ok(are_damaged(alloc, front, "Refused BadForm 933\n")?),
+        None => Ok(false),
     }
-    let mut other = saved.as_slice().to_vec(alloc)?;
-    if let Some(first) = other.first_mut() {
+}
+
+// The first byte is another.
+fn other(alloc: Global) -> Result<Vec<u8>, Fail> {
+    let saved = transfer(alloc)?;
+    let mut bytes = saved.as_slice().to_vec(alloc)?;
+    if let Some(first) = bytes.first_mut() {
         *first = b'm';
     }
-    if !resumes(alloc, other.as_slice(), None, 2, "Refused BadForm 0\n")? {
-        return Err(Fail::new("another first byte"));
-    }
+    Ok(bytes)
+}
+
+fn is_other(alloc: Global) -> Result<bool, Fail> {
+    let bytes = other(alloc)?;
+    Ok(are_damaged(alloc, bytes.as_slice(), "Refused BadForm 0\n")?)
+}
+
+#[test]
+fn damaged_snapshots(rt: HostRuntime) -> Result<(), Fail> {
+    assert!(rt; is_cut(rt.alloc())?);
+    assert!(rt; is_other(rt.alloc())?);
     Ok(())
 }
 
-// A state with tickets is written as before, where nothing stands behind the snapshot.
+// What is written where nothing stands behind a snapshot with tickets.
+fn state_with_tickets(alloc: Global) -> Result<MemSink, Fail> {
+    let saved = snapshot(alloc, TICKETS_ARE_SENT)?;
+    let (status, state) = resume(alloc, saved.as_slice(), Some(""))?;
+    if status != 0 {
+        return Err(Fail::new("not resumed"));
+    }
+    Ok(state)
+}
+
+// Whether it is written as before.
+fn is_state_written(alloc: Global) -> Result<bool, Fail> {
+    let state = state_with_tickets(alloc)?;
+    let (_, told) = run(alloc, "replay", TICKETS_ARE_SENT, &[], &[])?;
+    Ok(!state.as_slice().is_empty() && told.as_slice().ends_with(state.as_slice()))
+}
+
 #[test]
 fn tickets_come_back(rt: HostRuntime) -> Result<(), Fail> {
-    let alloc = rt.alloc();
-    let saved = snapshot(alloc, TICKETS_ARE_SENT)?;
-    let (_, told) = run(alloc, "replay", TICKETS_ARE_SENT, &[], &[])?;
-    let (status, state) = resume(alloc, saved.as_slice(), Some(""))?;
-    if status != 0 || state.as_slice().is_empty() || !told.as_slice().ends_with(state.as_slice()) {
-        return Err(Fail::new("tickets"));
-    }
+    assert!(rt; is_state_written(rt.alloc())?);
     Ok(())
 }
 
-// The file behind a snapshot isn't there, or a file has no snapshot.
 #[test]
-fn missing(rt: HostRuntime) -> Result<(), Fail> {
-    let alloc = rt.alloc();
-    let saved = transfer(alloc)?;
-    if !resumes(alloc, saved.as_slice(), None, 3, "")? {
-        return Err(Fail::new("no file"));
-    }
-    let (status, out) = run(alloc, "snapshot", "", &[], &[])?;
-    if status != 2 || out.as_slice() != b"Refused BadOrder 0\n".as_slice() {
-        return Err(Fail::new("no statement"));
-    }
+fn a_file_without_a_snapshot(rt: HostRuntime) -> Result<(), Fail> {
+    assert!(rt; is_answered(rt.alloc(), "snapshot", "", 2, "Refused BadOrder 0\n")?);
     Ok(())
 }

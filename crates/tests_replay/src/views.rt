@@ -5,7 +5,7 @@ use std::test::Fail;
 // A file, and what is written of it. A view has no amount, the balance of its own contract and its caller as the sender, and
 // an entrypoint in the address doesn't matter. It gives nothing at an account, at no contract, and for an input of another
 // type, which is discarded. Contracts that it makes count. Tickets that it mints don't.
-const VIEWS: [(&str, &str); 4] = [
+static VIEWS: [(&str, &str); 4] = [
     (
         "Chain 0x7a06a770 1 0; Account 0x000000000000000000000000000000000000000001 1000; Group \
             0x000000000000000000000000000000000000000001 { Originate 0 1 5 { parameter unit ; storage unit ; code { CDR ; NIL operation ; \

@@ -272,11 +272,6 @@ const GROUPS: [Row; 8] = [
     ),
 ];
 
-#[test]
-fn groups(rt: HostRuntime) -> Result<(), Fail> {
-    all_are_answered(rt.alloc(), "replay", &GROUPS)
-}
-
 // Numbers and limits.
 const NUMBERS: [Row; 11] = [
     (
@@ -424,11 +419,6 @@ const NUMBERS: [Row; 11] = [
     ),
 ];
 
-#[test]
-fn numbers(rt: HostRuntime) -> Result<(), Fail> {
-    all_are_answered(rt.alloc(), "replay", &NUMBERS)
-}
-
 // Storage that is burnt for.
 const BURNS: [Row; 2] = [
     (
@@ -459,11 +449,6 @@ const BURNS: [Row; 2] = [
         "Group 1 { Failed 0 CannotPayBurn }\nAccount 0x000000000000000000000000000000000000000001 98 {}\nFees 0\nStorageBurn 0\nSupply 98\n",
     ),
 ];
-
-#[test]
-fn burns(rt: HostRuntime) -> Result<(), Fail> {
-    all_are_answered(rt.alloc(), "replay", &BURNS)
-}
 
 // Views.
 const VIEWS: [Row; 3] = [
@@ -518,13 +503,8 @@ const VIEWS: [Row; 3] = [
     ),
 ];
 
-#[test]
-fn views(rt: HostRuntime) -> Result<(), Fail> {
-    all_are_answered(rt.alloc(), "replay", &VIEWS)
-}
-
 // Lambdas, and what is packed and unpacked.
-const PACKED: [Row; 7] = [
+const PACKED_VALUES: [Row; 7] = [
     (
         "Chain 0x7a06a770 1 0; Account 0x000000000000000000000000000000000000000001 1000; Account \
             0x000000000000000000000000000000000000000002 0; Group 0x000000000000000000000000000000000000000001 { Call 10 10000000000 1 \
@@ -610,13 +590,8 @@ const PACKED: [Row; 7] = [
     ),
 ];
 
-#[test]
-fn packed_values(rt: HostRuntime) -> Result<(), Fail> {
-    all_are_answered(rt.alloc(), "replay", &PACKED)
-}
-
 // Tickets that are minted, split, sent and given, and a token.
-const TICKETS: [Row; 5] = [
+const TICKETS_AND_TOKENS: [Row; 5] = [
     (
         "Chain 0x7a06a770 1 0;Account 0x000000000000000000000000000000000000000001 1000; Account \
             0x000000000000000000000000000000000000000002 0; Group 0x000000000000000000000000000000000000000001 { Originate 0 1 0 { \
@@ -749,11 +724,6 @@ const TICKETS: [Row; 5] = [
     ),
 ];
 
-#[test]
-fn tickets_and_tokens(rt: HostRuntime) -> Result<(), Fail> {
-    all_are_answered(rt.alloc(), "replay", &TICKETS)
-}
-
 // Scripts.
 const SCRIPTS: [Row; 5] = [
     (
@@ -786,4 +756,22 @@ const SCRIPTS: [Row; 5] = [
 #[test]
 fn scripts_are_checked(rt: HostRuntime) -> Result<(), Fail> {
     all_are_answered(rt.alloc(), "check", &SCRIPTS)
+}
+
+// Files, by what they show.
+static FILES: [&'static [Row]; 6] = [
+    &GROUPS,
+    &NUMBERS,
+    &BURNS,
+    &VIEWS,
+    &PACKED_VALUES,
+    &TICKETS_AND_TOKENS,
+];
+
+#[test]
+fn files_are_replayed(rt: HostRuntime) -> Result<(), Fail> {
+    for rows in &FILES {
+        all_are_answered(rt.alloc(), "replay", rows)?;
+    }
+    Ok(())
 }
