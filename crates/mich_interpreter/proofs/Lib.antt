@@ -41,3 +41,4 @@ pub mod Founded
 pub mod Held
 pub mod AppliedCode
 pub mod CapturedCode
+pub mod Gone

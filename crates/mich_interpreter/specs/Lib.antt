@@ -13,3 +13,4 @@ pub mod Visits
 pub mod Calls
 pub mod Literals
 pub mod Applied
+pub mod Went

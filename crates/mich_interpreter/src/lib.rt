@@ -13,6 +13,7 @@ mod calls;
 mod contracts;
 mod creating;
 mod dipping;
+mod direct;
 mod frame;
 mod giving;
 mod hashing;
@@ -31,6 +32,7 @@ mod straights;
 mod unpacking;
 mod viewing;
 mod visits;
+mod went;
 
 pub use act::Failed;
 pub use beginning::run_code;

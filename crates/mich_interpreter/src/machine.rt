@@ -8,6 +8,7 @@ ghost use Rattle.mich_interpreter.specs.Ends.{ComesIn, CarriesIn, Waits, Resumes
 ghost use Rattle.mich_interpreter.specs.declared.state.State.{State as PlainState};
 ghost use Rattle.mich_interpreter.specs.Sees.{Sees};
 ghost use Rattle.mich_interpreter.specs.Callers.{InCall, SomeStart};
+ghost use Rattle.mich_interpreter.specs.Went.{IsStepBy};
 ghost use Rattle.mich_interpreter.specs.Runs.{StaysIn, StaysBehind, StaysBehindAct, StaysBehindTurn, IsBegun, IsSpent, IsPaidStep, IsSettled, HasLeft, with_below, with_rest, SomeRun, SomeEnd, IsEnd, KeepsStep, KeepsEnd, IsNoBlock, IsNoSequence};
 
 use crate::act::{Act, Failed, View};
@@ -17,6 +18,7 @@ use crate::callers::{enter, go_back, go_home};
 use crate::calls::{act_exec, act_failwith, act_never};
 use crate::creating::act_create;
 use crate::dipping::act_dip;
+use crate::direct::go_straight;
 use crate::frame::Frame;
 use crate::giving::{act_lambda, act_push, act_self};
 use crate::iterating::{act_iter, next_each};
@@ -25,6 +27,7 @@ use crate::mapping::{act_map, next_made};
 use crate::stack::{put_all, put_below};
 use crate::state::State;
 use crate::straights::act_straight;
+use crate::went::Went;
 use mich_base::{BLOCK_LIMIT, Boxed, Memory, Rows};
 use mich_check::cache::Bodies;
 use mich_gas::Costs;
@@ -277,6 +280,22 @@ fn leave(alloc: Global, m: &mut Machine, costs: &Costs) -> Result<Step, Memory>
     }
 }
 
+// The step of the run by how an instruction without bodies went.
+#[inline(always)]
+fn step_by(went: Went) -> Result<Step, Memory>
+    ensures { IsStepBy went result }
+{
+    match went {
+        Went::On => Ok(Step::Paid),
+        Went::OutOfGas => Ok(Step::Failed(Failed::OutOfGas)),
+        Went::IntegerLimit => Ok(Step::Failed(Failed::IntegerLimit)),
+        Went::MutezOverflow => Ok(Step::Failed(Failed::MutezOverflow)),
+        Went::ShiftLimit => Ok(Step::Failed(Failed::ShiftLimit)),
+        Went::SizeLimit => Ok(Step::Failed(Failed::SizeLimit)),
+        Went::Memory => Err(Memory),
+    }
+}
+
 // The next instruction of the block, at a place within it.
 #[tactic(auto, using(crate::proofs::Keeping::same_keeps, crate::proofs::Keeping::keeps_state, crate::proofs::Keeping::keeps_on))]
 #[inline(always)]
@@ -304,6 +323,12 @@ fn advance_inside(
         } else {
             Ok(Step::Failed(Failed::DepthLimit))
         }
+    } else if let Instr::Straight(simple, _) = instr
+        && simple.in_step()
+    {
+        let went = go_straight(alloc, &mut m.state, costs, simple);
+        m.at += 1;
+        step_by(went)
     } else {
         let act = perform(alloc, &mut m.state, costs, world, bodies, instr)?;
         m.at += 1;
