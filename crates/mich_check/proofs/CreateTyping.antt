@@ -24,8 +24,8 @@ use Rattle.mich_instr.specs.Code as made
 use Rattle.mich_instr.specs.View.{script_code, storage_of}
 use Rattle.mich_instr.specs.Typed.{HasForm, IsCode, is_create, IsScript, is_script}
 use Rattle.mich_instr.specs.declared.instr.Script.{Script as CodeScript}
-use Rattle.mich_control.specs.declared.error.CheckError.{CheckError}
-use Rattle.mich_control.specs.declared.error.CheckError.TheVariants as error
+use Rattle.mich_typed.specs.declared.error.CheckError.{CheckError}
+use Rattle.mich_typed.specs.declared.error.CheckError.TheVariants as error
 use Rattle.mich_control.specs.Answers.{IsFault}
 use Rattle.mich_outline.proofs.ForCallers.{script_moves}
 use Rattle.mich_check.specs.Scripts.{IsTyped, IsTypedAt, Origin, origin, originated, IsBehind}

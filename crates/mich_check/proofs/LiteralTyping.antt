@@ -14,8 +14,8 @@ use Rattle.mich_data.specs.View.{pending, all_pending}
 use Rattle.mich_data.specs.declared.pending.Pending.{Pending as Item}
 use Rattle.mich_data.specs.declared.pending.Pending.TheVariants as item
 use Rattle.mich_forms.specs.declared.addresses.Address.{Address}
-use Rattle.mich_control.specs.declared.error.CheckError.{CheckError}
-use Rattle.mich_control.specs.declared.error.CheckError.TheVariants as error
+use Rattle.mich_typed.specs.declared.error.CheckError.{CheckError}
+use Rattle.mich_typed.specs.declared.error.CheckError.TheVariants as error
 use Rattle.mich_check.specs.Pending.{HasValue, moved, IsFaulty, IsChecked}
 use Rattle.mich_check.proofs.PushTyping.{no_move}
 

@@ -32,8 +32,8 @@ use Rattle.mich_instr.specs.Plain.{bare}
 use Rattle.mich_instr.specs.Code.{Code, Codes}
 use Rattle.mich_instr.specs.Code as made
 use Rattle.mich_instr.specs.Typed.{HasForm, IsCode, AreHeld, is_push}
-use Rattle.mich_control.specs.declared.error.CheckError.{CheckError}
-use Rattle.mich_control.specs.declared.error.CheckError.TheVariants as error
+use Rattle.mich_typed.specs.declared.error.CheckError.{CheckError}
+use Rattle.mich_typed.specs.declared.error.CheckError.TheVariants as error
 use Rattle.mich_control.specs.Answers.{typing, Leads, ends_in, IsFault, IsFound}
 use Rattle.mich_check.specs.Pending.{AreSequences, reach, largest, moved, IsFaulty, called_fault, item_fault, IsRead}
 use Rattle.mich_control.proofs.ForCallers.{unshift, fault_is, formed, found_typing, read_as}

@@ -25,8 +25,8 @@ use Rattle.mich_instr.specs.Typed.{AreCode, IsScript, is_script, AreViews, no_vi
 use Rattle.mich_instr.specs.declared.instr.Instr.{Instr}
 use Rattle.mich_instr.specs.declared.instr.Script.{Script as CodeScript}
 use Rattle.mich_instr.specs.declared.instr.ViewCode.{ViewCode as CodeOfView}
-use Rattle.mich_control.specs.declared.error.CheckError.{CheckError}
-use Rattle.mich_control.specs.declared.error.CheckError.TheVariants as error
+use Rattle.mich_typed.specs.declared.error.CheckError.{CheckError}
+use Rattle.mich_typed.specs.declared.error.CheckError.TheVariants as error
 use Rattle.mich_control.specs.Answers.{typing, Leads, ends_in, inside}
 use Rattle.mich_check.specs.Scripts.{AreEnds, IsBodyOf, IsWhole, IsScriptCode, HasCode, IsView, AreViewsOf, AreTypedViews, IsTypedAt, script_made, largest_of}
 use Rattle.mich_control.proofs.ForCallers.{ended_leads}

@@ -19,8 +19,8 @@ use Rattle.mich_instr.specs.declared.instr.Instr.{Instr}
 use Rattle.mich_term.specs.ValueView.{val}
 use Rattle.mich_data.specs.View.{all_pending}
 use Rattle.mich_data.specs.declared.pending.Read.{Read}
-use Rattle.mich_control.specs.declared.error.CheckError.{CheckError}
-use Rattle.mich_control.specs.declared.error.CheckError.TheVariants as error
+use Rattle.mich_typed.specs.declared.error.CheckError.{CheckError}
+use Rattle.mich_typed.specs.declared.error.CheckError.TheVariants as error
 use Rattle.mich_check.specs.declared.literals.Checked.{Checked as CodeChecked}
 
 -- the greatest location behind a body

@@ -24,8 +24,8 @@ use Rattle.mich_instr.specs.Scripts.{IsTypedScript}
 use Rattle.mich_instr.specs.declared.instr.Instr.{Instr}
 use Rattle.mich_instr.specs.declared.instr.Script.{Script}
 use Rattle.mich_instr.specs.declared.instr.ViewCode.{ViewCode as CodeOfView}
-use Rattle.mich_control.specs.declared.error.CheckError.{CheckError}
-use Rattle.mich_control.specs.declared.error.CheckError.TheVariants as error
+use Rattle.mich_typed.specs.declared.error.CheckError.{CheckError}
+use Rattle.mich_typed.specs.declared.error.CheckError.TheVariants as error
 use Rattle.mich_check.specs.declared.ends.Ends.{Ends}
 use Rattle.mich_check.specs.declared.creating.Origin.{Origin as CodeOrigin}
 use Rattle.mich_control.specs.Answers.{inside}

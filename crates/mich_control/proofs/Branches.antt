@@ -21,8 +21,8 @@ use Rattle.mich_instr.specs.Code.{Code, Codes}
 use Rattle.mich_instr.specs.Typed.{HasForm, IsCode, AreCode, is_if, is_if_none, is_if_left, is_if_cons}
 use Rattle.mich_control.specs.declared.form.Branch.{Branch}
 use Rattle.mich_control.specs.declared.form.Branch.TheVariants as branch
-use Rattle.mich_control.specs.declared.error.CheckError.{CheckError}
-use Rattle.mich_control.specs.declared.error.CheckError.TheVariants as error
+use Rattle.mich_typed.specs.declared.error.CheckError.{CheckError}
+use Rattle.mich_typed.specs.declared.error.CheckError.TheVariants as error
 use Rattle.mich_control.specs.Begun.{branched, stacks}
 use Rattle.mich_control.specs.View.{branch_form, branch_code}
 use Rattle.mich_control.specs.Answers.{typing, Leads, IsFault, inside}

@@ -22,12 +22,12 @@ use Rattle.mich_instr.specs.Code.{Code, Codes}
 use Rattle.mich_instr.specs.Code as made
 use Rattle.mich_instr.specs.View.{code, codes}
 use Rattle.mich_instr.specs.Typed.{HasForm, IsCode, AreCode, is_dip, is_dip_by}
-use Rattle.mich_control.specs.declared.error.CheckError.{CheckError}
-use Rattle.mich_control.specs.declared.error.CheckError.TheVariants as error
+use Rattle.mich_typed.specs.declared.error.CheckError.{CheckError}
+use Rattle.mich_typed.specs.declared.error.CheckError.TheVariants as error
 use Rattle.mich_control.specs.declared.dips.Count.{Count}
 use Rattle.mich_control.specs.declared.dips.Count.TheVariants as count
-use Rattle.mich_control.specs.declared.made.Body.{Body}
-use Rattle.mich_control.specs.declared.made.Made.{Made}
+use Rattle.mich_typed.specs.declared.made.Body.{Body}
+use Rattle.mich_typed.specs.declared.made.Made.{Made}
 use Rattle.mich_control.specs.Answers.{typing, Leads, IsFault, IsFound, IsInstr, inside}
 use Rattle.mich_control.specs.Dips.{counted, written, IsCount, IsDipped}
 use Rattle.mich_control.proofs.Shifts.{unshift, body_at, fault_is}

@@ -26,10 +26,10 @@ use Rattle.mich_instr.specs.Code as i
 use Rattle.mich_instr.specs.Plain.{bare}
 use Rattle.mich_instr.specs.View.{code, codes}
 use Rattle.mich_instr.specs.Typed.{HasForm, lambda_form, IsCode, AreCode, is_lambda}
-use Rattle.mich_control.specs.declared.error.CheckError.{CheckError}
-use Rattle.mich_control.specs.declared.error.CheckError.TheVariants as error
-use Rattle.mich_control.specs.declared.made.Body.{Body}
-use Rattle.mich_control.specs.declared.made.Made.{Made}
+use Rattle.mich_typed.specs.declared.error.CheckError.{CheckError}
+use Rattle.mich_typed.specs.declared.error.CheckError.TheVariants as error
+use Rattle.mich_typed.specs.declared.made.Body.{Body}
+use Rattle.mich_typed.specs.declared.made.Made.{Made}
 use Rattle.mich_control.specs.Answers.{typing, Leads, ends_in, IsFault, IsFound, IsInstr, inside}
 use Rattle.mich_control.specs.Arrows.{arrow, arrow_of, arrow_in, is_allowed, IsBegun, ended, IsLambdaMade}
 use Rattle.mich_control.proofs.Shifts.{bad_here, unshift, body_at, fault_is}

@@ -20,8 +20,8 @@ use Rattle.mich_instr.specs.Code.{Code, Codes}
 use Rattle.mich_instr.specs.Typed.{HasForm, of_list, of_set, of_map, IsCode, AreCode, is_loop, is_loop_left, is_iter}
 use Rattle.mich_control.specs.declared.form.Loop.{Loop}
 use Rattle.mich_control.specs.declared.form.Loop.TheVariants as loop
-use Rattle.mich_control.specs.declared.error.CheckError.{CheckError}
-use Rattle.mich_control.specs.declared.error.CheckError.TheVariants as error
+use Rattle.mich_typed.specs.declared.error.CheckError.{CheckError}
+use Rattle.mich_typed.specs.declared.error.CheckError.TheVariants as error
 use Rattle.mich_control.specs.Begun.{Turning, turning, turning_on, looped}
 use Rattle.mich_control.specs.View.{loop_form, loop_code}
 use Rattle.mich_control.specs.Answers.{typing, Leads, ends_in, IsFault, inside}

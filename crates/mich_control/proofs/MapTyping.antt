@@ -21,10 +21,10 @@ use Rattle.mich_instr.specs.Code.{Code, Codes}
 use Rattle.mich_instr.specs.Code as made
 use Rattle.mich_instr.specs.View.{code, codes}
 use Rattle.mich_instr.specs.Typed.{HasForm, IsCode, AreCode, to_list, to_option, to_map, is_map}
-use Rattle.mich_control.specs.declared.error.CheckError.{CheckError}
-use Rattle.mich_control.specs.declared.error.CheckError.TheVariants as error
-use Rattle.mich_control.specs.declared.made.Body.{Body}
-use Rattle.mich_control.specs.declared.made.Made.{Made}
+use Rattle.mich_typed.specs.declared.error.CheckError.{CheckError}
+use Rattle.mich_typed.specs.declared.error.CheckError.TheVariants as error
+use Rattle.mich_typed.specs.declared.made.Body.{Body}
+use Rattle.mich_typed.specs.declared.made.Made.{Made}
 use Rattle.mich_control.specs.Answers.{typing, Leads, IsFault, IsInstr, inside}
 use Rattle.mich_control.specs.Maps.{Target, made_to, over_parts, Mapping, mapping, mapped_over, IsMapped}
 use Rattle.mich_control.specs.Maps as m

@@ -25,7 +25,7 @@ use Rattle.mich_instr.specs.View.{code}
 use Rattle.mich_instr.specs.Typed.{HasForm, IsCode, is_exec, is_apply, is_failwith, is_never}
 use Rattle.mich_control.specs.declared.form.Bodiless.{Bodiless}
 use Rattle.mich_control.specs.declared.form.Bodiless.TheVariants as bodiless
-use Rattle.mich_control.specs.declared.made.Made.{Made}
+use Rattle.mich_typed.specs.declared.made.Made.{Made}
 use Rattle.mich_control.specs.Begun.{Plain, plainly, where_so, on_stack}
 use Rattle.mich_control.specs.View.{bodiless_form, plain_of}
 use Rattle.mich_control.specs.Answers.{typing, Leads}

@@ -4,8 +4,8 @@ use Rattle.std.specs.Prelude.{Err}
 use Rattle.rules_code.specs.instructions.Arguments.{Found, found, fault, and_then}
 use Rattle.rules_code.specs.typing.Typing.{Typing, bad, shift, on_found}
 use Rattle.mich_outline.specs.Answers.{found_from}
-use Rattle.mich_control.specs.declared.error.CheckError.{CheckError}
-use Rattle.mich_control.specs.declared.error.CheckError.TheVariants as error
+use Rattle.mich_typed.specs.declared.error.CheckError.{CheckError}
+use Rattle.mich_typed.specs.declared.error.CheckError.TheVariants as error
 use Rattle.mich_control.specs.Answers.{IsFault, IsFound}
 
 -- a fault of what is read first is the fault of the whole

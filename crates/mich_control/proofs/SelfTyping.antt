@@ -25,7 +25,7 @@ use Rattle.mich_instr.specs.Plain.{kept}
 use Rattle.mich_instr.specs.Code.{Code}
 use Rattle.mich_instr.specs.Code as made_code
 use Rattle.mich_instr.specs.Typed.{HasForm, IsCode, is_self}
-use Rattle.mich_control.specs.declared.error.CheckError.{CheckError}
+use Rattle.mich_typed.specs.declared.error.CheckError.{CheckError}
 use Rattle.mich_control.specs.Begun.{entry_in}
 use Rattle.mich_control.specs.Answers.{IsFault, IsFound}
 use Rattle.mich_control.proofs.Shifts.{fault_is}

@@ -6,8 +6,8 @@ use Rattle.rules_code.specs.instructions.Context.{Context}
 use Rattle.rules_code.specs.typing.Typing.{Typing, goes, fails, bad, shift}
 use Rattle.rules_code.specs.typing.Nodes.{body, tree_type, trees_type}
 use Rattle.mich_base.specs.declared.ty.Ty.{Ty}
-use Rattle.mich_control.specs.declared.error.CheckError.{CheckError}
-use Rattle.mich_control.specs.declared.error.CheckError.TheVariants as error
+use Rattle.mich_typed.specs.declared.error.CheckError.{CheckError}
+use Rattle.mich_typed.specs.declared.error.CheckError.TheVariants as error
 use Rattle.mich_control.specs.Answers.{typing, IsFault}
 
 pub shift_shift : (k j : ℕ) (t : Typing) → shift k (shift j t) ≡ shift (k + j) t

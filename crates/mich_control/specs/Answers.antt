@@ -15,10 +15,10 @@ use Rattle.mich_overload.specs.View.{kinds}
 use Rattle.mich_instr.specs.View.{code, codes}
 pub use Rattle.mich_instr.specs.Body.{inside}
 use Rattle.mich_instr.specs.Typed.{IsCode, AreCode}
-use Rattle.mich_control.specs.declared.error.CheckError.{CheckError}
-use Rattle.mich_control.specs.declared.error.CheckError.TheVariants as error
-use Rattle.mich_control.specs.declared.made.Made.{Made}
-use Rattle.mich_control.specs.declared.made.Body.{Body}
+use Rattle.mich_typed.specs.declared.error.CheckError.{CheckError}
+use Rattle.mich_typed.specs.declared.error.CheckError.TheVariants as error
+use Rattle.mich_typed.specs.declared.made.Made.{Made}
+use Rattle.mich_typed.specs.declared.made.Body.{Body}
 
 -- to the stack after it, or that it fails
 abbrev pub typing : Option (List Ty) → Typing

@@ -15,10 +15,10 @@ use Rattle.mich_instr.specs.Code.{Code, Codes}
 use Rattle.mich_instr.specs.Plain.{bare}
 use Rattle.mich_instr.specs.View.{code, codes}
 use Rattle.mich_control.specs.declared.arrows.Arrow.{Arrow as CodeArrow}
-use Rattle.mich_control.specs.declared.error.CheckError.{CheckError}
-use Rattle.mich_control.specs.declared.error.CheckError.TheVariants as error
-use Rattle.mich_control.specs.declared.made.Body.{Body}
-use Rattle.mich_control.specs.declared.made.Made.{Made}
+use Rattle.mich_typed.specs.declared.error.CheckError.{CheckError}
+use Rattle.mich_typed.specs.declared.error.CheckError.TheVariants as error
+use Rattle.mich_typed.specs.declared.made.Body.{Body}
+use Rattle.mich_typed.specs.declared.made.Made.{Made}
 use Rattle.mich_control.specs.Answers.{IsFault, typing}
 
 abbrev pub arrow : Kind → Kind → Arrow

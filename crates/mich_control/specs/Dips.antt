@@ -13,12 +13,12 @@ use Rattle.mich_overload.specs.View.{kinds}
 use Rattle.mich_outline.specs.Answers.{found_from}
 use Rattle.mich_instr.specs.Code as made
 use Rattle.mich_instr.specs.View.{code, codes}
-use Rattle.mich_control.specs.declared.error.CheckError.{CheckError}
+use Rattle.mich_typed.specs.declared.error.CheckError.{CheckError}
 use Rattle.mich_control.specs.declared.dips.Count.{Count}
 use Rattle.mich_control.specs.declared.dips.Count.TheVariants as count
 use Rattle.mich_control.specs.declared.dips.Dip.{Dip}
-use Rattle.mich_control.specs.declared.made.Body.{Body}
-use Rattle.mich_control.specs.declared.made.Made.{Made}
+use Rattle.mich_typed.specs.declared.made.Body.{Body}
+use Rattle.mich_typed.specs.declared.made.Made.{Made}
 use Rattle.mich_control.specs.Answers.{IsFault, IsFound, typing}
 
 -- how many values stay as they are

@@ -6,12 +6,12 @@ use Rattle.mich_base.specs.TypeView.{kind}
 use Rattle.mich_overload.specs.View.{kinds}
 use Rattle.mich_instr.specs.Code as made
 use Rattle.mich_instr.specs.View.{code, codes}
-use Rattle.mich_control.specs.declared.error.CheckError.{CheckError}
+use Rattle.mich_typed.specs.declared.error.CheckError.{CheckError}
 use Rattle.mich_control.specs.declared.maps.Target.{Target as CodeTarget}
 use Rattle.mich_control.specs.declared.maps.Target.TheVariants as target
 use Rattle.mich_control.specs.declared.maps.Mapping.{Mapping as CodeMapping}
-use Rattle.mich_control.specs.declared.made.Body.{Body}
-use Rattle.mich_control.specs.declared.made.Made.{Made}
+use Rattle.mich_typed.specs.declared.made.Body.{Body}
+use Rattle.mich_typed.specs.declared.made.Made.{Made}
 use Rattle.mich_control.specs.Answers.{IsFault, typing}
 
 -- what is made of new parts: a list, an option, or a map with these keys

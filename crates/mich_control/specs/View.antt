@@ -14,7 +14,7 @@ use Rattle.mich_control.specs.declared.form.Branch.{Branch}
 use Rattle.mich_control.specs.declared.form.Branch.TheVariants as branch
 use Rattle.mich_control.specs.declared.form.Bodiless.{Bodiless}
 use Rattle.mich_control.specs.declared.form.Bodiless.TheVariants as bodiless
-use Rattle.mich_control.specs.declared.made.Made.{Made}
+use Rattle.mich_typed.specs.declared.made.Made.{Made}
 use Rattle.mich_control.specs.declared.form.Loop.{Loop}
 use Rattle.mich_control.specs.declared.form.Loop.TheVariants as loop
 use Rattle.mich_overload.specs.View.{kinds}

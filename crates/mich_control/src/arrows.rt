@@ -12,9 +12,7 @@ ghost use Rattle.mich_control.specs.Answers.{IsFound};
 ghost use Rattle.mich_control.specs.Arrows.{IsBegun, IsLambdaFrom, arrow_in, arrow_of, lambda_code};
 
 use crate::bodiless::lambda_of;
-use crate::error::CheckError;
 use crate::joining::ends_in;
-use crate::made::{Body, Made};
 use crate::plain::bare_node;
 use crate::reading::type_with;
 use crate::stacks::{only, push_type, with_made};
@@ -22,6 +20,7 @@ use mich_base::{Link, Memory, Node, Nodes, Rows, Shared, Ty, copy_node, copy_typ
 use mich_instr::{Block, Instr};
 use mich_outline::Attribute;
 use mich_stackrules::is_within_limit;
+use mich_typed::{Body, CheckError, Made};
 use mich_types::behind;
 use std::alloc::Global;
 

@@ -8,11 +8,11 @@ ghost use Rattle.mich_control.specs.Begun.{IsNoTaker, on_stack};
 ghost use Rattle.mich_control.specs.View.{plain_of};
 
 use crate::form::Bodiless;
-use crate::made::Made;
 use crate::stacks::{push_type, without};
 use mich_base::{Link, Memory, Rows, Ty, copy_type};
 use mich_instr::Instr;
 use mich_overload::{same_kind, split_top, two_on_top};
+use mich_typed::Made;
 use mich_types::pushable;
 use std::alloc::Global;
 
@@ -128,10 +128,7 @@ fn failwith_on(alloc: Global, types: &[Ty]) -> Result<Option<Made>, Memory>
     if !pushable(top) {
         return Ok(None);
     }
-    Ok(Some(Made {
-        instr: Instr::Failwith(copy_type(alloc, top)?),
-        after: None,
-    }))
+    Ok(Some(Made::failwith(alloc, top)?))
 }
 
 fn never_on(types: &[Ty]) -> Option<Made>

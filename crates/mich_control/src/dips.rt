@@ -9,12 +9,11 @@ ghost use Rattle.mich_instr.specs.View.{code, codes};
 ghost use Rattle.mich_control.specs.Answers.{IsStack, typing};
 ghost use Rattle.mich_control.specs.Dips.{IsDip, IsDipped, IsSplit, counted, written};
 
-use crate::error::CheckError;
-use crate::made::{Body, Made};
 use crate::reading::count_of_values;
 use crate::stacks::stacked;
 use mich_base::{Memory, Node, Nodes, Rows, Ty, copy_node};
 use mich_instr::{Block, Instr};
+use mich_typed::{Body, CheckError, Made};
 use mich_types::behind;
 use std::alloc::Global;
 

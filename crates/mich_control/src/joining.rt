@@ -5,8 +5,8 @@ ghost use Rattle.rules_code.specs.typing.Typing.{join, shift};
 ghost use Rattle.mich_overload.specs.View.{kinds};
 ghost use Rattle.mich_control.specs.Answers.{IsAfter, ends_in, typing};
 
-use crate::error::CheckError;
 use mich_base::{Rows, Ty, same_type};
+use mich_typed::CheckError;
 
 #[tactic(auto, using(crate::proofs::Tops::alike_more, crate::proofs::Tops::alike_all, crate::proofs::Tops::differ))]
 fn same_lists(types: &Rows<Ty>, others: &Rows<Ty>) -> bool

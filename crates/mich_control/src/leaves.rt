@@ -9,15 +9,14 @@ ghost use Rattle.mich_control.specs.View.{bodiless_form, context};
 ghost use Rattle.mich_control.specs.Answers.{IsInstrAt};
 
 use crate::bodiless::bodiless_instr;
-use crate::error::CheckError;
 use crate::form::Bodiless;
-use crate::made::Made;
 use crate::place::{Place, is_view};
 use crate::plain::plain_app;
 use mich_base::{App, Rows, Ty};
 use mich_instr::Instr;
 use mich_outline::TypingError;
 use mich_stackrules::rule_at;
+use mich_typed::{CheckError, Made};
 use std::alloc::Global;
 
 /// An instruction without bodies at a location, by its arguments and the stack. IllTyped has the location of its first fault;

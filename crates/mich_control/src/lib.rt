@@ -7,11 +7,9 @@
 mod arrows;
 mod bodiless;
 mod dips;
-mod error;
 mod form;
 mod joining;
 mod leaves;
-mod made;
 mod maps;
 mod place;
 mod plain;
@@ -23,12 +21,11 @@ mod stacks;
 
 pub use arrows::{Arrow, Written, begun, call_types, lambda_made, read_arrow};
 pub use dips::{Count, Dip, counted, dip_parts, dipped, split_stack};
-pub use error::CheckError;
 pub use form::{Bodiless, Branch, Form, Loop, form_of_name};
 pub use joining::{ends_in, joined};
 pub use leaves::{check_bodiless, check_straight, check_transfer};
-pub use made::{Body, Made};
 pub use maps::{Mapping, Target, map_stacks, mapped};
+pub use mich_typed::{Body, CheckError, Made};
 pub use place::{Place, is_view};
 pub use pushes::push_made;
 pub use reading::type_with;

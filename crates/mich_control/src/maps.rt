@@ -6,14 +6,13 @@ ghost use Rattle.mich_overload.specs.View.{kinds};
 ghost use Rattle.mich_control.specs.Answers.{typing};
 ghost use Rattle.mich_control.specs.Maps.{IsMapped, mapped_over, mapping_of, over_parts, made_to, target_of};
 
-use crate::error::CheckError;
 use crate::joining::same_types;
-use crate::made::{Body, Made};
 use crate::shapes::pair_of;
 use crate::stacks::{pop_type, with_made, with_top};
 use mich_base::{Link, Memory, Rows, Ty, copy_type};
 use mich_instr::Instr;
 use mich_overload::split_top;
+use mich_typed::{Body, CheckError, Made};
 use std::alloc::Global;
 
 /// What MAP makes of the new parts: a list, an option, or a map with these keys.

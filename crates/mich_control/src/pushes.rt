@@ -9,11 +9,11 @@ ghost use Rattle.mich_instr.specs.Plain.{bare};
 ghost use Rattle.mich_instr.specs.View.{code, codes};
 ghost use Rattle.mich_control.specs.Answers.{typing};
 
-use crate::made::Made;
 use crate::plain::bare_node;
 use crate::stacks::push_type;
 use mich_base::{Memory, Node, Rows, Ty, copy_node, copy_type};
 use mich_instr::Instr;
+use mich_typed::Made;
 use std::alloc::Global;
 
 /// PUSH with its type and the lambdas in its literal, where that has no fault. Memory where there is no room for it.

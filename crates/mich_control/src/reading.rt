@@ -10,11 +10,11 @@ ghost use Rattle.mich_outline.specs.Answers.{found_from};
 ghost use Rattle.mich_outline.specs.Attributes.{asked};
 ghost use Rattle.mich_control.specs.Answers.{IsFound};
 
-use crate::error::CheckError;
 use mich_base::{Node, Texts, Ty};
 use mich_forms::Entrypoint;
 use mich_outline::{Attribute, TypingError, type_argument};
 use mich_stackrules::{OfCount, count_argument, named_entrypoint};
+use mich_typed::CheckError;
 use std::alloc::Global;
 
 /// The argument at a location as a type with an attribute. IllTyped has the location of its first fault; Memory where there is no

@@ -14,8 +14,6 @@ ghost use Rattle.mich_control.specs.Begun.{entry_in};
 ghost use Rattle.mich_control.specs.View.{context};
 ghost use Rattle.mich_control.specs.Answers.{IsFound, IsInstrAt};
 
-use crate::error::CheckError;
-use crate::made::Made;
 use crate::place::Place;
 use crate::plain::kept_annotations;
 use crate::reading::entrypoint_name;
@@ -23,6 +21,7 @@ use crate::stacks::with_made;
 use mich_base::{App, Link, Memory, Rows, Ty, copy_type};
 use mich_forms::Entrypoint;
 use mich_instr::Instr;
+use mich_typed::{CheckError, Made};
 use mich_types::{Entry, entrypoint};
 use std::alloc::Global;
 

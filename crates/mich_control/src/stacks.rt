@@ -5,9 +5,9 @@ ghost use Rattle.mich_base.specs.TypeView.{kind};
 ghost use Rattle.mich_overload.specs.View.{kinds};
 ghost use Rattle.mich_control.specs.Answers.{IsStack};
 
-use crate::error::CheckError;
 use mich_base::{Memory, Rows, Ty, copy_type};
 use mich_stackrules::is_within_limit;
+use mich_typed::CheckError;
 use std::alloc::Global;
 
 /// Takes the type on top; none where there is none.

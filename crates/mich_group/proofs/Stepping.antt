@@ -8,7 +8,7 @@ use Rattle.rules_world.specs.world.Outcomes.{Setting, Waiting, Counts as PlainCo
 use Rattle.rules_world.specs.world.Application.{apply}
 use Rattle.mich_bigmap.specs.Extended.{Extends}
 use Rattle.mich_machine.specs.Calls.{counts_of}
-use Rattle.mich_interpreter.specs.declared.state.Counts.{Counts}
+use Rattle.mich_state.specs.declared.state.Counts.{Counts}
 use Rattle.mich_operations.specs.Going.{Begins, IsApplied, EndsAs, WithMemory, effects_of, grown}
 use Rattle.mich_operations.specs.declared.applied.Applied.{Applied}
 use Rattle.mich_operations.specs.declared.applied.ApplyError.{ApplyError}

@@ -18,7 +18,7 @@ use Rattle.rules_world.specs.world.World.{World as PlainWorld}
 use Rattle.laws_world.specs.runs.Going.{IsGoing}
 use Rattle.laws_world.proofs.groups_lemmas.ForCallers.{KeepsWalk, tree_keeps, begins}
 use Rattle.mich_machine.specs.Calls.{counts_of}
-use Rattle.mich_interpreter.specs.declared.state.Counts.{Counts}
+use Rattle.mich_state.specs.declared.state.Counts.{Counts}
 use Rattle.mich_ops.specs.Told.{told, told_status}
 use Rattle.mich_ops.specs.View.{effect, status, content as content_of}
 use Rattle.mich_ops.specs.declared.failure.Failure.{Failure as Why}

@@ -14,7 +14,7 @@ use Rattle.rules_code.specs.steps.Failure.{Failure, out_of_gas}
 use Rattle.laws_world.specs.runs.Going.{IsGoing, KeepsGoing}
 use Rattle.laws_world.proofs.groups_lemmas.ForCallers.{apply_keeps}
 use Rattle.mich_machine.specs.Calls.{counts_of}
-use Rattle.mich_interpreter.specs.declared.state.Counts.{Counts}
+use Rattle.mich_state.specs.declared.state.Counts.{Counts}
 use Rattle.mich_operations.specs.declared.applied.ApplyError.{ApplyError}
 use Rattle.mich_ops.specs.Told.{told}
 use Rattle.mich_ops.specs.View.{effect, failure}

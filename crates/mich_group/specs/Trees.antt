@@ -12,7 +12,7 @@ use Rattle.laws_world.specs.runs.Going.{IsSetting, IsGoing}
 use Rattle.mich_gas.specs.View.{listed}
 use Rattle.mich_gas.specs.declared.costs.Costs.{Costs}
 use Rattle.mich_machine.specs.Calls.{counts_of}
-use Rattle.mich_interpreter.specs.declared.state.Counts.{Counts}
+use Rattle.mich_state.specs.declared.state.Counts.{Counts}
 use Rattle.mich_operations.specs.declared.applied.ApplyError.{ApplyError}
 use Rattle.mich_operations.specs.declared.applied.ApplyError.TheVariants as one
 use Rattle.mich_ops.specs.Told.{told}

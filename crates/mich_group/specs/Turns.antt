@@ -8,7 +8,7 @@ use Rattle.rules_world.specs.world.Trees.{Walk, Last, completed, broken_off, tre
 use Rattle.rules_world.specs.world.World.{World as PlainWorld}
 use Rattle.mich_gas.specs.declared.costs.Costs.{Costs}
 use Rattle.mich_machine.specs.Calls.{counts_of}
-use Rattle.mich_interpreter.specs.declared.state.Counts.{Counts}
+use Rattle.mich_state.specs.declared.state.Counts.{Counts}
 use Rattle.mich_ops.specs.Told.{told, told_status}
 use Rattle.mich_ops.specs.View.{content as content_of, effect, failure, status}
 use Rattle.mich_ops.specs.declared.failure.Failure.{Failure as Failed}

@@ -47,7 +47,7 @@ use Rattle.mich_tickets.specs.Effects.{Tells}
 use Rattle.mich_tickets.specs.Limits.{IsReady}
 use Rattle.mich_interpreter.specs.View.{Beyond, tops, around, tally}
 use Rattle.mich_interpreter.specs.Ends.{Meets}
-use Rattle.mich_interpreter.specs.declared.state.State.{State}
+use Rattle.mich_state.specs.declared.state.State.{State}
 use Rattle.mich_interpreter.proofs.Plain.{big_value_plain, entries_fit_plain}
 use Rattle.mich_interpreter.proofs.Suited.{ready_tops}
 use Rattle.mich_interpreter.proofs.Told.{stands_told, later}

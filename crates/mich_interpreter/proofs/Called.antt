@@ -40,7 +40,7 @@ use Rattle.mich_interpreter.specs.declared.act.Act.TheVariants as a
 use Rattle.mich_interpreter.specs.declared.act.View.{View}
 use Rattle.mich_interpreter.specs.declared.callers.Caller.{Caller}
 use Rattle.mich_interpreter.specs.declared.machine.Machine.{Machine}
-use Rattle.mich_interpreter.specs.declared.state.State.{State}
+use Rattle.mich_state.specs.declared.state.State.{State}
 use Rattle.mich_interpreter.proofs.Keeping.{keeps_on, past_on}
 use Rattle.mich_interpreter.proofs.Told.{before_stays}
 

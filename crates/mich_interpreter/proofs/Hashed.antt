@@ -22,7 +22,7 @@ use Rattle.mich_step.proofs.ForCallers.{tells_same}
 use Rattle.mich_term.specs.declared.value.Value.{Value}
 use Rattle.mich_interpreter.specs.View.{Beyond, tops, around, tally}
 use Rattle.mich_interpreter.specs.Ends.{Meets}
-use Rattle.mich_interpreter.specs.declared.state.State.{State}
+use Rattle.mich_state.specs.declared.state.State.{State}
 use Rattle.mich_interpreter.proofs.Told.{stands_told, later}
 
 module _ (x : Beyond) (costs : Costs) (m : State) {fs : List Frame} {d : ℕ} {Z : List Kind} {o : Outcome} (r : HashRow) {app : Tree} (h : Meets (made.straight (on_hashes r) app) x costs m fs d Z o) where

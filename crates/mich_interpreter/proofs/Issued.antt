@@ -24,8 +24,8 @@ use Rattle.mich_frames.specs.Shapes.{HasTop, HasTransfer}
 use Rattle.mich_frames.specs.Stands.{StandsAt}
 use Rattle.mich_interpreter.specs.Issues.{issued_by}
 use Rattle.mich_interpreter.specs.View.{Beyond, tops, all_issued, around, tally}
-use Rattle.mich_interpreter.specs.declared.state.Counts.{Counts}
-use Rattle.mich_interpreter.specs.declared.state.State.{State}
+use Rattle.mich_state.specs.declared.state.Counts.{Counts}
+use Rattle.mich_state.specs.declared.state.State.{State}
 
 module _ (x : Beyond) (costs : Costs) (old : State) (stack : List Value) (meter : ℕ) (counts : Counts) (issued : List Issued) (fs : List Frame) (d : ℕ) (Z : List Kind) (o : Outcome) where
   abbrev P : ℕ → ℕ → ℕ → ℕ → List rules.Issued → Type 0

@@ -12,7 +12,7 @@ use Rattle.mich_interpreter.specs.declared.act.Act.{Act}
 use Rattle.mich_interpreter.specs.declared.act.Act.TheVariants as a
 use Rattle.mich_interpreter.specs.declared.machine.Step.{Step}
 use Rattle.mich_interpreter.specs.declared.machine.Step.TheVariants as s
-use Rattle.mich_interpreter.specs.declared.state.State.{State}
+use Rattle.mich_state.specs.declared.state.State.{State}
 use Rattle.mich_interpreter.proofs.Changed.{tells_then}
 
 -- ---- scripts

@@ -14,7 +14,7 @@ use Rattle.mich_interpreter.specs.Runs.{Behind, IsNoBlock}
 use Rattle.mich_interpreter.specs.declared.frame.Frame.{Frame}
 use Rattle.mich_interpreter.specs.declared.frame.Frame.TheVariants as f
 use Rattle.mich_interpreter.specs.declared.machine.Machine.{Machine}
-use Rattle.mich_interpreter.specs.declared.state.State.{State}
+use Rattle.mich_state.specs.declared.state.State.{State}
 use Rattle.mich_interpreter.proofs.Begun.{OpensOver}
 use Rattle.mich_interpreter.proofs.Listed.{map_reverse}
 

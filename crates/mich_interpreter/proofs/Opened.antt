@@ -42,7 +42,7 @@ use Rattle.mich_interpreter.specs.Viewing.{env_at}
 use Rattle.mich_interpreter.specs.Visits.{IsVisit, Visits}
 use Rattle.mich_interpreter.specs.declared.act.Act.TheVariants as act
 use Rattle.mich_interpreter.specs.declared.act.View.{View}
-use Rattle.mich_interpreter.specs.declared.state.State.{State}
+use Rattle.mich_state.specs.declared.state.State.{State}
 use Rattle.mich_interpreter.specs.declared.visits.Visit.{Visit}
 use Rattle.mich_interpreter.proofs.Suited.{ready_tops}
 use Rattle.mich_interpreter.proofs.Told.{later, stands_told}

@@ -25,7 +25,7 @@ use Rattle.mich_stack.specs.Views.{Sight}
 use Rattle.mich_interpreter.specs.View.{Beyond, tops}
 use Rattle.mich_interpreter.specs.Ends.{Meets}
 use Rattle.mich_interpreter.proofs.Plain.{packable_plain}
-use Rattle.mich_interpreter.specs.declared.state.State.{State}
+use Rattle.mich_state.specs.declared.state.State.{State}
 
 where_holds : (b : Bool) (o : Option Change) (c : Change) → where_true b o ≡ Some c → b ≡ true
 where_holds true o c e = refl

@@ -11,7 +11,7 @@ use Rattle.mich_frames.proofs.ForCallers.{enters}
 use Rattle.mich_interpreter.specs.View.{Beyond, tops, frames, around, tally}
 use Rattle.mich_interpreter.specs.Begins.{Opens}
 use Rattle.mich_interpreter.specs.declared.frame.Frame.{Frame}
-use Rattle.mich_interpreter.specs.declared.state.State.{State}
+use Rattle.mich_state.specs.declared.state.State.{State}
 
 pub run_begins : (x : Beyond) (costs : Costs) (code : List Instr) (m : State) (Z : List Kind) (o : Outcome) (gs : List Frame) → gs ≡ [] → Opens x costs code m Z o →
     StandsAt (fr.rest (codes code) ∷ frames x.sight gs ++ []) (around x costs m) (tops x.sight m.stack) (tally x m) 1 Z o

@@ -24,7 +24,7 @@ use Rattle.mich_tickets.specs.Effects.{Tells}
 use Rattle.mich_tickets.specs.Sums.{minted_of}
 use Rattle.mich_interpreter.specs.View.{Beyond, tops, around, tally}
 use Rattle.mich_interpreter.specs.Ends.{Meets}
-use Rattle.mich_interpreter.specs.declared.state.State.{State}
+use Rattle.mich_state.specs.declared.state.State.{State}
 use Rattle.mich_interpreter.proofs.Ruled.{rule_acts, rule_fails, rule_fits}
 use Rattle.mich_interpreter.proofs.Told.{minted_is, stands_told, later}
 

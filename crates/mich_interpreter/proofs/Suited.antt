@@ -26,7 +26,7 @@ use Rattle.mich_tickets.specs.Sums.{minted_of, burnt_of}
 use Rattle.mich_interpreter.specs.Issues.{issued_by}
 use Rattle.mich_interpreter.specs.View.{Beyond, tops, around, tally}
 use Rattle.mich_interpreter.specs.Ends.{Meets}
-use Rattle.mich_interpreter.specs.declared.state.State.{State}
+use Rattle.mich_state.specs.declared.state.State.{State}
 use Rattle.mich_interpreter.proofs.Told.{minted_by_now, burnt_is}
 
 -- ---- operations that were issued before a view, and in it

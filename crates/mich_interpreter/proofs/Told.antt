@@ -21,7 +21,7 @@ use Rattle.mich_frames.specs.Rows.{minted_at}
 use Rattle.mich_frames.specs.Stands.{StandsAt}
 use Rattle.laws_code.specs.evaluation.Laws.{amount_issued}
 use Rattle.mich_interpreter.specs.View.{Before, Beyond, tops, all_changes, minted_before, burnt_before, around, tally}
-use Rattle.mich_interpreter.specs.declared.state.State.{State}
+use Rattle.mich_state.specs.declared.state.State.{State}
 
 back : (a b : ℤ) → (a -ℤ b) +ℤ b ≡ a
 back a b = omega (arith, ints)

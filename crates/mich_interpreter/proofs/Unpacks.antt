@@ -40,7 +40,7 @@ use Rattle.mich_term.specs.declared.value.Value.{Value}
 use Rattle.mich_literals.specs.unpacking.Unpacked.{IsUnpacked}
 use Rattle.mich_interpreter.specs.Ends.{IsPaid, Meets}
 use Rattle.mich_interpreter.specs.View.{Beyond, tops, around, tally}
-use Rattle.mich_interpreter.specs.declared.state.State.{State}
+use Rattle.mich_state.specs.declared.state.State.{State}
 use Rattle.mich_interpreter.proofs.Hashed.{hash_stands}
 use Rattle.mich_interpreter.proofs.Operands.{has_operand}
 use Rattle.mich_interpreter.proofs.Pushed.{whole_is}

@@ -31,7 +31,7 @@ use Rattle.mich_stack.specs.Views.{Sight}
 use Rattle.mich_step.specs.Rule.{Suits}
 use Rattle.mich_interpreter.specs.View.{Beyond, tops, tally}
 use Rattle.mich_interpreter.specs.Ends.{Meets}
-use Rattle.mich_interpreter.specs.declared.state.State.{State}
+use Rattle.mich_state.specs.declared.state.State.{State}
 
 -- ---- what stands on top, by its type
 

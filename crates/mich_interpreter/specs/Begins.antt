@@ -7,7 +7,7 @@ use Rattle.mich_instr.specs.View.{codes}
 use Rattle.mich_instr.specs.declared.instr.Instr.{Instr}
 use Rattle.mich_frames.specs.Stands.{OpensAt}
 use Rattle.mich_interpreter.specs.View.{Beyond, tops, around, tally}
-use Rattle.mich_interpreter.specs.declared.state.State.{State}
+use Rattle.mich_state.specs.declared.state.State.{State}
 
 -- A block of this code comes first, and nothing else: the outcome of the whole is o, and a stack that comes out has the types Z.
 abbrev pub Opens : Beyond → Costs → List Instr → State → List Kind → Outcome → Type 0

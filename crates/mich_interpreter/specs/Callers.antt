@@ -19,7 +19,7 @@ use Rattle.mich_interpreter.specs.View.{Before, Beyond, all_changes, all_issued,
 use Rattle.mich_interpreter.specs.declared.act.View.{View}
 use Rattle.mich_interpreter.specs.declared.callers.Caller.{Caller}
 use Rattle.mich_interpreter.specs.declared.machine.Machine.{Machine}
-use Rattle.mich_interpreter.specs.declared.state.State.{State}
+use Rattle.mich_state.specs.declared.state.State.{State}
 use Rattle.mich_world.specs.World.{World}
 
 -- what was before the view that a caller called

@@ -34,7 +34,7 @@ use Rattle.mich_interpreter.specs.declared.frame.Frame.{Frame}
 use Rattle.mich_interpreter.specs.declared.frame.Frame.TheVariants as kept
 use Rattle.mich_interpreter.specs.declared.loops.Turn.{Turn}
 use Rattle.mich_interpreter.specs.declared.loops.Turn.TheVariants as turn
-use Rattle.mich_interpreter.specs.declared.state.State.{State}
+use Rattle.mich_state.specs.declared.state.State.{State}
 use Rattle.mich_term.specs.ValueView.{val}
 use Rattle.mich_tickets.specs.Effects.{Tells}
 use Rattle.mich_interpreter.specs.Issues.{KeepsScripts}

@@ -17,7 +17,7 @@ use Rattle.mich_interpreter.specs.declared.act.Act.TheVariants as a
 use Rattle.mich_interpreter.specs.declared.frame.Frame.{Frame}
 use Rattle.mich_interpreter.specs.declared.frame.Frame.TheVariants as f
 use Rattle.mich_interpreter.specs.declared.machine.Machine.{Machine}
-use Rattle.mich_interpreter.specs.declared.state.State.{State}
+use Rattle.mich_state.specs.declared.state.State.{State}
 use Rattle.mich_interpreter.specs.declared.machine.Step.{Step}
 use Rattle.mich_interpreter.specs.declared.machine.Step.TheVariants as s
 use Rattle.mich_interpreter.specs.declared.machine.Ended.{Ended}

@@ -25,7 +25,7 @@ use Rattle.mich_interpreter.specs.Items.{items_left}
 use Rattle.mich_interpreter.specs.Made.{making_of}
 use Rattle.mich_interpreter.specs.declared.frame.Frame.{Frame}
 use Rattle.mich_interpreter.specs.declared.frame.Frame.TheVariants as f
-use Rattle.mich_interpreter.specs.declared.state.State.{State}
+use Rattle.mich_state.specs.declared.state.State.{State}
 
 -- the operations that were issued, and the changes, before the view that runs; outside views there are none
 pub record Before : Type 0 where

@@ -14,12 +14,12 @@ use crate::applied::made_body;
 use crate::calls::pop_lambda;
 use crate::paying::pay_capped;
 use crate::stack::{pop, push};
-use crate::state::State;
 use mich_base::{
     APPLIED_DEPTH, APPLIED_SIZE, Memory, Node, Nodes, Ty, copy_node, depth_within, size_within,
 };
 use mich_data::value_node;
 use mich_gas::{Costs, Kind};
+use mich_state::State;
 use mich_term::{Value, weight};
 use mich_types::{application, bare, over_two, type_node};
 use std::alloc::Global;

@@ -8,11 +8,11 @@ ghost use Rattle.mich_interpreter.specs.Runs.{IsEnd, KeepsEnd};
 ghost use Rattle.mich_interpreter.specs.Sees.{Sees};
 
 use crate::machine::{Ended, Machine, work};
-use crate::state::State;
 use mich_base::{Memory, Rows};
 use mich_check::cache::Bodies;
 use mich_gas::Costs;
 use mich_instr::Block;
+use mich_state::State;
 use mich_world::World;
 use std::alloc::Global;
 

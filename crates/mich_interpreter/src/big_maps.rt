@@ -10,10 +10,10 @@ ghost use Rattle.mich_interpreter.specs.Ends.{ComesIn, CarriesIn, Spends, KeepsA
 use crate::act::{Act, Failed};
 use crate::burning::burn_value;
 use crate::paying::pay_capped;
-use crate::state::State;
 use mich_base::Memory;
 use mich_gas::Costs;
 use mich_overload::CollectionRow;
+use mich_state::State;
 use mich_step::prices::collection_price;
 use mich_store_steps::big_maps::{big_map_step, big_map_weight};
 use mich_world::World;

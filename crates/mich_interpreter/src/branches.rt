@@ -7,10 +7,10 @@ ghost use Rattle.mich_interpreter.specs.Ends.{Comes, Carries, Spends};
 use crate::act::{Act, Failed};
 use crate::paying::pay;
 use crate::stack::{is_cons, is_left, is_none, open_list, open_option, open_union, pop_truth};
-use crate::state::State;
 use mich_base::Memory;
 use mich_gas::{Costs, Kind};
 use mich_instr::Block;
+use mich_state::State;
 use std::alloc::Global;
 
 pub(crate) fn act_if(

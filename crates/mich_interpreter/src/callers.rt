@@ -9,10 +9,10 @@ use crate::act::View;
 use crate::frame::Frame;
 use crate::machine::Machine;
 use crate::stack::{pop, push};
-use crate::state::State;
 use mich_base::{BLOCK_LIMIT, Boxed, Link, Memory, Rows};
 use mich_instr::Block;
 use mich_ops::Issued;
+use mich_state::State;
 use mich_step::Env;
 use mich_term::Value;
 use mich_tickets::Ledger;
@@ -44,17 +44,15 @@ pub(crate) fn enter(
         return Ok(false);
     }
     let view = view.into_value();
-    let ledger = m.state.ledger.for_view(alloc)?;
-    let mut stack = Rows::new(alloc);
-    stack.push(view.value)?;
+    let outer = m.state.enter(alloc, view.value, view.env)?;
     let caller = Caller {
         block: mem::replace(&mut m.block, view.code),
         at: mem::replace(&mut m.at, 0),
         frames: mem::replace(&mut m.frames, Rows::new(alloc)),
-        env: mem::replace(&mut m.state.env, view.env),
-        ledger: mem::replace(&mut m.state.ledger, ledger),
-        issued: mem::replace(&mut m.state.issued, Rows::new(alloc)),
-        below: mem::replace(&mut m.state.stack, stack),
+        env: outer.env,
+        ledger: outer.ledger,
+        issued: outer.issued,
+        below: outer.below,
     };
     callers.push(caller)?;
     m.depth += 1;

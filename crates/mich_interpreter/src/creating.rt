@@ -18,12 +18,12 @@ use crate::contracts::new_contract;
 use crate::issuing::{count_operation, pop_amount};
 use crate::paying::pay;
 use crate::stack::{pop, push};
-use crate::state::{Counts, State};
 use mich_base::{Bytes, Memory, Rows, Shared};
 use mich_forms::{KeyHash, Place};
 use mich_gas::{Costs, Kind};
 use mich_instr::Script;
 use mich_ops::Issued;
+use mich_state::{Counts, State};
 use mich_term::Value;
 use std::alloc::Global;
 

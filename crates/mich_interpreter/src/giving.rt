@@ -23,12 +23,12 @@ ghost use Rattle.mich_interpreter.specs.Ends.{Comes, ComesLambda, Carries, Carri
 use crate::act::{Act, Failed};
 use crate::paying::{pay, pay_capped};
 use crate::stack::push;
-use crate::state::State;
 use mich_base::{Bytes, Memory, Node, Rows, Shared, Ty, copy_type};
 use mich_data::{ValueError, read_value_with, simple_value};
 use mich_forms::{Address, Entrypoint, Place};
 use mich_gas::{Costs, Kind};
 use mich_instr::{Block, Body, Instr, held_bodies};
+use mich_state::State;
 use mich_term::{Value, weight};
 use rules_data::types::Simple;
 use std::alloc::Global;

@@ -9,7 +9,6 @@ ghost use Rattle.mich_interpreter.specs.Ends.{Comes, Carries, Spends, KeepsAct};
 
 use crate::act::{Act, Failed};
 use crate::paying::pay_capped;
-use crate::state::State;
 use crate::straights::failed;
 use crate::unpacking::act_unpack;
 use mich_base::Memory;
@@ -17,6 +16,7 @@ use mich_check::cache::Bodies;
 use mich_gas::Costs;
 use mich_overload::HashRow;
 use mich_stack::StepError;
+use mich_state::State;
 use mich_step::prices::hash_price;
 use mich_store_steps::hashes::{hash_step, hash_weight};
 use std::alloc::Global;

@@ -9,10 +9,10 @@ use crate::frame::Frame;
 use crate::items::{Items, is_done, items_of, next_item};
 use crate::paying::pay;
 use crate::stack::{pop, push};
-use crate::state::State;
 use mich_base::Memory;
 use mich_gas::{Costs, Kind};
 use mich_instr::Block;
+use mich_state::State;
 use std::alloc::Global;
 
 // ITER's turn for the next item, or its end.

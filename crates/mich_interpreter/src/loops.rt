@@ -9,10 +9,10 @@ use crate::act::{Act, Failed};
 use crate::frame::Frame;
 use crate::paying::pay;
 use crate::stack::{is_left, is_true, open_union, pop_truth};
-use crate::state::State;
 use mich_base::Memory;
 use mich_gas::{Costs, Kind};
 use mich_instr::Block;
+use mich_state::State;
 
 // What comes after a turn of a LOOP.
 #[derive(Drop)]

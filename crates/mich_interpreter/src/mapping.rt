@@ -15,10 +15,10 @@ use crate::items::{backwards, entries_of, pair_of, values_of};
 use crate::made::{Making, OverList, OverTable};
 use crate::paying::pay;
 use crate::stack::{pop, push};
-use crate::state::State;
 use mich_base::{Boxed, Link, Memory, Rows};
 use mich_gas::{Costs, Kind};
 use mich_instr::Block;
+use mich_state::State;
 use mich_term::{Chain, Datum, Table, Value};
 use std::alloc::Global;
 

@@ -19,11 +19,11 @@ ghost use Rattle.mich_interpreter.specs.Ends.{Comes, Carries, Spends};
 use crate::act::{Act, Failed};
 use crate::paying::pay;
 use crate::stack::push;
-use crate::state::State;
 use mich_base::{Bytes, Link, Memory, Rows, Ty};
 use mich_check::cache::Bodies;
 use mich_gas::{Costs, Kind};
 use mich_literals::unpacking::unpack_value;
+use mich_state::State;
 use mich_term::Value;
 use std::alloc::Global;
 

@@ -53,8 +53,8 @@ use Rattle.mich_interpreter.specs.Ends.{KeepsState, failure}
 use Rattle.mich_interpreter.specs.Sees.{Sees}
 use Rattle.mich_interpreter.specs.View.{Beyond, tops, around, tally}
 use Rattle.mich_interpreter.specs.declared.act.Failed.{Failed}
-use Rattle.mich_interpreter.specs.declared.state.Counts.{Counts}
-use Rattle.mich_interpreter.specs.declared.state.State.{State}
+use Rattle.mich_state.specs.declared.state.Counts.{Counts}
+use Rattle.mich_state.specs.declared.state.State.{State}
 use Rattle.mich_stack.specs.Views.{Sight, seen}
 use Rattle.mich_step.specs.Views.{environment}
 use Rattle.mich_step.specs.declared.environment.Env.{Env}

@@ -29,7 +29,7 @@ use Rattle.mich_tickets.specs.Effects.{change}
 use Rattle.mich_world.specs.Standing.{StandsFor}
 use Rattle.mich_world.specs.Storages.{AreStored}
 use Rattle.mich_world.specs.World.{World}
-use Rattle.mich_interpreter.specs.declared.state.Counts.{Counts}
+use Rattle.mich_state.specs.declared.state.Counts.{Counts}
 use Rattle.mich_machine.specs.declared.running.Finished.{Finished}
 use Rattle.mich_machine.specs.declared.running.RunError.{RunError}
 use Rattle.mich_machine.specs.declared.running.RunError.TheVariants.{Failed, Memory}

@@ -23,7 +23,7 @@ use Rattle.mich_world.proofs.preconditions_lemmas.ForCallers.{credits_fit, gifts
 use Rattle.mich_forms.specs.Spelled.{place_bytes}
 use Rattle.mich_forms.specs.declared.places.Place.{Place}
 use Rattle.mich_forms.specs.declared.places.Place.TheVariants as place
-use Rattle.mich_interpreter.specs.declared.state.Counts.{Counts}
+use Rattle.mich_state.specs.declared.state.Counts.{Counts}
 use Rattle.mich_machine.specs.Calls.{counts_of, IsHanded}
 use Rattle.mich_ops.specs.View.{effect as effect_of}
 use Rattle.mich_ops.specs.declared.failure.Failure.TheVariants as failures

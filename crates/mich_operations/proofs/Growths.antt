@@ -20,7 +20,7 @@ use Rattle.mich_bigmap.specs.Stored.{Stored}
 use Rattle.mich_bigmap.specs.Ticketless.{HoldNoTickets}
 use Rattle.mich_forms.specs.declared.places.Place.TheVariants as place
 use Rattle.mich_instr.specs.Scripts.{IsTypedScript}
-use Rattle.mich_interpreter.specs.declared.state.Counts.{Counts}
+use Rattle.mich_state.specs.declared.state.Counts.{Counts}
 use Rattle.mich_machine.specs.Calls.{counts_of, IsHanded, IsHosting}
 use Rattle.mich_ops.specs.View.{effect as effect_of}
 use Rattle.mich_ops.specs.declared.failure.Failure.{Failure as Why}

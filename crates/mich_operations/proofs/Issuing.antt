@@ -30,7 +30,7 @@ use Rattle.mich_instr.specs.declared.instr.Script.{Script}
 use Rattle.mich_ops.specs.declared.issued.Issued.{Issued}
 use Rattle.mich_ops.specs.declared.issued.Issued.TheVariants as i
 use Rattle.mich_machine.specs.Calls.{counts_of}
-use Rattle.mich_interpreter.specs.declared.state.Counts.{Counts}
+use Rattle.mich_state.specs.declared.state.Counts.{Counts}
 use Rattle.mich_world.proofs.simulation_lemmas.ForCallers.{contracts_agree}
 use Rattle.mich_term.specs.Layers.{AreFormed}
 use Rattle.mich_term.specs.ValueView.{val, value_step}

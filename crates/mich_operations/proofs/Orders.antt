@@ -34,7 +34,7 @@ use Rattle.mich_instr.specs.Scripts.{IsTypedScript}
 use Rattle.mich_instr.specs.View.{script_node}
 use Rattle.mich_instr.specs.declared.instr.Script.{Script, out-Script}
 use Rattle.mich_literals.proofs.arguments_lemmas.ForCallers.{storage_read}
-use Rattle.mich_interpreter.specs.declared.state.Counts.{Counts}
+use Rattle.mich_state.specs.declared.state.Counts.{Counts}
 use Rattle.mich_machine.specs.Calls.{counts_of}
 use Rattle.mich_ops.specs.declared.failure.Failure.TheVariants as failures
 use Rattle.mich_world.proofs.simulation_lemmas.ForCallers.{contracts_agree}

@@ -39,7 +39,7 @@ use Rattle.mich_forms.specs.declared.places.Place.TheVariants as place
 use Rattle.mich_gas.specs.View.{listed}
 use Rattle.mich_gas.specs.declared.costs.Costs.{Costs}
 use Rattle.mich_ops.specs.declared.issued.Issued.{Issued}
-use Rattle.mich_interpreter.specs.declared.state.Counts.{Counts}
+use Rattle.mich_state.specs.declared.state.Counts.{Counts}
 use Rattle.mich_machine.specs.Calls.{Calls, counts_of, issued_in, run_of, setting}
 use Rattle.mich_machine.specs.Calls as machine
 use Rattle.mich_machine.specs.declared.running.Finished.{Finished}

@@ -29,7 +29,7 @@ use Rattle.mich_forms.specs.Spelled.{place_bytes}
 use Rattle.laws_data.proofs.forms_lemmas.ForCallers.{place_length}
 use Rattle.mich_forms.specs.declared.places.Place.{Place}
 use Rattle.mich_forms.specs.declared.places.Place.TheVariants as place
-use Rattle.mich_interpreter.specs.declared.state.Counts.{Counts}
+use Rattle.mich_state.specs.declared.state.Counts.{Counts}
 use Rattle.mich_machine.specs.Calls.{counts_of}
 use Rattle.mich_world.proofs.simulation_lemmas.ForCallers.{hash_of, implicit_of}
 use Rattle.mich_term.specs.TicketView.{held}

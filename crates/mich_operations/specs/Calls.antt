@@ -30,7 +30,7 @@ use Rattle.mich_forms.specs.declared.places.Place.{Place}
 use Rattle.mich_forms.specs.declared.places.Place.TheVariants as place
 use Rattle.mich_gas.specs.View.{listed}
 use Rattle.mich_gas.specs.declared.costs.Costs.{Costs}
-use Rattle.mich_interpreter.specs.declared.state.Counts.{Counts as CodeCounts}
+use Rattle.mich_state.specs.declared.state.Counts.{Counts as CodeCounts}
 use Rattle.mich_machine.specs.Calls.{counts_of}
 use Rattle.mich_ops.specs.declared.failure.Failure.TheVariants as failures
 use Rattle.mich_step.specs.Views.{environment}

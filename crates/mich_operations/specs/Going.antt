@@ -18,7 +18,7 @@ use Rattle.mich_gas.specs.View.{listed}
 use Rattle.mich_gas.specs.declared.costs.Costs.{Costs}
 use Rattle.mich_ops.specs.declared.issued.Issued.{Issued}
 use Rattle.mich_machine.specs.Calls.{counts_of, issued_in, IsHanded}
-use Rattle.mich_interpreter.specs.declared.state.Counts.{Counts}
+use Rattle.mich_state.specs.declared.state.Counts.{Counts}
 use Rattle.mich_ops.specs.Told.{told}
 use Rattle.mich_ops.specs.View.{effect, failure}
 use Rattle.mich_ops.specs.declared.receipt.Effect.{Effect as Done}

@@ -9,7 +9,7 @@ use Rattle.rules_world.specs.world.Growth.{Burn, burn_of, burnt_from, growing, p
 use Rattle.rules_world.specs.world.Outcomes.{Outcome}
 use Rattle.rules_world.specs.world.Receipts.{Storage}
 use Rattle.rules_world.specs.world.World.{World as PlainWorld}
-use Rattle.mich_interpreter.specs.declared.state.Counts.{Counts}
+use Rattle.mich_state.specs.declared.state.Counts.{Counts}
 use Rattle.mich_ops.specs.View.{effect}
 use Rattle.mich_ops.specs.declared.failure.Failure.TheVariants as failures
 use Rattle.mich_ops.specs.declared.receipt.Effect.{Effect}

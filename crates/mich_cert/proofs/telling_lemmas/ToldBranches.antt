@@ -17,7 +17,7 @@ use Rattle.mich_instr.specs.Typed.{HasForm}
 use Rattle.mich_control.specs.Answers.{typing, IsAfter}
 use Rattle.mich_control.specs.Begun.{branched, stacks}
 use Rattle.mich_control.specs.View.{branch_form}
-use Rattle.mich_control.specs.declared.error.CheckError.{CheckError}
+use Rattle.mich_typed.specs.declared.error.CheckError.{CheckError}
 use Rattle.mich_control.specs.declared.form.Branch.{Branch}
 use Rattle.mich_control.specs.declared.form.Branch.TheVariants as branch
 use Rattle.mich_control.proofs.Branches.{branch_is, branch_join}

@@ -22,8 +22,8 @@ use Rattle.mich_base.specs.View.{tree, trees}
 use Rattle.mich_instr.specs.Typed.{HasForm}
 use Rattle.mich_control.specs.Answers.{IsFault}
 use Rattle.mich_control.specs.View.{is_view}
-use Rattle.mich_control.specs.declared.error.CheckError.{CheckError}
-use Rattle.mich_control.specs.declared.error.CheckError.TheVariants as error
+use Rattle.mich_typed.specs.declared.error.CheckError.{CheckError}
+use Rattle.mich_typed.specs.declared.error.CheckError.TheVariants as error
 use Rattle.mich_control.proofs.Forms.{formed}
 use Rattle.mich_check.specs.Scripts.{Origin, originated, IsBehind}
 use Rattle.mich_cert.specs.telling.Told.{Adds}

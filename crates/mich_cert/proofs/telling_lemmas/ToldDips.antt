@@ -24,9 +24,9 @@ use Rattle.mich_control.specs.Answers.{typing}
 use Rattle.mich_control.specs.Dips.{counted, IsCount, IsDipped}
 use Rattle.mich_control.specs.declared.dips.Count.{Count}
 use Rattle.mich_control.specs.declared.dips.Count.TheVariants as count
-use Rattle.mich_control.specs.declared.error.CheckError.{CheckError}
-use Rattle.mich_control.specs.declared.made.Body.{Body}
-use Rattle.mich_control.specs.declared.made.Made.{Made}
+use Rattle.mich_typed.specs.declared.error.CheckError.{CheckError}
+use Rattle.mich_typed.specs.declared.made.Body.{Body}
+use Rattle.mich_typed.specs.declared.made.Made.{Made}
 use Rattle.mich_control.proofs.Forms.{formed}
 use Rattle.mich_control.proofs.Read.{read_as}
 use Rattle.mich_control.proofs.Shifts.{unshift, body_at, fault_is}

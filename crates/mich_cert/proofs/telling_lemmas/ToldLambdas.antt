@@ -23,9 +23,9 @@ use Rattle.mich_outline.specs.Answers.{found_from}
 use Rattle.mich_instr.specs.Typed.{HasForm, lambda_form}
 use Rattle.mich_control.specs.Answers.{typing}
 use Rattle.mich_control.specs.Arrows.{arrow, arrow_in, is_allowed, ended, IsLambdaMade}
-use Rattle.mich_control.specs.declared.error.CheckError.{CheckError}
-use Rattle.mich_control.specs.declared.made.Body.{Body}
-use Rattle.mich_control.specs.declared.made.Made.{Made}
+use Rattle.mich_typed.specs.declared.error.CheckError.{CheckError}
+use Rattle.mich_typed.specs.declared.made.Body.{Body}
+use Rattle.mich_typed.specs.declared.made.Made.{Made}
 use Rattle.mich_control.proofs.Forms.{meanings, formed}
 use Rattle.mich_control.proofs.Read.{read_as}
 use Rattle.mich_control.proofs.Shifts.{unshift, body_at, fault_is}

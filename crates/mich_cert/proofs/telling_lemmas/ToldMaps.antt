@@ -20,9 +20,9 @@ use Rattle.mich_instr.specs.Typed.{HasForm}
 use Rattle.mich_control.specs.Answers.{typing}
 use Rattle.mich_control.specs.Maps.{Mapping, mapping, mapped_over, made_to, IsMapped}
 use Rattle.mich_control.specs.Maps as m
-use Rattle.mich_control.specs.declared.error.CheckError.{CheckError}
-use Rattle.mich_control.specs.declared.made.Body.{Body}
-use Rattle.mich_control.specs.declared.made.Made.{Made}
+use Rattle.mich_typed.specs.declared.error.CheckError.{CheckError}
+use Rattle.mich_typed.specs.declared.made.Body.{Body}
+use Rattle.mich_typed.specs.declared.made.Made.{Made}
 use Rattle.mich_control.proofs.Forms.{meanings, formed}
 use Rattle.mich_control.proofs.Shifts.{unshift, body_at, fault_is}
 use Rattle.mich_cert.specs.telling.Told.{Adds}

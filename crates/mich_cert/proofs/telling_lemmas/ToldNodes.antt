@@ -14,7 +14,7 @@ use Rattle.rules_code.specs.certificates.Derivation.{Entry, before, block_entrie
 use Rattle.mich_base.specs.declared.ty.Ty.{Ty}
 use Rattle.mich_control.specs.Answers.{IsAfter}
 use Rattle.mich_control.specs.View.{bodiless_form}
-use Rattle.mich_control.specs.declared.error.CheckError.{CheckError}
+use Rattle.mich_typed.specs.declared.error.CheckError.{CheckError}
 use Rattle.mich_control.specs.declared.form.Bodiless.{Bodiless}
 use Rattle.mich_control.specs.declared.form.Bodiless.TheVariants as bodiless
 use Rattle.mich_control.proofs.Shifts.{fault_is, shift_shift}

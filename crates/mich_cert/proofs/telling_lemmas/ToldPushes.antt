@@ -31,8 +31,8 @@ use Rattle.mich_data.specs.declared.pending.Pending.{Pending as Item}
 use Rattle.mich_instr.specs.Typed.{HasForm}
 use Rattle.mich_outline.proofs.ForCallers.{argument_from}
 use Rattle.mich_control.specs.Answers.{typing, ends_in, inside, IsFault}
-use Rattle.mich_control.specs.declared.error.CheckError.{CheckError}
-use Rattle.mich_control.specs.declared.error.CheckError.TheVariants as error
+use Rattle.mich_typed.specs.declared.error.CheckError.{CheckError}
+use Rattle.mich_typed.specs.declared.error.CheckError.TheVariants as error
 use Rattle.mich_control.proofs.Read.{read_as}
 use Rattle.mich_control.proofs.Shifts.{seq_at}
 use Rattle.mich_cert.specs.telling.Told.{Adds}

@@ -25,8 +25,8 @@ use Rattle.mich_outline.specs.Outlines.{outline_at}
 use Rattle.mich_outline.specs.View.{view_of}
 use Rattle.mich_outline.specs.declared.outline.View.{View as Item}
 use Rattle.mich_outline.proofs.Moves.{script_is}
-use Rattle.mich_control.specs.declared.error.CheckError.{CheckError}
-use Rattle.mich_control.specs.declared.error.CheckError.TheVariants as error
+use Rattle.mich_typed.specs.declared.error.CheckError.{CheckError}
+use Rattle.mich_typed.specs.declared.error.CheckError.TheVariants as error
 use Rattle.mich_control.proofs.Shifts.{body_at}
 use Rattle.mich_check.specs.Scripts.{AreEnds}
 use Rattle.mich_cert.specs.telling.Told.{Adds}

@@ -22,9 +22,9 @@ use Rattle.mich_outline.specs.View.{outline_of}
 use Rattle.mich_outline.specs.declared.outline.Outline.{Outline as CodeOutline}
 use Rattle.mich_outline.specs.declared.outline.View.{View}
 use Rattle.mich_control.specs.Answers.{typing, IsFault, inside}
-use Rattle.mich_control.specs.declared.error.CheckError.{CheckError}
-use Rattle.mich_control.specs.declared.error.CheckError.TheVariants as error
-use Rattle.mich_control.specs.declared.made.Made.{Made}
+use Rattle.mich_typed.specs.declared.error.CheckError.{CheckError}
+use Rattle.mich_typed.specs.declared.error.CheckError.TheVariants as error
+use Rattle.mich_typed.specs.declared.made.Made.{Made}
 use Rattle.mich_data.specs.View.{all_pending}
 use Rattle.mich_data.specs.declared.pending.Pending.{Pending as Item}
 use Rattle.mich_overload.specs.View.{kinds}

@@ -9,8 +9,8 @@ use Rattle.rules_data.specs.values.Val.{Val}
 use Rattle.rules_world.specs.world.Arguments.{literal_in}
 use Rattle.rules_world.specs.world.Targets.{Target, met, missing, search}
 use Rattle.rules_world.specs.world.World.{World as PlainWorld, contract_at}
-use Rattle.mich_control.specs.declared.error.CheckError.{CheckError}
-use Rattle.mich_control.specs.declared.error.CheckError.TheVariants as error
+use Rattle.mich_typed.specs.declared.error.CheckError.{CheckError}
+use Rattle.mich_typed.specs.declared.error.CheckError.TheVariants as error
 use Rattle.mich_data.specs.Whole.{IsWhole}
 use Rattle.mich_instr.specs.Scripts.{IsTypedScript}
 use Rattle.mich_instr.specs.declared.instr.Script.{out-Script}

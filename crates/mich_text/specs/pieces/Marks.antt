@@ -1,5 +1,6 @@
 -- Bytes of a text as they are told apart before they are read: where strings, comments and brackets begin and end.
-use Rattle.std.specs.Prelude.{◌≡◌, ℕ, suc, ◌+◌, ◌-◌, List, [], ◌∷◌, length, Bool, false, ◌&&◌, ◌||◌, ◌==◌, if◌then◌else◌}
+use Rattle.std.specs.Prelude.{ℕ, suc, ◌+◌, ◌-◌, List, [], ◌∷◌, length, Bool, false, not, ◌&&◌, ◌||◌, ◌==◌, if◌then◌else◌}
+use Rattle.std.specs.List.{prefix_len}
 use Rattle.rules_text.specs.text.Lexical.{is_white, opens, closes}
 use Rattle.mich_text.specs.declared.pieces.scan.Mode.{Mode}
 use Rattle.mich_text.specs.declared.pieces.scan.Mode.TheVariants.{Outside, Slash, Line, Block, Text, Escape}
@@ -34,10 +35,21 @@ is_sign Text depth c = false
 is_sign Escape depth c = false
 
 -- outside of strings and comments this byte changes neither, and is no such `;`
-pub record IsPlain (c : ℕ) : Type 0 where
-  pub mode : mode_after Outside c ≡ Outside
-  pub depth : (d : ℕ) → depth_after Outside d c ≡ d
-  pub sign : (d : ℕ) → is_sign Outside d c ≡ false
+abbrev pub is_plain : ℕ → Bool
+is_plain c = not (c == 34 || c == 35 || c == 47 || c == 123 || c == 40 || c == 125 || c == 41 || c == 59)
+
+-- in a string this byte neither ends it nor escapes the next one
+abbrev pub is_inner : ℕ → Bool
+is_inner c = not (c == 34 || c == 92)
+
+-- how many bytes at the front change nothing
+abbrev pub run_of : Mode → List ℕ → ℕ
+run_of Outside text = prefix_len is_plain text
+run_of Slash text = 0
+run_of Line text = 0
+run_of (Block levels previous) text = 0
+run_of Text text = prefix_len is_inner text
+run_of Escape text = 0
 
 -- how many bytes of a statement there are, where with this one its first byte is known, else 0
 abbrev pub started : Mode → ℕ → ℕ

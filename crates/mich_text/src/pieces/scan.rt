@@ -1,7 +1,7 @@
 //! Looking for the `;` that may end a statement, before the statement is read.
-ghost use Rattle.std.specs.Prelude.{◌≡◌, ◌+◌, ◌∷◌, ◌^◌, ◌<◌, ◌≤◌, List, ℕ, length, true, false, IsTrue};
-ghost use Rattle.mich_text.specs.declared.pieces.scan.Mode.TheVariants as Mode;
-ghost use Rattle.mich_text.specs.pieces.Marks.{IsPlain, mode_after, depth_after, is_sign, started, since_after, levels_of};
+ghost use Rattle.std.specs.Prelude.{◌≡◌, ◌+◌, ◌∷◌, ◌^◌, ◌<◌, ◌≤◌, List, ℕ, length, true, false};
+ghost use Rattle.std.specs.List.{prefix_len};
+ghost use Rattle.mich_text.specs.pieces.Marks.{is_plain, is_inner, run_of, mode_after, depth_after, is_sign, started, since_after, levels_of};
 ghost use Rattle.mich_text.specs.pieces.Scans.{ahead, begun, IsBounded, IsScanned};
 
 /// Where in a text a byte stands.
@@ -99,9 +99,44 @@ fn is_sign(mode: Mode, depth: usize, byte: u8) -> bool
 
 // Whether outside of strings and comments a byte changes neither where the next one stands nor how many brackets are open, and is no `;`.
 fn is_plain(byte: u8) -> bool
-    ensures { IsTrue result → IsPlain byte }
+    ensures { result ≡ is_plain byte }
 {
     !matches!(byte, b'"' | b'#' | b'/' | b'{' | b'(' | b'}' | b')' | b';')
+}
+
+// Whether a byte of a string neither ends it nor escapes the next one.
+fn is_inner(byte: u8) -> bool
+    ensures { result ≡ is_inner byte }
+{
+    !matches!(byte, b'"' | b'\\')
+}
+
+#[tactic(auto, using(crate::proofs::tokens::Strings::prefix_laws))]
+fn plain_len(bytes: &[u8]) -> usize
+    ensures is { result ≡ prefix_len is_plain bytes.now }
+    ensures within { result ≤ length bytes.now }
+{
+    bytes.iter().take_while(|byte| is_plain(**byte)).count()
+}
+
+#[tactic(auto, using(crate::proofs::tokens::Strings::prefix_laws))]
+fn inner_len(bytes: &[u8]) -> usize
+    ensures is { result ≡ prefix_len is_inner bytes.now }
+    ensures within { result ≤ length bytes.now }
+{
+    bytes.iter().take_while(|byte| is_inner(**byte)).count()
+}
+
+// How many bytes at the front change nothing of where the next one stands.
+fn run_len(mode: Mode, bytes: &[u8]) -> usize
+    ensures is { result ≡ run_of mode bytes.now }
+    ensures within { result ≤ length bytes.now }
+{
+    match mode {
+        Mode::Outside => plain_len(bytes),
+        Mode::Text => inner_len(bytes),
+        _ => 0,
+    }
 }
 
 /// How many bytes of the statement were seen, where with this one its first byte is known.
@@ -146,21 +181,21 @@ impl Scan {
         }
     }
 
-    // With one more byte, which is plain, behind the statement's first one.
-    fn counted(self) -> Scan
-        requires outside { self.mode ≡ Mode.Outside }
-        requires begun { 0 < self.since }
+    // Goes past the bytes that change nothing, where the statement has begun.
+    fn past_run(self, held: &[u8]) -> Scan
+        requires scanned { IsScanned held.now self }
         requires found { self.found ≡ false }
-        requires bounded { IsBounded self }
-        requires room { self.seen + 2 < 2 ^ 64 }
-        ensures ahead { (byte : ℕ) (rest : List ℕ) → IsPlain byte → ahead self (byte ∷ rest) ≡ ahead result rest }
-        ensures begun { (byte : ℕ) (rest : List ℕ) → begun self (byte ∷ rest) ≡ begun result rest }
-        ensures bounded { IsBounded result }
-        ensures seen { result.seen ≡ self.seen + 1 }
+        ensures scanned { IsScanned held.now result }
+        ensures found { result.found ≡ false }
+        ensures on { self.seen ≤ result.seen }
     {
+        if self.since == 0 {
+            return self;
+        }
+        let count = run_len(self.mode, &held[self.seen..]);
         Scan {
-            since: self.since + 1,
-            seen: self.seen + 1,
+            since: self.since + count,
+            seen: self.seen + count,
             ..self
         }
     }
@@ -174,9 +209,6 @@ impl Scan {
         ensures bounded { IsBounded result }
         ensures seen { result.seen ≡ self.seen + 1 }
     {
-        if self.since > 0 && matches!(self.mode, Mode::Outside) && is_plain(byte) {
-            return self.counted();
-        }
         Scan {
             mode: mode_after(self.mode, byte),
             depth: depth_after(self.mode, self.depth, byte),
@@ -194,7 +226,10 @@ impl Scan {
     {
         let mut scan = self;
         'bytes: while !scan.found && scan.seen < held.len() {
-            scan = scan.after(held[scan.seen]);
+            scan = scan.past_run(held);
+            if scan.seen < held.len() {
+                scan = scan.after(held[scan.seen]);
+            }
         }
         scan
     }

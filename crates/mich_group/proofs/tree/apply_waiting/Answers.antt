@@ -8,7 +8,7 @@ use Rattle.mich_base.specs.Counted.{IsNotEmpty}
 use Rattle.mich_ops.specs.declared.failure.Failure.TheVariants as failures
 use Rattle.mich_group.specs.declared.waiting.Sent.{Sent}
 use Rattle.mich_gas.specs.View.{listed}
-use Rattle.mich_interpreter.specs.declared.state.Counts.{Counts}
+use Rattle.mich_state.specs.declared.state.Counts.{Counts}
 use Rattle.mich_machine.specs.Calls.{counts_of}
 use Rattle.mich_operations.specs.declared.applied.ApplyError.{ApplyError}
 use Rattle.mich_operations.specs.declared.applied.ApplyError.TheVariants as one

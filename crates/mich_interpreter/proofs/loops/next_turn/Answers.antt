@@ -2,7 +2,7 @@ use Rattle.std.proofs.Common.{ap, sym, subst}
 use Rattle.mich_frames.proofs.ForCallers.{turns_top}
 use Rattle.mich_interpreter.specs.Ends.{Stands}
 use Rattle.mich_interpreter.specs.declared.frame.Frame.TheVariants as f
-use Rattle.mich_interpreter.specs.declared.state.State.{State}
+use Rattle.mich_state.specs.declared.state.State.{State}
 use Rattle.mich_interpreter.proofs.Any.{turn_over}
 use Rattle.mich_interpreter.proofs.loops.next_turn.Goals as goal
 

@@ -3,7 +3,7 @@ use Rattle.std.proofs.lemmas.List.{length-append}
 use Rattle.mich_interpreter.specs.Callers.{caller_of, home}
 use Rattle.mich_interpreter.specs.declared.callers.Caller.{Caller}
 use Rattle.mich_interpreter.specs.declared.machine.Machine.{Machine}
-use Rattle.mich_interpreter.specs.declared.state.State.{State}
+use Rattle.mich_state.specs.declared.state.State.{State}
 use Rattle.mich_interpreter.specs.Ends.{KeepsPast}
 use Rattle.mich_interpreter.proofs.Turned.{Kept, done_ends, done_gives, done_keeps, failed_in, failed_past, in_block, kept_back, kept_first, kept_paid, kept_view, view_fails, view_past}
 use Rattle.mich_interpreter.proofs.machine.work.Goals as goal

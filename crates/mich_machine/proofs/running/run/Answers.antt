@@ -3,7 +3,7 @@ use Rattle.mich_base.specs.undo.History.{Keeps as KeepsBooks}
 use Rattle.mich_interpreter.specs.Ends.{KeepsPast, KeepsState}
 use Rattle.mich_interpreter.specs.Runs.{IsEnd, KeepsEnd}
 use Rattle.mich_interpreter.specs.declared.machine.Ended.{Ended}
-use Rattle.mich_interpreter.specs.declared.state.State.{State}
+use Rattle.mich_state.specs.declared.state.State.{State}
 use Rattle.mich_tickets.specs.Books.{fresh, no_books}
 use Rattle.mich_world.proofs.ForCallers.{world_trans, ledger_lent}
 use Rattle.mich_world.specs.Holders.{contract_at}

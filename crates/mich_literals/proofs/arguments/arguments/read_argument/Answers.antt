@@ -1,7 +1,7 @@
 use Rattle.std.proofs.Common.{◌≡◌, map, Some, sym, ap, ◌∙◌, subst}
 use Rattle.std.specs.Prelude.{Err}
 use Rattle.rules_world.specs.world.Arguments.{literal_in}
-use Rattle.mich_control.specs.declared.error.CheckError.{CheckError}
+use Rattle.mich_typed.specs.declared.error.CheckError.{CheckError}
 use Rattle.rules_data.specs.types.Entrypoints.{find_entry}
 use Rattle.mich_base.specs.View.{tree}
 use Rattle.mich_instr.specs.declared.instr.Script.{Script, out-Script}
