@@ -19,7 +19,7 @@ use Rattle.mich_interpreter.specs.declared.act.Act.TheVariants as a
 use Rattle.mich_interpreter.specs.declared.act.Failed.TheVariants as x
 use Rattle.mich_interpreter.specs.declared.machine.Step.{Step}
 use Rattle.mich_interpreter.specs.declared.machine.Step.TheVariants as s
-use Rattle.mich_interpreter.specs.declared.state.State.{State}
+use Rattle.mich_state.specs.declared.state.State.{State}
 use Rattle.mich_interpreter.specs.declared.went.Went.{Went}
 use Rattle.mich_interpreter.specs.declared.went.Went.TheVariants as w
 

@@ -10,12 +10,12 @@ ghost use Rattle.mich_stack.specs.Views.{Sight, values};
 ghost use Rattle.mich_interpreter.specs.Went.{ComesRow, HasGone};
 
 use crate::paying::{pay, pay_capped};
-use crate::state::State;
 use crate::went::{Went, went_by};
 use mich_base::Rows;
 use mich_gas::{Costs, Kind};
 use mich_overload::{LogicRow, NumberRow, PairRow, Simple, StackRow, UnionRow};
 use mich_stack::read_at;
+use mich_state::State;
 use mich_step::burning::pairs;
 use mich_step::prices::{
     logic_price, number_price, number_weight, pair_price, price, union_price, weigh,
