@@ -39,7 +39,7 @@ use Rattle.mich_tickets.specs.Limits.{IsReady}
 use Rattle.mich_tickets.specs.Sums.{minted_of}
 use Rattle.mich_interpreter.specs.View.{Beyond, tops}
 use Rattle.mich_interpreter.specs.Ends.{IsPaid, Meets}
-use Rattle.mich_interpreter.specs.Went.{Goes, IsStepBy, ComesRow, HasGone, went_by}
+use Rattle.mich_interpreter.specs.Went.{Goes, IsStepBy, ComesSo, HasGone, went_by}
 use Rattle.mich_interpreter.specs.declared.act.Act.{Act}
 use Rattle.mich_interpreter.specs.declared.act.Act.TheVariants as a
 use Rattle.mich_interpreter.specs.declared.act.Failed.{Failed}
@@ -94,14 +94,14 @@ module _ (costs : Costs) (m : State) (r : Straight) where
       subst (λ t. IsPaid t (listed costs) (kind_of r) n m.meter meter) e (subst (λ y. IsPaid b (listed costs) y n m.meter meter) k (h n (is x.sight) meets.runs.charged))
 
   -- there wasn't so much gas
-  pub broken : (meter : ℕ) → Pays false meter → HasGone r costs m (record m { meter = meter }) w.OutOfGas
+  pub broken : (meter : ℕ) → Pays false meter → HasGone (made.straight r) costs m (record m { meter = meter }) w.OutOfGas
   broken meter lacks = record {
     acts = λ app x fs d Z o h. row_broke r h (lacks x h);
     less = tt;
     keeps = past_of _ _ (same_keeps m (record m { meter = meter }) refl refl refl);
   }
 
-  module _ (e : in_step r ≡ true) (comes : ComesRow r costs m) (meter : ℕ) (pays : Pays true meter) where
+  module _ (e : in_step r ≡ true) (comes : ComesSo (made.straight r) costs m) (meter : ℕ) (pays : Pays true meter) where
     abbrev here : Beyond
     here = comes.1.0
 
@@ -123,7 +123,7 @@ module _ (costs : Costs) (m : State) (r : Straight) where
 
       -- its step ended so
       pub stepped : (r' : Result (Unit {0}) StepError) → Steps Rule m.stack stack r' → IfOk r' (λ _. TellsShown Rule m.stack m.ledger ledger) →
-          HasGone r costs m new (went_by r')
+          HasGone (made.straight r) costs m new (went_by r')
       stepped (Ok _) ends tells = record {
         acts = λ app x fs d Z o h. let p = pays x h in step_stands x costs m r e h p.0 stack meter ledger (ends x.sight) (tells x.sight (x.shows m.stack)) p.1;
         less = spent;
@@ -152,12 +152,12 @@ module _ (costs : Costs) (m : State) (r : Straight) where
       stepped (Err e.Memory) ends tells = record { acts = λ app x fs d Z o h. tt; less = tt; keeps = tt }
 
       pub steps_gone : (r' : Result (Unit {0}) StepError) (went : Went) → went ≡ went_by r' → Steps Rule m.stack stack r' →
-          IfOk r' (λ _. TellsShown Rule m.stack m.ledger ledger) → HasGone r costs m new went
-      steps_gone r' went is ends tells = subst (HasGone r costs m new) (sym is) (stepped r' ends tells)
+          IfOk r' (λ _. TellsShown Rule m.stack m.ledger ledger) → HasGone (made.straight r) costs m new went
+      steps_gone r' went is ends tells = subst (HasGone (made.straight r) costs m new) (sym is) (stepped r' ends tells)
 
     -- the same of one that burns and mints nothing
     pub keeps_gone : (stack : List Value) (r' : Result (Unit {0}) StepError) (went : Went) → went ≡ went_by r' → Keeps Rule m.stack stack r' →
-        HasGone r costs m (record m { stack = stack; meter = meter }) went
+        HasGone (made.straight r) costs m (record m { stack = stack; meter = meter }) went
     keeps_gone stack r' went is ends =
         steps_gone stack m.ledger (keeps_same m.ledger.books) r' went is (λ big. kept_done (Rule (values big m.stack)) (values big stack) r' (ends big))
         (kept_told (λ big. ShowsTickets big m.stack) (λ big. Rule (values big m.stack)) (λ big. values big stack) r' m.ledger ends)

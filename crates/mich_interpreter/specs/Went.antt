@@ -3,10 +3,9 @@ use Rattle.std.specs.Prelude.{◌≡◌, ℕ, List, Result, Ok, Err, IfOk}
 use Rattle.mich_base.specs.declared.memory.Memory.{Memory}
 use Rattle.rules_text.specs.nodes.Tree.{Tree}
 use Rattle.rules_data.specs.types.Kind.{Kind}
-use Rattle.rules_code.specs.instructions.Straight.{Straight}
 use Rattle.rules_code.specs.evaluation.Outcome.{Outcome}
 use Rattle.mich_gas.specs.declared.costs.Costs.{Costs}
-use Rattle.mich_instr.specs.Code as made
+use Rattle.mich_instr.specs.Code.{Code}
 use Rattle.mich_frames.specs.Frames as fr
 use Rattle.mich_stack.specs.declared.error.StepError.{StepError}
 use Rattle.mich_stack.specs.declared.error.StepError.TheVariants as e
@@ -56,12 +55,12 @@ IsStepBy w.SizeLimit r = IfOk r (λ step. step ≡ s.Failed x.SizeLimit)
 IsStepBy w.Memory r = IfOk r (λ step. ⊥)
 
 -- a state is met, in which this instruction comes first, however it is written
-abbrev pub ComesRow : Straight → Costs → State → Type 0
-ComesRow r costs m = (app : Tree) × Comes (made.straight r app) costs m
+abbrev pub ComesSo : (Tree → Code) → Costs → State → Type 0
+ComesSo i costs m = (written : Tree) × Comes (i written) costs m
 
 -- wherever it comes first, the outcome of the whole stays as it went; there is less gas behind it, and what runs keep is kept
-pub record HasGone (r : Straight) (costs : Costs) (old new : State) (went : Went) : Type 0 where
-  pub acts : (app : Tree) (x : Beyond) (fs : List fr.Frame) (d : ℕ) (Z : List Kind) (o : Outcome) → Meets (made.straight r app) x costs old fs d Z o →
+pub record HasGone (i : Tree → Code) (costs : Costs) (old new : State) (went : Went) : Type 0 where
+  pub acts : (written : Tree) (x : Beyond) (fs : List fr.Frame) (d : ℕ) (Z : List Kind) (o : Outcome) → Meets (i written) x costs old fs d Z o →
       Goes went (λ a. Acts a x costs new fs d Z o)
   pub less : Goes went (λ a. Spends a old.meter new.meter)
   pub keeps : Goes went (λ a. KeepsAct a old new)

@@ -3,11 +3,12 @@ ghost use Rattle.std.specs.Prelude.{◌≡◌, ◌-◌, true, slice_get};
 ghost use Rattle.rules_code.specs.instructions.Straight as i;
 ghost use Rattle.rules_code.specs.instructions.Straight.{on_numbers, on_pairs, on_stack, on_truth, on_unions};
 ghost use Rattle.rules_code.specs.steps.Costs.{weight_found};
-ghost use Rattle.mich_overload.specs.View.{straight, logic_row, number_row, pair_row, union_row};
+ghost use Rattle.mich_instr.specs.Code as made;
+ghost use Rattle.mich_overload.specs.View.{straight, logic_row, number_row, union_row};
 ghost use Rattle.mich_overload.specs.Steps.{in_step};
 ghost use Rattle.mich_term.specs.Weights.{capped};
 ghost use Rattle.mich_stack.specs.Views.{Sight, values};
-ghost use Rattle.mich_interpreter.specs.Went.{ComesRow, HasGone};
+ghost use Rattle.mich_interpreter.specs.Went.{ComesSo, HasGone};
 
 use crate::paying::{pay, pay_capped};
 use crate::went::{Went, went_by};
@@ -16,9 +17,8 @@ use mich_gas::{Costs, Kind};
 use mich_overload::{LogicRow, NumberRow, PairRow, Simple, StackRow, UnionRow};
 use mich_stack::read_at;
 use mich_state::State;
-use mich_step::burning::pairs;
 use mich_step::prices::{
-    logic_price, number_price, number_weight, pair_price, price, union_price, weigh,
+    logic_price, number_price, number_weight, price, union_price, weigh,
 };
 use mich_step::{
     dig, dug, dup_value, logic_step, number_step, pair, step, swap, union_step, unit, unpair,
@@ -27,8 +27,8 @@ use mich_term::{Value, weight};
 use std::alloc::Global;
 
 fn go_numbers(alloc: Global, m: &mut State, costs: &Costs, row: &NumberRow) -> Went
-    requires { ComesRow (on_numbers (number_row row.now)) costs.now m.old }
-    ensures { HasGone (on_numbers (number_row row.now)) costs.now m.old m.new result }
+    requires { ComesSo (made.straight (on_numbers (number_row row.now))) costs.now m.old }
+    ensures { HasGone (made.straight (on_numbers (number_row row.now))) costs.now m.old m.new result }
 {
     let weighed = number_weight(row, &m.stack);
     if !pay_capped(&mut m.meter, costs, number_price(row), weighed) {
@@ -38,8 +38,8 @@ fn go_numbers(alloc: Global, m: &mut State, costs: &Costs, row: &NumberRow) -> W
 }
 
 fn go_logic(m: &mut State, costs: &Costs, row: &LogicRow) -> Went
-    requires { ComesRow (on_truth (logic_row row.now)) costs.now m.old }
-    ensures { HasGone (on_truth (logic_row row.now)) costs.now m.old m.new result }
+    requires { ComesSo (made.straight (on_truth (logic_row row.now))) costs.now m.old }
+    ensures { HasGone (made.straight (on_truth (logic_row row.now))) costs.now m.old m.new result }
 {
     if !pay(&mut m.meter, costs, logic_price(row), 0) {
         return Went::OutOfGas;
@@ -48,8 +48,8 @@ fn go_logic(m: &mut State, costs: &Costs, row: &LogicRow) -> Went
 }
 
 fn go_unions(alloc: Global, m: &mut State, costs: &Costs, row: &UnionRow) -> Went
-    requires { ComesRow (on_unions (union_row row.now)) costs.now m.old }
-    ensures { HasGone (on_unions (union_row row.now)) costs.now m.old m.new result }
+    requires { ComesSo (made.straight (on_unions (union_row row.now))) costs.now m.old }
+    ensures { HasGone (made.straight (on_unions (union_row row.now))) costs.now m.old m.new result }
 {
     if !pay(&mut m.meter, costs, union_price(row), 0) {
         return Went::OutOfGas;
@@ -58,8 +58,8 @@ fn go_unions(alloc: Global, m: &mut State, costs: &Costs, row: &UnionRow) -> Wen
 }
 
 fn go_swap(m: &mut State, costs: &Costs) -> Went
-    requires { ComesRow (on_stack i.swap) costs.now m.old }
-    ensures { HasGone (on_stack i.swap) costs.now m.old m.new result }
+    requires { ComesSo (made.straight (on_stack i.swap)) costs.now m.old }
+    ensures { HasGone (made.straight (on_stack i.swap)) costs.now m.old m.new result }
 {
     if !pay(&mut m.meter, costs, Kind::Swap, 0) {
         return Went::OutOfGas;
@@ -68,8 +68,8 @@ fn go_swap(m: &mut State, costs: &Costs) -> Went
 }
 
 fn go_dig(alloc: Global, m: &mut State, costs: &Costs, depth: u32) -> Went
-    requires { ComesRow (on_stack (i.dig depth)) costs.now m.old }
-    ensures { HasGone (on_stack (i.dig depth)) costs.now m.old m.new result }
+    requires { ComesSo (made.straight (on_stack (i.dig depth))) costs.now m.old }
+    ensures { HasGone (made.straight (on_stack (i.dig depth))) costs.now m.old m.new result }
 {
     if !pay(&mut m.meter, costs, Kind::Dig, 0) {
         return Went::OutOfGas;
@@ -78,8 +78,8 @@ fn go_dig(alloc: Global, m: &mut State, costs: &Costs, depth: u32) -> Went
 }
 
 fn go_dug(alloc: Global, m: &mut State, costs: &Costs, depth: u32) -> Went
-    requires { ComesRow (on_stack (i.dug depth)) costs.now m.old }
-    ensures { HasGone (on_stack (i.dug depth)) costs.now m.old m.new result }
+    requires { ComesSo (made.straight (on_stack (i.dug depth))) costs.now m.old }
+    ensures { HasGone (made.straight (on_stack (i.dug depth))) costs.now m.old m.new result }
 {
     if !pay(&mut m.meter, costs, Kind::Dug, 0) {
         return Went::OutOfGas;
@@ -88,8 +88,8 @@ fn go_dug(alloc: Global, m: &mut State, costs: &Costs, depth: u32) -> Went
 }
 
 fn go_unit(m: &mut State, costs: &Costs) -> Went
-    requires { ComesRow (on_stack i.unit) costs.now m.old }
-    ensures { HasGone (on_stack i.unit) costs.now m.old m.new result }
+    requires { ComesSo (made.straight (on_stack i.unit)) costs.now m.old }
+    ensures { HasGone (made.straight (on_stack i.unit)) costs.now m.old m.new result }
 {
     if !pay(&mut m.meter, costs, Kind::Unit, 0) {
         return Went::OutOfGas;
@@ -109,8 +109,8 @@ fn copied_weight(place: u32, stack: &Rows<Value>) -> u64
 }
 
 fn go_dup(alloc: Global, m: &mut State, costs: &Costs, place: u32) -> Went
-    requires { ComesRow (on_stack (i.dup place)) costs.now m.old }
-    ensures { HasGone (on_stack (i.dup place)) costs.now m.old m.new result }
+    requires { ComesSo (made.straight (on_stack (i.dup place))) costs.now m.old }
+    ensures { HasGone (made.straight (on_stack (i.dup place))) costs.now m.old m.new result }
 {
     let weighed = copied_weight(place, &m.stack);
     if !pay_capped(&mut m.meter, costs, Kind::Dup, weighed) {
@@ -120,8 +120,8 @@ fn go_dup(alloc: Global, m: &mut State, costs: &Costs, place: u32) -> Went
 }
 
 fn go_pair(alloc: Global, m: &mut State, costs: &Costs, count: u32) -> Went
-    requires { ComesRow (on_pairs (i.pair count)) costs.now m.old }
-    ensures { HasGone (on_pairs (i.pair count)) costs.now m.old m.new result }
+    requires { ComesSo (made.straight (on_pairs (i.pair count))) costs.now m.old }
+    ensures { HasGone (made.straight (on_pairs (i.pair count))) costs.now m.old m.new result }
 {
     if !pay(&mut m.meter, costs, Kind::Pair, 0) {
         return Went::OutOfGas;
@@ -130,8 +130,8 @@ fn go_pair(alloc: Global, m: &mut State, costs: &Costs, count: u32) -> Went
 }
 
 fn go_unpair(m: &mut State, costs: &Costs, count: u32) -> Went
-    requires { ComesRow (on_pairs (i.unpair count)) costs.now m.old }
-    ensures { HasGone (on_pairs (i.unpair count)) costs.now m.old m.new result }
+    requires { ComesSo (made.straight (on_pairs (i.unpair count))) costs.now m.old }
+    ensures { HasGone (made.straight (on_pairs (i.unpair count))) costs.now m.old m.new result }
 {
     if !pay(&mut m.meter, costs, Kind::Unpair, 0) {
         return Went::OutOfGas;
@@ -139,22 +139,11 @@ fn go_unpair(m: &mut State, costs: &Costs, count: u32) -> Went
     went_by(unpair(count, &mut m.stack))
 }
 
-// CAR, CDR, GET n and UPDATE n, which may burn tickets.
-fn go_parts(alloc: Global, m: &mut State, costs: &Costs, row: &PairRow) -> Went
-    requires { ComesRow (on_pairs (pair_row row.now)) costs.now m.old }
-    ensures { HasGone (on_pairs (pair_row row.now)) costs.now m.old m.new result }
-{
-    if !pay(&mut m.meter, costs, pair_price(row), 0) {
-        return Went::OutOfGas;
-    }
-    went_by(pairs(alloc, row, &mut m.stack, &mut m.ledger))
-}
-
 // One that asks for nothing but the stack, the tickets and what surrounds the run.
 fn go_other(alloc: Global, m: &mut State, costs: &Costs, instr: &Simple) -> Went
     requires in_step { in_step (straight instr.now) ≡ true }
-    requires comes { ComesRow (straight instr.now) costs.now m.old }
-    ensures { HasGone (straight instr.now) costs.now m.old m.new result }
+    requires comes { ComesSo (made.straight (straight instr.now)) costs.now m.old }
+    ensures { HasGone (made.straight (straight instr.now)) costs.now m.old m.new result }
 {
     let Ok(weighed) = weigh(alloc, instr, &m.stack) else {
         return Went::Memory;
@@ -169,8 +158,8 @@ fn go_other(alloc: Global, m: &mut State, costs: &Costs, instr: &Simple) -> Went
 #[inline(always)]
 pub(crate) fn go_straight(alloc: Global, m: &mut State, costs: &Costs, instr: &Simple) -> Went
     requires in_step { in_step (straight instr.now) ≡ true }
-    requires comes { ComesRow (straight instr.now) costs.now m.old }
-    ensures { HasGone (straight instr.now) costs.now m.old m.new result }
+    requires comes { ComesSo (made.straight (straight instr.now)) costs.now m.old }
+    ensures { HasGone (made.straight (straight instr.now)) costs.now m.old m.new result }
 {
     match instr {
         Simple::Numbers(row) => go_numbers(alloc, m, costs, row),
@@ -183,7 +172,6 @@ pub(crate) fn go_straight(alloc: Global, m: &mut State, costs: &Costs, instr: &S
         Simple::Stack(StackRow::Unit) => go_unit(m, costs),
         Simple::Pairs(PairRow::Pair(count)) => go_pair(alloc, m, costs, *count),
         Simple::Pairs(PairRow::Unpair(count)) => go_unpair(m, costs, *count),
-        Simple::Pairs(row) => go_parts(alloc, m, costs, row),
         _ => go_other(alloc, m, costs, instr),
     }
 }

@@ -1,0 +1,15 @@
+use Rattle.std.proofs.Common.{true, false, refl}
+use Rattle.rules_code.specs.instructions.Straight.{on_pairs}
+use Rattle.rules_code.specs.instructions.Straight as i
+use Rattle.mich_interpreter.proofs.Gone.{broken, fits_paid, keeps_gone, pays_flat}
+use Rattle.mich_interpreter.proofs.direct.go_pair.Goals as goal
+
+pub returns-then-not-pay : goal.returns-then-not-pay
+returns-then-not-pay c = broken c.args.costs.now c.args.m.now (on_pairs (i.pair c.args.count)) _ (pays_flat c.args.costs.now c.args.m.now (on_pairs (i.pair c.args.count)) _ false _ _ c.if-not-pay.true refl (λ V. refl) c.pay.ensures)
+
+pub pair-requires : goal.pair-requires
+pair-requires c = fits_paid c.args.costs.now c.args.m.now (on_pairs (i.pair c.args.count)) refl c.requires _ (pays_flat c.args.costs.now c.args.m.now (on_pairs (i.pair c.args.count)) _ true _ _ c.if-not-pay.false refl (λ V. refl) c.pay.ensures)
+
+pub returns : goal.returns
+returns c = keeps_gone c.args.costs.now c.args.m.now (on_pairs (i.pair c.args.count)) refl c.requires _ (pays_flat c.args.costs.now c.args.m.now (on_pairs (i.pair c.args.count)) _ true _ _ c.if-not-pay.false refl (λ V. refl) c.pay.ensures)
+    _ _ _ c.went_by.ensures c.pair.ensures
