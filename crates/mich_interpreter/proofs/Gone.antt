@@ -1,5 +1,5 @@
 -- Instructions without bodies that are paid for and carried out at once.
-use Rattle.std.proofs.Common.{◌≡◌, ◌≤◌, ◌-◌, ℕ, Bool, true, false, List, Result, Ok, Err, refl, sym, ap, ◌∙◌, subst}
+use Rattle.std.proofs.Common.{◌≡◌, ◌<◌, ℕ, Bool, true, false, List, Result, Ok, Err, refl, sym, ap, ◌∙◌, subst}
 use Rattle.std.specs.Prelude.{IfOk, flat_map}
 use Rattle.mich_base.specs.declared.memory.Memory.{Memory}
 use Rattle.mich_base.specs.undo.History.{Keeps as KeepsBooks}
