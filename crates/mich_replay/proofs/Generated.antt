@@ -18,7 +18,7 @@ use Rattle.mich_replay.specs.Output.{Output}
 use Rattle.mich_replay.specs.Steps.{FollowsIf}
 use Rattle.mich_replay.specs.declared.generating.Counts.{Counts}
 use Rattle.mich_replay.specs.declared.progress.Progress.{Progress}
-use Rattle.mich_replay.specs.declared.stop.Stop.{Stop}
+use Rattle.mich_io.specs.declared.stop.Stop.{Stop}
 use Rattle.mich_replay.proofs.Promise.{Shows, shown}
 
 -- a course that is there follows one of the rules

@@ -39,8 +39,8 @@ use Rattle.mich_replay.specs.Taken.{HasTaken, TakesBoth, TakesFile}
 use Rattle.mich_replay.specs.View.{status_in}
 use Rattle.mich_replay.specs.declared.resuming.Loaded.{Loaded}
 use Rattle.mich_replay.specs.declared.resuming.Loaded.TheVariants as opened
-use Rattle.mich_replay.specs.declared.stop.Stop.{Stop}
-use Rattle.mich_replay.specs.declared.stop.Stop.TheVariants as stop
+use Rattle.mich_io.specs.declared.stop.Stop.{Stop}
+use Rattle.mich_io.specs.declared.stop.Stop.TheVariants as stop
 use Rattle.mich_replay.proofs.Replayed.{comes_behind, ending_own, resumed_of}
 use Rattle.mich_replay.proofs.SoundCourses.{groups_few, nobody_there, sound_course}
 use Rattle.mich_replay.proofs.Taken.{step_taken}

@@ -18,8 +18,8 @@ use Rattle.mich_replay.specs.View.{status_in, whole_seen}
 use Rattle.mich_replay.specs.declared.command.WholeVerb.{WholeVerb}
 use Rattle.mich_replay.specs.declared.command.WholeVerb.TheVariants as wholes
 use Rattle.mich_replay.specs.declared.progress.Progress.{Progress}
-use Rattle.mich_replay.specs.declared.stop.Stop.{Stop}
-use Rattle.mich_replay.specs.declared.stop.Stop.TheVariants as stop
+use Rattle.mich_io.specs.declared.stop.Stop.{Stop}
+use Rattle.mich_io.specs.declared.stop.Stop.TheVariants as stop
 use Rattle.mich_replay.proofs.Closed.{none_first}
 
 -- ---- what grows

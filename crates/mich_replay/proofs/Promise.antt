@@ -1,8 +1,8 @@
 -- What is promised, where the whole text was written, and where a front of it was.
-use Rattle.std.proofs.Common.{◌≡◌, ◌≢◌, ◌≤◌, ℕ, List, IsSome, IfOk, Result, Ok, Err, inl, inr, refl, sym, subst, arith}
+use Rattle.std.proofs.Common.{◌≡◌, ◌≢◌, ◌≤◌, ℕ, List, IsSome, IfOk, IsErrOf, Result, Ok, Err, inl, inr, refl, sym, subst, arith}
 use Rattle.std.specs.declared.option.Option.{Option}
 use Rattle.std.specs.Io.KnownBytes.{IsAtEnd}
-use Rattle.rules_text.specs.streams.Causes.{Rose}
+use Rattle.rules_text.specs.streams.Causes.{HasCause, Rose}
 use Rattle.rules_files.specs.commands.Answers.{Answer}
 use Rattle.rules_files.specs.commands.Commands.{Command, OnFile, Resuming, Generating, NoCommand, AreTold, IsToldBehind, IsOwn, IsTold, IsAnswer, command_of, file_of}
 use Rattle.rules_files.specs.commands.Promise.{Meets}
@@ -11,7 +11,9 @@ use Rattle.rules_files.specs.snapshots.Loading.{LoadFault, loaded}
 use Rattle.rules_files.specs.snapshots.State.{State}
 use Rattle.mich_replay.specs.Coming.{Comes}
 use Rattle.mich_replay.specs.Output.{Output, HandsLines, Writes, WritesFront}
-use Rattle.mich_replay.specs.declared.stop.Stop.{Stop}
+use Rattle.mich_io.specs.declared.stop.Stop.{Stop}
+use Rattle.mich_io.specs.declared.stop.Stop.TheVariants as stop
+use Rattle.mich_io.specs.Status.{status_in}
 use Rattle.mich_replay.proofs.Once.{answers-one}
 use Rattle.mich_replay.proofs.Written.{writes_front}
 
@@ -71,7 +73,7 @@ shown what content a b answer (Err e) exact own p = λ other h. front what conte
 -- ---- what is promised
 
 module _ (words : List (List ℕ)) (content : List ℕ → Option (List ℕ)) (a b : Output) (r0 r1 w0 w1 : ℕ) (left : Option (List ℕ)) where
-  pub meets : (status : ℕ) → Comes (command_of words) content a b (Ok status) → (status ≡ 0 → IsSome (file_of (command_of words)) → IsAtEnd left) → Meets words content r0 r1 w0 w1 left a.written b.written status
+  meets : (status : ℕ) → Comes (command_of words) content a b (Ok status) → (status ≡ 0 → IsSome (file_of (command_of words)) → IsAtEnd left) → Meets words content r0 r1 w0 w1 left a.written b.written status
   meets status (answer, exact, own, is, p) end =
       let same : IsOwn (command_of words) status = subst (IsOwn (command_of words)) (sym is) own in
       let small = own_known (command_of words) status same in
@@ -88,7 +90,7 @@ module _ (words : List (List ℕ)) (content : List ℕ → Option (List ℕ)) (a
       }
 
   -- it was given up, where a count rose or for want of memory
-  pub gives_up : (status : ℕ) (stop : Stop) → 3 ≤ status → status ≤ 5 → (status ≡ 3 → IsSome (file_of (command_of words)) × Rose r0 r1) → (status ≡ 4 → Rose w0 w1) →
+  gives_up : (status : ℕ) (stop : Stop) → 3 ≤ status → status ≤ 5 → (status ≡ 3 → IsSome (file_of (command_of words)) × Rose r0 r1) → (status ≡ 4 → Rose w0 w1) →
       Comes (command_of words) content a b (Err stop) → Meets words content r0 r1 w0 w1 left a.written b.written status
   gives_up status stop low high read write p = record {
     known = high;
@@ -108,17 +110,35 @@ module _ (words : List (List ℕ)) (content : List ℕ → Option (List ℕ)) (a
           let no_write : status ≢ 4 = λ e. still (write e) in
           omega (arith, low, high, no_read, no_write)
 
+  -- the status is that of what it came to
+  pub meets_in : (r : Result ℕ Stop) → Comes (command_of words) content a b r → IfOk r (λ status. status ≡ 0 → IsSome (file_of (command_of words)) → IsAtEnd left) →
+      (IsErrOf r stop.Read → IsSome (file_of (command_of words))) → HasCause stop.Read r0 r1 r → HasCause stop.Write w0 w1 r →
+      Meets words content r0 r1 w0 w1 left a.written b.written (status_in r)
+  meets_in (Ok status) comes end file reads writes = meets status comes end
+  meets_in (Err stop.Read) comes end file reads writes =
+      gives_up 3 stop.Read (omega arith) (omega arith) (λ _. (file refl, reads.failed refl)) (λ e. absurd (omega (arith, e))) comes
+  meets_in (Err stop.Write) comes end file reads writes =
+      gives_up 4 stop.Write (omega arith) (omega arith) (λ e. absurd (omega (arith, e))) (λ _. writes.failed refl) comes
+  meets_in (Err stop.Memory) comes end file reads writes =
+      gives_up 5 stop.Memory (omega arith) (omega arith) (λ e. absurd (omega (arith, e))) (λ e. absurd (omega (arith, e))) comes
+
 -- ---- the lines that are handed over
 
 module _ (words : List (List ℕ)) (content : List ℕ → Option (List ℕ)) (a b : Output) where
-  pub hands : (status : ℕ) → Comes (command_of words) content a b (Ok status) → HandsLines words content a.handed b.handed status
+  hands : (status : ℕ) → Comes (command_of words) content a b (Ok status) → HandsLines words content a.handed b.handed status
   hands status (answer, exact, own, is, p) = record {
     whole = λ t _. (answer, exact t, is, p.pieces);
     front = λ other h. (front (command_of words) content a b answer exact other h (writes_front a b answer.lines p)).pieces;
   }
 
-  pub hands_front : (status : ℕ) (stop : Stop) → 3 ≤ status → Comes (command_of words) content a b (Err stop) → HandsLines words content a.handed b.handed status
+  hands_front : (status : ℕ) (stop : Stop) → 3 ≤ status → Comes (command_of words) content a b (Err stop) → HandsLines words content a.handed b.handed status
   hands_front status stop low p = record { whole = λ t small. absurd (omega (arith, low, small)); front = λ answer h. (p answer h).pieces }
+
+  pub hands_in : (r : Result ℕ Stop) → Comes (command_of words) content a b r → HandsLines words content a.handed b.handed (status_in r)
+  hands_in (Ok status) comes = hands status comes
+  hands_in (Err stop.Read) comes = hands_front 3 stop.Read (omega arith) comes
+  hands_in (Err stop.Write) comes = hands_front 4 stop.Write (omega arith) comes
+  hands_in (Err stop.Memory) comes = hands_front 5 stop.Memory (omega arith) comes
 
 -- what holds, holds of each status
 pub whatever : (Q : Type 0) (r : Result ℕ Stop) → Q → IfOk r (λ status. status ≡ 0 → Q)

@@ -4,7 +4,7 @@ use Rattle.rules_files.specs.commands.Lines.{refusal_line, file_fault_name}
 use Rattle.rules_files.specs.commands.Replay.{FileFault, RefusedAt}
 use Rattle.mich_replay.specs.Coming.{Closes}
 use Rattle.mich_replay.specs.Output.{Output, RefusesWith, Writes, WritesFront}
-use Rattle.mich_replay.specs.declared.stop.Stop.{Stop}
+use Rattle.mich_io.specs.declared.stop.Stop.{Stop}
 
 -- a file is refused so
 pub refusal_closes : (a b : Output) (name : List ℕ) (fault : FileFault) (at : ℕ) (r : Result ℕ Stop) → name ≡ file_fault_name fault → RefusesWith (refusal_line name at) a b r →

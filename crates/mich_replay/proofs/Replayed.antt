@@ -14,7 +14,7 @@ use Rattle.mich_replay.specs.Coming.{Closes, Comes, ComesTo, Cut, EndsAs, IsRefu
 use Rattle.mich_replay.specs.Output.{Output, Writes, WritesFront}
 use Rattle.mich_replay.specs.Pace.{groups_in}
 use Rattle.mich_replay.specs.declared.progress.Progress.{Progress}
-use Rattle.mich_replay.specs.declared.stop.Stop.{Stop}
+use Rattle.mich_io.specs.declared.stop.Stop.{Stop}
 use Rattle.mich_replay.proofs.Begins.{begins}
 use Rattle.mich_replay.proofs.Once.{comes-one}
 use Rattle.mich_replay.proofs.Written.{front_then, lines-more, longer, writes_then}

@@ -10,8 +10,8 @@ use Rattle.rules_files.specs.course.Course.{Course as PlainCourse}
 use Rattle.mich_replay.specs.Pace.{TakesInStep, WritesAsItReads, piece_limit}
 use Rattle.mich_replay.specs.Taken.{HasTaken, TakesFile}
 use Rattle.mich_replay.specs.View.{status_in}
-use Rattle.mich_replay.specs.declared.stop.Stop.{Stop}
-use Rattle.mich_replay.specs.declared.stop.Stop.TheVariants as stop
+use Rattle.mich_io.specs.declared.stop.Stop.{Stop}
+use Rattle.mich_io.specs.declared.stop.Stop.TheVariants as stop
 use Rattle.mich_replay.proofs.Pace.{not_started}
 
 -- ---- files

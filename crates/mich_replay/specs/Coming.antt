@@ -25,8 +25,8 @@ use Rattle.mich_replay.specs.declared.replaying.Pause.TheVariants as pause
 use Rattle.mich_replay.specs.declared.session.Session.{Session}
 use Rattle.mich_replay.specs.declared.steps.Event.{Event}
 use Rattle.mich_replay.specs.declared.steps.Event.TheVariants as event
-use Rattle.mich_replay.specs.declared.stop.Stop.{Stop}
-use Rattle.mich_replay.specs.declared.stop.Stop.TheVariants as stop
+use Rattle.mich_io.specs.declared.stop.Stop.{Stop}
+use Rattle.mich_io.specs.declared.stop.Stop.TheVariants as stop
 
 -- ---- files that go on from a course, or from none
 

@@ -16,7 +16,7 @@ use Rattle.mich_replay.specs.declared.generating.Counting.TheVariants as countin
 use Rattle.mich_replay.specs.declared.progress.Progress.{Progress}
 use Rattle.mich_replay.specs.declared.session.Session.{Session}
 use Rattle.mich_replay.specs.declared.steps.Event.{Event}
-use Rattle.mich_replay.specs.declared.stop.Stop.{Stop}
+use Rattle.mich_io.specs.declared.stop.Stop.{Stop}
 
 -- what is told of a group whose one content was applied, or failed
 abbrev pub told_applied : ToldReceipt → Bool

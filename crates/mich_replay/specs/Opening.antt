@@ -12,7 +12,7 @@ use Rattle.mich_replay.specs.Output.{Output, RefusesWith}
 use Rattle.mich_replay.specs.Pace.{WritesBehind}
 use Rattle.mich_replay.specs.declared.resuming.Loaded.{Loaded}
 use Rattle.mich_replay.specs.declared.resuming.Loaded.TheVariants as opened
-use Rattle.mich_replay.specs.declared.stop.Stop.{Stop}
+use Rattle.mich_io.specs.declared.stop.Stop.{Stop}
 
 -- a course of the rules from which a file can go on as from this one
 abbrev pub GoesOnAs : Course → PlainCourse → Type 0

@@ -7,7 +7,7 @@ use Rattle.rules_files.specs.commands.Answers.{Answer}
 use Rattle.rules_files.specs.commands.Commands.{IsAnswer, IsTold, command_of}
 use Rattle.rules_files.specs.commands.Lines.{text_of}
 use Rattle.mich_io.specs.Handed.{HandsAll, HandsFront}
-use Rattle.mich_replay.specs.declared.stop.Stop.{Stop}
+use Rattle.mich_io.specs.declared.stop.Stop.{Stop}
 
 -- all that was written to it, and the pieces that it was handed
 pub record Output : Type 0 where

@@ -1,5 +1,6 @@
 -- What the code's values stand for.
-use Rattle.std.specs.Prelude.{ℕ, ◌≤◌, Result, Ok, Err}
+use Rattle.std.specs.Prelude.{ℕ, ◌≤◌}
+pub use Rattle.mich_io.specs.Status.{status_in}
 use Rattle.rules_files.specs.commands.Replay as replay
 use Rattle.rules_files.specs.commands.Commands as commands
 use Rattle.mich_replay.specs.declared.command.Verb.{Verb}
@@ -10,8 +11,6 @@ use Rattle.mich_replay.specs.declared.command.Command.{Command}
 use Rattle.mich_replay.specs.declared.command.Command.TheVariants as words
 use Rattle.mich_replay.specs.declared.outcome.FileFault.{FileFault}
 use Rattle.mich_replay.specs.declared.outcome.FileFault.TheVariants as files
-use Rattle.mich_replay.specs.declared.stop.Stop.{Stop}
-use Rattle.mich_replay.specs.declared.stop.Stop.TheVariants as stop
 
 abbrev pub whole_seen : WholeVerb → commands.Verb
 whole_seen wholes.Check = commands.Checking
@@ -47,10 +46,3 @@ file_fault_seen files.BadOrder = replay.BadOrder
 file_fault_seen files.BadCosts = replay.BadCosts
 file_fault_seen files.RepeatedAccount = replay.RepeatedAccount
 file_fault_seen files.SupplyLimit = replay.SupplyLimit
-
--- the status of a command that was done, or given up
-abbrev pub status_in : Result ℕ Stop → ℕ
-status_in (Ok status) = status
-status_in (Err stop.Read) = 3
-status_in (Err stop.Write) = 4
-status_in (Err stop.Memory) = 5

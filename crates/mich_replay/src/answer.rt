@@ -15,13 +15,12 @@ ghost use Rattle.mich_replay.specs.View.{status_in, whole_seen};
 use crate::command::WholeVerb;
 use crate::lines::usage_line;
 use crate::reading::read_file;
-use crate::stop::Stop;
 use crate::writing::{write_line, write_lines};
 use mich_answers::{
     Answer, NodeCommand, ScriptCommand, answer_audit, answer_node, answer_script, answer_verify,
 };
 use mich_base::Memory;
-use mich_io::{Files, Sink};
+use mich_io::{Files, Sink, Stop};
 use std::alloc::Global;
 
 /// Writes the usage, for words that are no command.

@@ -8,10 +8,8 @@ ghost use Rattle.rules_world.specs.world.Receipts.{Receipt};
 ghost use Rattle.mich_replay.specs.Coming.{CameTo, Feeds};
 ghost use Rattle.mich_replay.specs.Pace.{piece_limit};
 
-use crate::reading::read;
 use crate::session::Session;
-use crate::stop::Stop;
-use mich_io::Files;
+use mich_io::{Files, Stop, read};
 
 /// Reads the next piece of a file and feeds it, and says how many bytes it has: none only at the end of the file.
 pub(crate) fn feed_piece<F: Files>(session: &mut Session, files: &mut F) -> Result<usize, Stop>

@@ -13,12 +13,11 @@ ghost use Rattle.mich_replay.specs.Steps.{Tells};
 
 use crate::session::Session;
 use crate::steps::Event;
-use crate::stop::Stop;
 use crate::writing::write_line;
 use mich_base::Memory;
 use mich_generate::scenario;
 use mich_group::course::Course;
-use mich_io::Sink;
+use mich_io::{Sink, Stop};
 use mich_ops::{GroupReceipt, Status};
 use mich_report::summary_text;
 use std::alloc::Global;

@@ -16,7 +16,6 @@ mod resuming;
 mod session;
 mod snapshotting;
 mod steps;
-mod stop;
 mod top;
 mod writing;
 

@@ -17,14 +17,12 @@ use crate::feeding::feed_piece;
 use crate::lines::file_fault_name;
 use crate::outcome::FileFault;
 use crate::progress::Progress;
-use crate::reading::start;
 use crate::session::Session;
 use crate::steps::Event;
-use crate::stop::Stop;
 use crate::writing::{write_group, write_line, write_lines};
 use mich_answers::refusal_line;
 use mich_group::course::Course;
-use mich_io::{Files, Sink};
+use mich_io::{Files, Sink, Stop, start};
 use mich_report::state_lines;
 use std::alloc::Global;
 

@@ -14,13 +14,12 @@ ghost use Rattle.mich_replay.specs.Opening.{GoesOnAs, IsOpened, IsOpenedFrom, Pa
 ghost use Rattle.mich_replay.specs.Taken.{HasTaken, TakesBoth};
 ghost use Rattle.mich_replay.specs.View.{status_in};
 
-use crate::reading::{read_file, start};
+use crate::reading::read_file;
 use crate::replaying::{refuse_as, replay_on};
 use crate::session::Session;
-use crate::stop::Stop;
 use mich_base::Memory;
 use mich_group::course::Course;
-use mich_io::{Files, Sink};
+use mich_io::{Files, Sink, Stop, start};
 use mich_snapshot::{LoadError, State, load};
 use std::alloc::Global;
 

@@ -23,15 +23,13 @@ use crate::feeding::feed_piece;
 use crate::lines::file_fault_name;
 use crate::outcome::FileFault;
 use crate::progress::Progress;
-use crate::reading::start;
 use crate::replaying::Pause;
 use crate::session::Session;
 use crate::steps::Event;
-use crate::stop::Stop;
 use crate::writing::write_lines;
 use mich_answers::{Answer, done, refused};
 use mich_base::{Bytes, Memory, Text};
-use mich_io::{Files, Sink};
+use mich_io::{Files, Sink, Stop, start};
 use mich_snapshot::{SaveError, State, save};
 use std::alloc::Global;
 

@@ -17,9 +17,8 @@ use crate::generating::generate;
 use crate::replaying::replay_file;
 use crate::resuming::resume;
 use crate::snapshotting::snapshot_file;
-use crate::stop::Stop;
 use mich_base::Texts;
-use mich_io::{Files, Sink};
+use mich_io::{Files, Sink, Stop, status_of};
 use std::alloc::Global;
 
 // Does what a command with a file asks for, and answers the status.
@@ -99,10 +98,5 @@ pub fn mich<F: Files, K: Sink>(alloc: Global, words: &Texts, files: &mut F, out:
     ensures counts { NoneFalls (F.faults files.old) (F.faults files.new) (K.faults out.old) (K.faults out.new) }
     ensures untouched { file_of (command_of words.now) ≡ None → files.new ≡ files.old }
 {
-    match answer_words(alloc, words, files, out) {
-        Ok(status) => status,
-        Err(Stop::Read) => 3,
-        Err(Stop::Write) => 4,
-        Err(Stop::Memory) => 5,
-    }
+    status_of(answer_words(alloc, words, files, out))
 }

@@ -8,10 +8,9 @@ ghost use Rattle.mich_replay.specs.Output.{Writes, WritesFront, output};
 ghost use Rattle.mich_replay.specs.Steps.{Tells, groups_of};
 
 use crate::steps::last_number;
-use crate::stop::Stop;
 use mich_base::Texts;
 use mich_group::course::Course;
-use mich_io::{Sink, SinkFault, write_all};
+use mich_io::{Sink, SinkFault, Stop, write_all};
 use mich_ops::GroupReceipt;
 use mich_report::receipt_text;
 use std::alloc::Global;

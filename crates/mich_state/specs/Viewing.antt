@@ -4,7 +4,7 @@ use Rattle.mich_step.specs.declared.environment.Env.{Env}
 use Rattle.mich_term.specs.declared.value.Value.{Value}
 use Rattle.mich_tickets.specs.Books.{fresh}
 use Rattle.mich_tickets.specs.Viewed.{viewed_books}
-use Rattle.mich_state.specs.declared.state.Outer.{Outer}
+use Rattle.mich_state.specs.declared.viewing.Outer.{Outer}
 use Rattle.mich_state.specs.declared.state.State.{State}
 
 -- a view runs on a stack, in an environment and with a ledger of its own, on the meter and with the counts of its caller

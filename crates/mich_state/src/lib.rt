@@ -2,5 +2,7 @@
 #![tactic(auto)]
 
 mod state;
+mod viewing;
 
-pub use state::{Counts, Outer, State};
+pub use state::{Counts, State};
+pub use viewing::Outer;

@@ -1,5 +1,6 @@
 // Why a command was given up.
 ghost use Rattle.std.specs.Prelude.{◌≡◌};
+ghost use Rattle.mich_io.specs.Status.{status_in};
 
 use mich_base::Memory;
 use std::alloc::AllocError;
@@ -16,7 +17,7 @@ pub enum Stop {
 }
 
 impl From<Memory> for Stop {
-    ghost use Rattle.mich_replay.specs.declared.stop.Stop.{Stop};
+    ghost use Rattle.mich_io.specs.declared.stop.Stop.{Stop};
 
     ghost from_gives = { λ _ e. e ≡ Stop.Memory };
 
@@ -27,12 +28,24 @@ impl From<Memory> for Stop {
 }
 
 impl From<AllocError> for Stop {
-    ghost use Rattle.mich_replay.specs.declared.stop.Stop.{Stop};
+    ghost use Rattle.mich_io.specs.declared.stop.Stop.{Stop};
 
     ghost from_gives = { λ _ e. e ≡ Stop.Memory };
 
     fn from(error: AllocError) -> Stop {
         drop(error);
         Stop::Memory
+    }
+}
+
+/// The status of a command that was done, or given up: 3 after a read fault, 4 after a write fault, 5 for want of memory.
+pub fn status_of(done: Result<u8, Stop>) -> u8
+    ensures { result ≡ status_in done }
+{
+    match done {
+        Ok(status) => status,
+        Err(Stop::Read) => 3,
+        Err(Stop::Write) => 4,
+        Err(Stop::Memory) => 5,
     }
 }
