@@ -4,7 +4,7 @@ ghost use Rattle.rules_code.specs.instructions.Straight as i;
 ghost use Rattle.rules_code.specs.instructions.Straight.{on_numbers, on_pairs, on_stack, on_truth, on_unions};
 ghost use Rattle.rules_code.specs.steps.Costs.{weight_found};
 ghost use Rattle.mich_instr.specs.Code as made;
-ghost use Rattle.mich_overload.specs.View.{straight, logic_row, number_row, union_row};
+ghost use Rattle.mich_overload.specs.View.{straight, logic_row, number_row, pair_row, stack_row, union_row};
 ghost use Rattle.mich_overload.specs.Steps.{in_step};
 ghost use Rattle.mich_term.specs.Weights.{capped};
 ghost use Rattle.mich_stack.specs.Views.{Sight, values};
@@ -154,7 +154,53 @@ fn go_other(alloc: Global, m: &mut State, costs: &Costs, instr: &Simple) -> Went
     went_by(step(alloc, instr, &mut m.stack, &mut m.ledger, &m.env))
 }
 
-// The same, where one match knows kind, weight and effect of the most frequent ones.
+// One on the order of the stack; what is no frequent one goes the way of all.
+#[inline(always)]
+fn go_stack(
+    alloc: Global,
+    m: &mut State,
+    costs: &Costs,
+    row: &StackRow,
+    instr: &Simple,
+) -> Went
+    requires is { straight instr.now ≡ on_stack (stack_row row.now) }
+    requires in_step { in_step (straight instr.now) ≡ true }
+    requires comes { ComesSo (made.straight (straight instr.now)) costs.now m.old }
+    ensures { HasGone (made.straight (straight instr.now)) costs.now m.old m.new result }
+{
+    match row {
+        StackRow::Dup(place) => go_dup(alloc, m, costs, *place),
+        StackRow::Swap => go_swap(m, costs),
+        StackRow::Dig(depth) => go_dig(alloc, m, costs, *depth),
+        StackRow::Dug(depth) => go_dug(alloc, m, costs, *depth),
+        StackRow::Unit => go_unit(m, costs),
+        _ => go_other(alloc, m, costs, instr),
+    }
+}
+
+// One on pairs; what is no frequent one goes the way of all.
+#[inline(always)]
+fn go_pairs(
+    alloc: Global,
+    m: &mut State,
+    costs: &Costs,
+    row: &PairRow,
+    instr: &Simple,
+) -> Went
+    requires is { straight instr.now ≡ on_pairs (pair_row row.now) }
+    requires in_step { in_step (straight instr.now) ≡ true }
+    requires comes { ComesSo (made.straight (straight instr.now)) costs.now m.old }
+    ensures { HasGone (made.straight (straight instr.now)) costs.now m.old m.new result }
+{
+    match row {
+        PairRow::Pair(count) => go_pair(alloc, m, costs, *count),
+        PairRow::Unpair(count) => go_unpair(m, costs, *count),
+        _ => go_other(alloc, m, costs, instr),
+    }
+}
+
+// One that asks for nothing but the stack, the tickets and what surrounds the run, where one match knows kind, weight and effect of the
+// most frequent ones.
 #[inline(always)]
 pub(crate) fn go_straight(alloc: Global, m: &mut State, costs: &Costs, instr: &Simple) -> Went
     requires in_step { in_step (straight instr.now) ≡ true }
@@ -165,13 +211,8 @@ pub(crate) fn go_straight(alloc: Global, m: &mut State, costs: &Costs, instr: &S
         Simple::Numbers(row) => go_numbers(alloc, m, costs, row),
         Simple::Logic(row) => go_logic(m, costs, row),
         Simple::Unions(row) => go_unions(alloc, m, costs, row),
-        Simple::Stack(StackRow::Dup(place)) => go_dup(alloc, m, costs, *place),
-        Simple::Stack(StackRow::Swap) => go_swap(m, costs),
-        Simple::Stack(StackRow::Dig(depth)) => go_dig(alloc, m, costs, *depth),
-        Simple::Stack(StackRow::Dug(depth)) => go_dug(alloc, m, costs, *depth),
-        Simple::Stack(StackRow::Unit) => go_unit(m, costs),
-        Simple::Pairs(PairRow::Pair(count)) => go_pair(alloc, m, costs, *count),
-        Simple::Pairs(PairRow::Unpair(count)) => go_unpair(m, costs, *count),
+        Simple::Stack(row) => go_stack(alloc, m, costs, row, instr),
+        Simple::Pairs(row) => go_pairs(alloc, m, costs, row, instr),
         _ => go_other(alloc, m, costs, instr),
     }
 }
