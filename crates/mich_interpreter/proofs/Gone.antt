@@ -48,7 +48,6 @@ use Rattle.mich_interpreter.specs.declared.machine.Step.TheVariants as step
 use Rattle.mich_state.specs.declared.state.State.{State}
 use Rattle.mich_interpreter.specs.declared.went.Went.{Went}
 use Rattle.mich_interpreter.specs.declared.went.Went.TheVariants as w
-use Rattle.mich_interpreter.proofs.Capped.{paid_is, broke_is}
 use Rattle.mich_interpreter.proofs.Keeping.{same_keeps, past_of}
 use Rattle.mich_interpreter.proofs.Paid.{paid_less}
 use Rattle.mich_interpreter.proofs.Straightened.{step_fits, step_stands, step_failed}

@@ -1,15 +1,18 @@
 use Rattle.std.proofs.Common.{◌≡◌, ◌+◌, ◌∷◌, ◌++◌, drop, Some, None, sym, ap, ◌∙◌, refl}
 use Rattle.std.specs.List.{slice_get}
+use Rattle.mich_base.specs.View.{app_tree}
 use Rattle.mich_instr.specs.Code as made
 use Rattle.mich_instr.specs.View.{code, codes}
 use Rattle.mich_frames.specs.Frames as fr
 use Rattle.mich_frames.proofs.ForCallers.{seq_opens}
 use Rattle.mich_interpreter.specs.View.{frames}
-use Rattle.mich_interpreter.specs.Runs.{HasActedIn}
+use Rattle.mich_interpreter.specs.Ends.{Acts, KeepsAct, Spends}
+use Rattle.mich_interpreter.specs.Runs.{HasActedIn, IsSpent, IsStep, KeepsStep}
 use Rattle.mich_interpreter.specs.declared.act.Act.TheVariants as a
 use Rattle.mich_interpreter.specs.declared.machine.Machine.{Machine}
 use Rattle.mich_interpreter.proofs.Begun.{opens_inside, deep_inside}
-use Rattle.mich_interpreter.proofs.Codes.{code_seq}
+use Rattle.mich_interpreter.proofs.Codes.{code_seq, code_straight}
+use Rattle.mich_interpreter.proofs.Gone.{step_says}
 use Rattle.mich_interpreter.proofs.Keeping.{keeps_state, keeps_to, past_of}
 use Rattle.mich_interpreter.proofs.Left.{meets_at}
 use Rattle.mich_interpreter.proofs.Listed.{code_at}
@@ -77,3 +80,42 @@ returns-then-begun-clause-keeps c = keeps_to _ _ _ (keeps_state c.args.m.now.sta
 
 pub returns-else-begun-clause-keeps : goal.returns-else-begun-clause-keeps
 returns-else-begun-clause-keeps c = past_of _ _ (keeps_to _ _ _ (keeps_state c.args.m.now.state) c.begin_inside.ensures.state)
+
+pub go_straight-went-requires : goal.go_straight-went-requires
+go_straight-went-requires c =
+    let m = c.args.m.now in
+    let e : slice_get c.args.m.now.block c.args.m.now.at ≡ Some c.at-instr.result.now = ap (λ b. slice_get b c.args.m.now.at) (sym c.get.ensures) ∙ c.at-instr.ensures in
+    let r = c.requires.stands in
+    let s = c.in-Straight in
+    record {
+      in_step = sym c.in_step.ensures ∙ c.if-in_step.true;
+      comes = (
+        app_tree s.field-1,
+        (
+          r.0,
+          fr.rest (codes (drop (c.args.m.now.at + 1) c.args.m.now.block)) ∷ frames r.0.sight c.args.m.now.frames ++ r.1,
+          c.args.m.now.depth,
+          r.2,
+          r.3,
+          rw (ap code s.is ∙ code_straight s.simple s.field-1) at (meets_at r.0 c.args.costs.now r.1 r.2 r.3 c.args.m.now r.4 c.at-instr.result.now c.requires.within e),
+        ),
+      );
+    }
+
+pub returns-then-in_step : goal.returns-then-in_step
+returns-then-in_step c =
+    let m : Machine = c.args.m.now in
+    let went = c.go_straight-went.ensures in
+    let new : Machine = record c.args.m.now { state = c.go_straight-went.new.m; at = c.args.m.now.at + 1 } in
+    let e : slice_get c.args.m.now.block c.args.m.now.at ≡ Some c.at-instr.result.now = ap (λ b. slice_get b c.args.m.now.at) (sym c.get.ensures) ∙ c.at-instr.ensures in
+    let s = c.in-Straight in
+    record {
+      stays = λ x gs Z o h sees.
+        let left = fr.rest (codes (drop (c.args.m.now.at + 1) c.args.m.now.block)) ∷ frames x.sight c.args.m.now.frames ++ gs in
+        step_says c.go_straight-went.result c.step_by.result (λ a. Acts a x c.args.costs.now c.go_straight-went.new.m left c.args.m.now.depth Z o)
+        (λ step. IsStep step x c.args.costs.now new gs Z o) (λ h. h) (λ why h. h) c.step_by.ensures
+        (went.acts (app_tree s.field-1) x left c.args.m.now.depth Z o
+          (rw (ap code s.is ∙ code_straight s.simple s.field-1) at (meets_at x c.args.costs.now gs Z o c.args.m.now h c.at-instr.result.now c.requires.within e)));
+      spent = step_says c.go_straight-went.result c.step_by.result (λ a. Spends a c.args.m.now.state.meter c.go_straight-went.new.m.meter) (λ step. IsSpent step m new) (λ h. h) (λ why h. tt) c.step_by.ensures went.less;
+      keeps = step_says c.go_straight-went.result c.step_by.result (λ a. KeepsAct a c.args.m.now.state c.go_straight-went.new.m) (λ step. KeepsStep step m.state new.state) (λ h. h) (λ why h. h) c.step_by.ensures went.keeps;
+    }
