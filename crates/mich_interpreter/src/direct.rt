@@ -17,9 +17,7 @@ use mich_gas::{Costs, Kind};
 use mich_overload::{LogicRow, NumberRow, PairRow, Simple, StackRow, UnionRow};
 use mich_stack::read_at;
 use mich_state::State;
-use mich_step::prices::{
-    logic_price, number_price, number_weight, price, union_price, weigh,
-};
+use mich_step::prices::{logic_price, number_price, number_weight, price, union_price, weigh};
 use mich_step::{
     dig, dug, dup_value, logic_step, number_step, pair, step, swap, union_step, unit, unpair,
 };
@@ -156,13 +154,7 @@ fn go_other(alloc: Global, m: &mut State, costs: &Costs, instr: &Simple) -> Went
 
 // One on the order of the stack; what is no frequent one goes the way of all.
 #[inline(always)]
-fn go_stack(
-    alloc: Global,
-    m: &mut State,
-    costs: &Costs,
-    row: &StackRow,
-    instr: &Simple,
-) -> Went
+fn go_stack(alloc: Global, m: &mut State, costs: &Costs, row: &StackRow, instr: &Simple) -> Went
     requires is { straight instr.now ≡ on_stack (stack_row row.now) }
     requires in_step { in_step (straight instr.now) ≡ true }
     requires comes { ComesSo (made.straight (straight instr.now)) costs.now m.old }
@@ -180,13 +172,7 @@ fn go_stack(
 
 // One on pairs; what is no frequent one goes the way of all.
 #[inline(always)]
-fn go_pairs(
-    alloc: Global,
-    m: &mut State,
-    costs: &Costs,
-    row: &PairRow,
-    instr: &Simple,
-) -> Went
+fn go_pairs(alloc: Global, m: &mut State, costs: &Costs, row: &PairRow, instr: &Simple) -> Went
     requires is { straight instr.now ≡ on_pairs (pair_row row.now) }
     requires in_step { in_step (straight instr.now) ≡ true }
     requires comes { ComesSo (made.straight (straight instr.now)) costs.now m.old }

@@ -111,10 +111,10 @@ returns-then-in_step c =
     let s = c.in-Straight in
     record {
       stays = λ x gs Z o h sees.
-        let left = fr.rest (codes (drop (c.args.m.now.at + 1) c.args.m.now.block)) ∷ frames x.sight c.args.m.now.frames ++ gs in
-        step_says c.go_straight-went.result c.step_by.result (λ a. Acts a x c.args.costs.now c.go_straight-went.new.m left c.args.m.now.depth Z o)
-        (λ step. IsStep step x c.args.costs.now new gs Z o) (λ h. h) (λ why h. h) c.step_by.ensures
-        (went.acts (app_tree s.field-1) x left c.args.m.now.depth Z o
+          let left = fr.rest (codes (drop (c.args.m.now.at + 1) c.args.m.now.block)) ∷ frames x.sight c.args.m.now.frames ++ gs in
+          step_says c.go_straight-went.result c.step_by.result (λ a. Acts a x c.args.costs.now c.go_straight-went.new.m left c.args.m.now.depth Z o)
+          (λ step. IsStep step x c.args.costs.now new gs Z o) (λ h. h) (λ why h. h) c.step_by.ensures
+          (went.acts (app_tree s.field-1) x left c.args.m.now.depth Z o
           (rw (ap code s.is ∙ code_straight s.simple s.field-1) at (meets_at x c.args.costs.now gs Z o c.args.m.now h c.at-instr.result.now c.requires.within e)));
       spent = step_says c.go_straight-went.result c.step_by.result (λ a. Spends a c.args.m.now.state.meter c.go_straight-went.new.m.meter) (λ step. IsSpent step m new) (λ h. h) (λ why h. tt) c.step_by.ensures went.less;
       keeps = step_says c.go_straight-went.result c.step_by.result (λ a. KeepsAct a c.args.m.now.state c.go_straight-went.new.m) (λ step. KeepsStep step m.state new.state) (λ h. h) (λ why h. h) c.step_by.ensures went.keeps;
