@@ -1,17 +1,20 @@
 -- How an instruction without bodies went.
-use Rattle.std.specs.Prelude.{◌≡◌, ℕ, List, Result, Ok, Err, IfOk}
+use Rattle.std.specs.Prelude.{◌≡◌, ◌<◌, ℕ, List, Option, Some, None, Result, Ok, Err, IfOk}
 use Rattle.mich_base.specs.declared.memory.Memory.{Memory}
 use Rattle.rules_text.specs.nodes.Tree.{Tree}
 use Rattle.rules_data.specs.types.Kind.{Kind}
-use Rattle.rules_code.specs.evaluation.Outcome.{Outcome}
+use Rattle.rules_code.specs.evaluation.Outcome.{Outcome, failed}
+use Rattle.rules_code.specs.steps.Failure as g
 use Rattle.mich_gas.specs.declared.costs.Costs.{Costs}
-use Rattle.mich_instr.specs.Code.{Code}
+use Rattle.mich_instr.specs.Code as made
+use Rattle.mich_instr.specs.Code.{Code, Codes}
 use Rattle.mich_frames.specs.Frames as fr
+use Rattle.mich_frames.specs.Stands.{OpensAt}
 use Rattle.mich_stack.specs.declared.error.StepError.{StepError}
 use Rattle.mich_stack.specs.declared.error.StepError.TheVariants as e
 use Rattle.mich_stack.specs.declared.error.StepFailure.{StepFailure}
 use Rattle.mich_stack.specs.declared.error.StepFailure.TheVariants as f
-use Rattle.mich_interpreter.specs.View.{Beyond}
+use Rattle.mich_interpreter.specs.View.{Beyond, tops, around, tally}
 use Rattle.mich_interpreter.specs.Ends.{Comes, Meets, Acts, Spends, KeepsAct}
 use Rattle.mich_interpreter.specs.declared.act.Act.{Act}
 use Rattle.mich_interpreter.specs.declared.act.Act.TheVariants as a
@@ -64,3 +67,11 @@ pub record HasGone (i : Tree → Code) (costs : Costs) (old new : State) (went :
       Goes went (λ a. Acts a x costs new fs d Z o)
   pub less : Goes went (λ a. Spends a old.meter new.meter)
   pub keeps : Goes went (λ a. KeepsAct a old new)
+
+-- the branch of an IF between these opens, after it was paid for; or there isn't so much gas
+abbrev pub OpensBranch : Codes → Codes → Costs → State → State → Option Codes → Type 0
+OpensBranch is js costs old new (Some body) =
+    ((x : Beyond) (fs : List fr.Frame) (d : ℕ) (Z : List Kind) (o : Outcome) → Meets (made.if_bool is js) x costs old fs d Z o →
+    OpensAt body fs (around x costs new) (tops x.sight new.stack) (tally x new) d Z o) × (new.meter < old.meter)
+OpensBranch is js costs old new None =
+    (x : Beyond) (fs : List fr.Frame) (d : ℕ) (Z : List Kind) (o : Outcome) → Meets (made.if_bool is js) x costs old fs d Z o → o ≡ failed g.out_of_gas

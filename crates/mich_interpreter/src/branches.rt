@@ -1,7 +1,8 @@
 // Branches.
-ghost use Rattle.std.specs.Prelude.{◌≡◌, IfOk};
+ghost use Rattle.std.specs.Prelude.{◌≡◌, IfOk, option_map};
 ghost use Rattle.mich_instr.specs.Code as made;
 ghost use Rattle.mich_instr.specs.View.{codes};
+ghost use Rattle.mich_interpreter.specs.Went.{OpensBranch};
 ghost use Rattle.mich_interpreter.specs.Ends.{Comes, Carries, Spends};
 
 use crate::act::{Act, Failed};
@@ -12,6 +13,30 @@ use mich_gas::{Costs, Kind};
 use mich_instr::Block;
 use mich_state::State;
 use std::alloc::Global;
+
+// The branch that an IF opens, which is paid for. None where there isn't so much gas.
+#[inline(always)]
+pub(crate) fn paid_branch<'a>(
+    m: &mut State,
+    costs: &Costs,
+    first: &'a Block,
+    second: &'a Block,
+) -> Option<&'a Block>
+    requires { Comes (made.if_bool (codes first.now) (codes second.now)) costs.now m.old }
+    ensures opens { OpensBranch (codes first.now) (codes second.now) costs.now m.old m.new (option_map (λ b. codes b.now) result) }
+    ensures ledger { m.new.ledger ≡ m.old.ledger }
+    ensures counts { m.new.counts ≡ m.old.counts }
+    ensures issued { m.new.issued ≡ m.old.issued }
+{
+    if !pay(&mut m.meter, costs, Kind::If, 0) {
+        return None;
+    }
+    if pop_truth(&mut m.stack) {
+        Some(first)
+    } else {
+        Some(second)
+    }
+}
 
 pub(crate) fn act_if(
     m: &mut State,
@@ -26,15 +51,12 @@ pub(crate) fn act_if(
     ensures counts { m.new.counts ≡ m.old.counts }
     ensures issued { m.new.issued ≡ m.old.issued }
 {
-    if !pay(&mut m.meter, costs, Kind::If, 0) {
-        return Ok(Act::Failed(Failed::OutOfGas));
-    }
-    if pop_truth(&mut m.stack) {
-        let body = first.share()?;
-        Ok(Act::Open(None, body))
-    } else {
-        let body = second.share()?;
-        Ok(Act::Open(None, body))
+    match paid_branch(m, costs, first, second) {
+        Some(branch) => {
+            let body = branch.share()?;
+            Ok(Act::Open(None, body))
+        }
+        None => Ok(Act::Failed(Failed::OutOfGas)),
     }
 }
 

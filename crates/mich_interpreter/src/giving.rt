@@ -143,27 +143,81 @@ fn literal_value(
     held_literal(alloc, ty, literal, lambdas)
 }
 
-pub(crate) fn act_push(
+// The number that a literal of a type of numbers is.
+#[inline(always)]
+fn number_literal(ty: &Ty, literal: &Node) -> Option<i128>
+    requires { (at : ℕ) → is_some (value_of (read (kind ty.now) at (tree literal.now))) ≡ true }
+    ensures { IfSome result (λ n. (at : ℕ) → value_of (read (kind ty.now) at (tree literal.now)) ≡ Some (number n)) }
+{
+    match (ty, literal) {
+        (Ty::Int | Ty::Nat | Ty::Mutez | Ty::Timestamp, Node::Int(n)) => Some(*n),
+        _ => None,
+    }
+}
+
+// The value that a literal has, of this weight, is paid for and put on top.
+#[inline(always)]
+fn go_value(
+    m: &mut State,
+    costs: &Costs,
+    _ty: &Ty,
+    _literal: &Node,
+    _lambdas: &Rows<Instr>,
+    value: Value,
+    weighed: u64,
+) -> Went
+    requires comes { ComesSo (λ written. made.push (kind _ty.now) written (tree _literal.now) (codes _lambdas.now)) costs.now m.old }
+    requires value { (big : Sight) (at : ℕ) → value_of (read (kind _ty.now) at (tree _literal.now)) ≡ Some (seen big value) }
+    requires weighed { (big : Sight) → weighed ≡ capped (whole (seen big value)) }
+    ensures { HasGone (λ written. made.push (kind _ty.now) written (tree _literal.now) (codes _lambdas.now)) costs.now m.old m.new result }
+{
+    if !pay_capped(&mut m.meter, costs, Kind::Push, weighed) {
+        return Went::OutOfGas;
+    }
+    match push(&mut m.stack, value) {
+        Ok(()) => Went::On,
+        Err(_) => Went::Memory,
+    }
+}
+
+// PUSH of any literal.
+fn go_literal(
     alloc: Global,
     m: &mut State,
     costs: &Costs,
     ty: &Ty,
     literal: &Node,
     lambdas: &Rows<Instr>,
-) -> Result<Act, Memory>
-    requires { (written : Tree) × Comes (made.push (kind ty.now) written (tree literal.now) (codes lambdas.now)) costs.now m.old }
-    ensures acts { (written : Tree) → Carries (made.push (kind ty.now) written (tree literal.now) (codes lambdas.now)) costs.now m.old m.new result }
-    ensures less { IfOk result (λ a. Spends a m.old.meter m.new.meter) }
-    ensures ledger { m.new.ledger ≡ m.old.ledger }
-    ensures counts { m.new.counts ≡ m.old.counts }
-    ensures issued { m.new.issued ≡ m.old.issued }
+) -> Went
+    requires { ComesSo (λ written. made.push (kind ty.now) written (tree literal.now) (codes lambdas.now)) costs.now m.old }
+    ensures { HasGone (λ written. made.push (kind ty.now) written (tree literal.now) (codes lambdas.now)) costs.now m.old m.new result }
 {
-    let value = literal_value(alloc, ty, literal, lambdas)?;
-    if !pay_capped(&mut m.meter, costs, Kind::Push, weight(&value)) {
-        return Ok(Act::Failed(Failed::OutOfGas));
+    match literal_value(alloc, ty, literal, lambdas) {
+        Ok(value) => {
+            let weighed = weight(&value);
+            go_value(m, costs, ty, literal, lambdas, value, weighed)
+        }
+        Err(_) => Went::Memory,
     }
-    push(&mut m.stack, value)?;
-    Ok(Act::On)
+}
+
+// PUSH, where a number is taken as it is written.
+#[inline(always)]
+pub(crate) fn go_push(
+    alloc: Global,
+    m: &mut State,
+    costs: &Costs,
+    ty: &Ty,
+    literal: &Node,
+    lambdas: &Rows<Instr>,
+) -> Went
+    requires { ComesSo (λ written. made.push (kind ty.now) written (tree literal.now) (codes lambdas.now)) costs.now m.old }
+    ensures { HasGone (λ written. made.push (kind ty.now) written (tree literal.now) (codes lambdas.now)) costs.now m.old m.new result }
+{
+    match number_literal(ty, literal) {
+        Some(n) => go_value(m, costs, ty, literal, lambdas, Value::Number(n), 1),
+        None => go_literal(alloc, m, costs, ty, literal, lambdas),
+    }
 }
 
 // The lambda of a body with its typed code, in constant time.
